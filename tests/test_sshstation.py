@@ -22,7 +22,7 @@ FINGERPRINT = "SHA256:SQfC+vTbLURn9cTkVxIS8fGQ3FKNAJWeB0o139+gV4M"
 MOST = 2 ** 64 - 1
 
 HELP = """\
-Decides which SSH certificates a CA's key may sign
+Decides which SSH certificates and revocation lists a CA's key may sign, and records what it approves
 
 Usage: sshstation <COMMAND>
 
@@ -170,7 +170,7 @@ def put(room, **files):
     (["help"], HELP),
     (["judge", "--help"], HELP_OF_JUDGE),
     (["list", "--help"], HELP_OF_LIST),
-    (["--version"], "sshstation 1.0.0 (rattle-kit-13b)\n"),
+    (["--version"], "sshstation 1.0.0 (rattle-kit-13f)\n"),
 ])
 def test_a_wish_for_a_text_is_answered(sshstation, room, words, wanted):
     assert (0, wanted, "") == Guard(sshstation).run(*words)

@@ -1,4 +1,4 @@
--- How long a file of exchanges is, and what the first bytes of a longer one tell.
+-- The length of a file of exchanges, and what the first bytes of a longer file show.
 use Rattle.std.proofs.Common.{◌≡◌, ℕ, ◌+◌, ◌-◌, ◌*◌, ◌<◌, ◌≤◌, List, [], ◌∷◌, ◌++◌, length, take, drop, sym, ap, subst, ◌∙◌, refl, zero, suc, arith, inl, inr, append_assoc, length-append}
 use Rattle.std.specs.Fmt.{decimal}
 use Rattle.std.specs.List.{AllByRecursion}
@@ -14,7 +14,7 @@ use Rattle.exchanges.specs.Exchanges.{AreExchanges, IsBadRecord, IsExchange, Tel
 
 -- ---- lengths
 
--- a record has at most 101 bytes and those of its request
+-- a record is at most 101 bytes longer than its request
 record_length : (e : Exchange) → IsExchange e → length (exchange_text e) ≤ 65637
 record_length e is =
     let last : List ℕ = 10 ∷ e.request in
@@ -42,13 +42,13 @@ records_length (e ∷ es) are =
     let others = records_length es are.1 in
     omega (arith, first, others, length-append (exchange_text e) (exchanges_text es))
 
--- no file of exchanges is longer
+-- no exchange file is longer than MAX_FILE
 file_length : (es : List Exchange) → AreExchanges es → length (exchanges_text es) ≤ MAX_FILE
 file_length es are = omega (arith, records_length es are.each, are.count)
 
 -- ---- the first bytes
 
--- a text that two lists begin with, where the first has so many bytes
+-- if a list has at least as many bytes as t, and with another list after it begins with t, then it begins with t
 begins : (a b t rest : List ℕ) → a ++ b ≡ t ++ rest → length t ≤ length a → (c : List ℕ) × (a ≡ t ++ c)
 begins a b t rest same short =
     let front : take (length t) a ≡ t =
@@ -69,11 +69,11 @@ none_taken (suc n) (b ∷ t) some none = absurd (cc none)
 abbrev first : List ℕ → List ℕ
 first file = take (MAX_FILE + 1) file
 
--- the first bytes of a file that is no longer are all
+-- if a file is no longer than that, its first bytes are all of it
 all : (file : List ℕ) → length file ≤ MAX_FILE + 1 → first file ≡ file
 all file short = take_all (MAX_FILE + 1) file short
 
--- the first bytes of a longer file
+-- the number of first bytes of a longer file
 all_first : (file : List ℕ) → MAX_FILE + 1 ≤ length file → length (first file) ≡ MAX_FILE + 1
 all_first file long = length-take-le (MAX_FILE + 1) file long
 
@@ -86,7 +86,7 @@ is_file file es are same = elim (cases_lt (length file) (MAX_FILE + 1)) [
 is_first : (file : List ℕ) (es : List Exchange) → AreExchanges es → file ≡ exchanges_text es → first file ≡ exchanges_text es
 is_first file es are same = all file (omega (arith, file_length es are, ap length same)) ∙ same
 
--- a bad record of the first bytes is one of the file
+-- a bad record of the first bytes is a bad record of the file
 bad_of_file : (file : List ℕ) (k : ℕ) → IsBadRecord (first file) k → IsBadRecord file k
 bad_of_file file k bad = elim (cases_lt (length file) (MAX_FILE + 1)) [
   | inl short ↦ subst (λ (f : List ℕ). IsBadRecord f k) (all file (omega (arith, short))) bad
@@ -116,7 +116,7 @@ bad_of_file file k bad = elim (cases_lt (length file) (MAX_FILE + 1)) [
       }
 ]
 
--- a bad record of the file is one of the first bytes
+-- a bad record of the file is a bad record of the first bytes
 bad_of_first : (file : List ℕ) (k : ℕ) → IsBadRecord file k → IsBadRecord (first file) k
 bad_of_first file k bad =
     let before : List ℕ = exchanges_text bad.before in

@@ -1,4 +1,4 @@
--- Records one after the other: a file is read in one way.
+-- Records in succession: a file has at most one reading.
 use Rattle.std.proofs.Common.{◌≡◌, ◌≢◌, ℕ, ◌+◌, ◌<◌, ◌≤◌, List, [], ◌∷◌, ◌++◌, length, Some, None, refl, sym, ap, ◌∙◌, arith, append_assoc, length-append}
 use Rattle.std.specs.List.{AllByRecursion}
 use Rattle.std.proofs.lemmas.Grind.{flat_map-append}
@@ -13,22 +13,22 @@ use Rattle.exchanges.proofs.Records.{exchange_at-found, exchange_at-text}
 abbrev Left : Type 0
 Left = Exchange × List ℕ
 
--- some bytes
+-- at least one byte
 abbrev IsMore : List ℕ → Type 0
 IsMore rest = 0 < length rest
 
--- fs is es and more exchanges, of which the rest is the text
+-- fs is es and then more exchanges, whose text is the rest
 record Goes (es fs : List Exchange) (rest : List ℕ) : Type 0 where
   more : List Exchange
   all : fs ≡ es ++ more
   text : rest ≡ exchanges_text more
   are : AllByRecursion IsExchange more
 
--- a record's text has bytes
+-- a record's text isn't empty
 not_empty : (e : Exchange) (t : List ℕ) → exchange_text e ++ t ≡ [] → ⊥
 not_empty e t same = cc same
 
--- the records that a file begins with are the first of those that it holds
+-- if a file is the text of exchanges, the records at its beginning are the first of these
 goes_on : (es fs : List Exchange) (rest : List ℕ) → AllByRecursion IsExchange es → AllByRecursion IsExchange fs
     → exchanges_text es ++ rest ≡ exchanges_text fs → Goes es fs rest
 goes_on [] fs rest are_es are_fs same = record { more = fs; all = refl; text = same; are = are_fs }
@@ -52,12 +52,12 @@ goes_on (e ∷ es) (f ∷ fs) rest are_es are_fs same =
       are = next.are;
     }
 
--- where bytes are left, an exchange more is there
+-- if bytes are left, at least one more exchange follows
 one_there : (more : List Exchange) (rest : List ℕ) → rest ≡ exchanges_text more → IsMore rest → 0 < length more
 one_there [] rest text some = absurd (omega (arith, ap length text))
 one_there (e ∷ more) rest text some = omega arith
 
--- where bytes are left behind the most records, the file is no text of exchanges
+-- if bytes are left after the greatest number of records, the file isn't the text of exchanges
 pub too_many : (file rest : List ℕ) (es fs : List Exchange) → AreExchanges es → file ≡ exchanges_text es ++ rest
     → IsMore rest → MAX_EXCHANGES < length es + 1 → AreExchanges fs → file ≡ exchanges_text fs → ⊥
 too_many file rest es fs are text some many whole at =
@@ -65,7 +65,7 @@ too_many file rest es fs are text some many whole at =
     let there = one_there on.more rest on.text some in
     omega (arith, ap length on.all, length-append es on.more, whole.count)
 
--- a record that can't be read is none
+-- bytes that can't be read as a record don't begin with one
 unread : (rest : List ℕ) (e : Exchange) (after : List ℕ) → exchange_at rest ≡ None → IsExchange e → rest ≢ exchange_text e ++ after
 unread rest e after none is same = cc (sym none ∙ ap exchange_at same ∙ exchange_at-text e after is)
 
@@ -74,7 +74,7 @@ first_unread : (more : List Exchange) (rest : List ℕ) → AllByRecursion IsExc
 first_unread [] rest are text some none = omega (arith, ap length text)
 first_unread (e ∷ more) rest are text some none = unread rest e (exchanges_text more) none are.0 text
 
--- where no record begins, the file is no text of exchanges
+-- if bytes are left and don't begin with a record, the file isn't the text of exchanges
 pub no_record : (file rest : List ℕ) (es fs : List Exchange) → AreExchanges es → file ≡ exchanges_text es ++ rest
     → IsMore rest → exchange_at rest ≡ None → AreExchanges fs → file ≡ exchanges_text fs → ⊥
 no_record file rest es fs are text some none whole at =
@@ -94,7 +94,7 @@ bad_record file rest es are text some none = record {
   first = λ within e after is. unread rest e after (none within) is;
 }
 
--- where nothing is left, the exchanges are those of the file
+-- if nothing is left, the exchanges are those of the file
 pub whole_file : (file rest : List ℕ) (es fs : List Exchange) → AreExchanges es → file ≡ exchanges_text es ++ rest
     → length rest ≡ 0 → AreExchanges fs → file ≡ exchanges_text fs → es ≡ fs
 whole_file file rest es fs are text none whole at =
@@ -116,12 +116,12 @@ each_and : (es : List Exchange) (e : Exchange) → AllByRecursion IsExchange es 
 each_and [] e are is = (is, tt)
 each_and (x ∷ es) e are is = (are.0, each_and es e are.1 is)
 
--- what stands behind one record more
+-- the exchanges so far, with one more, and the bytes after them
 pub record Longer (file : List ℕ) (es : List Exchange) (left : List ℕ) : Type 0 where
   pub are : AreExchanges es
   pub text : file ≡ exchanges_text es ++ left
 
--- a record that is read is one more
+-- a record that was read is one more
 pub one_more : (file rest left : List ℕ) (es : List Exchange) (e : Exchange) → AreExchanges es → file ≡ exchanges_text es ++ rest
     → length es + 1 ≤ MAX_EXCHANGES → exchange_at rest ≡ Some (e, left) → Longer file (es ++ e ∷ []) left
 one_more file rest left es e are text within read =
@@ -138,7 +138,7 @@ one_more file rest left es e are text within read =
           ∙ ap (λ (x : List ℕ). x ++ left) (sym joined);
     }
 
--- less is left behind a record
+-- fewer bytes are left after a record
 pub less_left : (rest left : List ℕ) (e : Exchange) → exchange_at rest ≡ Some (e, left) → length left < length rest
 less_left rest left e read =
     let found = exchange_at-found rest (e, left) read in

@@ -1,4 +1,4 @@
--- A record is read from its text, and what is read as a record is its text.
+-- The text of a record is read as that record, and what is read as a record is its text.
 use Rattle.std.proofs.Common.{◌≡◌, ℕ, ◌*◌, ◌<◌, ◌≤◌, ◌^◌, List, ◌∷◌, ◌++◌, length, take, drop, codes, Bool, eqb, Option, Some, None, refl, sym, ap, subst, ◌∙◌, arith, inl, inr, append_assoc, length-append, ◌&&◌, leb}
 use Rattle.std.specs.Prelude.{IfSome, Result, Ok, Err, option_map}
 use Rattle.std.specs.Fmt.{decimal}
@@ -25,7 +25,7 @@ use Rattle.exchanges.specs.Reading.{after, cut_of, exchange_at, if_lower, nonce_
 abbrev Cut : Type 0
 Cut = List ℕ × List ℕ
 
--- ---- what follows some bytes
+-- ---- bytes after a prefix
 
 after_found : (head t rest : List ℕ) → after head t ≡ Some rest → t ≡ head ++ rest
 after_found head t rest e =
@@ -40,7 +40,7 @@ after_found head t rest e =
 
 -- ---- texts cut at a byte
 
--- where a byte is found, the text is what stands before it, the byte and what follows
+-- if the byte occurs, the text is the bytes before it, the byte, and the bytes after it
 split_there : (byte : ℕ) (t : List ℕ) → length (before_first (λ b. eqb b byte) t) < length t
     → t ≡ before_first (λ b. eqb b byte) t ++ byte ∷ after_first (λ b. eqb b byte) t
 split_there byte t short =
@@ -81,7 +81,7 @@ cut_again byte word rest lacks =
 
 -- ---- numbers
 
--- a number that is read is written so, and fits 64 bits
+-- the text of a number that was read is its decimal digits, and the number fits in 64 bits
 number_is : (t : List ℕ) (n : ℕ) → number_of t ≡ Some n → (t ≡ decimal n) × (n < 2 ^ 64)
 number_is t n e = (
   subst (λ (r : Option ℕ). IfSome r (λ m. t ≡ decimal m)) e (number_found t (number_of t) refl),
@@ -153,7 +153,7 @@ nonce_again n size fits =
     (ap result_ok (decode_sized-encode_lower n 32 size fits))
     (cond-true (bytes_eq (encode_lower n) (encode_lower n)) (Some n) None ((bytes_eq-Decides (encode_lower n) (encode_lower n)).1 refl))
 
--- a nonce's digits have no space
+-- a nonce's digits contain no space
 digits_lack : (n : List ℕ) → IsBytes n → Lacks 32 (encode_lower n)
 digits_lack n fits =
     let digits = (decode_of-ok (encode_lower n) n (decode_of-encode_lower n fits)).1 in
@@ -188,19 +188,19 @@ request_again request rest small =
 
 -- ---- records
 
--- what stands behind the first word of a record, and behind the record
+-- what follows the first word of a record, up to the end of the text
 abbrev words_before : Exchange → List ℕ → List ℕ
 words_before e rest =
     decimal e.moment ++ 32 ∷ (encode_lower e.nonce ++ 32 ∷ (decimal (length e.request) ++ 10 ∷ (e.request ++ rest)))
 
--- a record's text and what stands behind it, word by word
+-- a record's text and the bytes after it, split into words
 regrouped : (e : Exchange) (rest : List ℕ) → exchange_text e ++ rest ≡ codes "exchange " ++ words_before e rest
 regrouped e rest = simp append_assoc
 
 abbrev Left : Type 0
 Left = Exchange × List ℕ
 
--- the steps of reading a record, each by what was read before it
+-- the steps of reading a record, each given what was read before it
 abbrev with_request : ℕ → List ℕ → Cut → Option Left
 with_request moment nonce request = Some (record { request = request.0; moment = moment; nonce = nonce }, request.1)
 
@@ -236,11 +236,11 @@ read_words_before e rest is =
     (step (request_in (length e.request) (e.request ++ rest)) (e.request, rest) (with_request e.moment e.nonce) _
     (request_again e.request rest is.size) refl)))))
 
--- What stands behind a record's text is left.
+-- Reading a record's text leaves the bytes after it.
 pub exchange_at-text : (e : Exchange) (rest : List ℕ) → IsExchange e → exchange_at (exchange_text e ++ rest) ≡ Some (e, rest)
 exchange_at-text e rest is = ap exchange_at (regrouped e rest) ∙ read_words_before e rest is
 
--- What is read is a lawful exchange, and its text stands there.
+-- An exchange that was read is valid, and the text begins with its record.
 pub exchange_at-found : (t : List ℕ) (p : Left) → exchange_at t ≡ Some p → (t ≡ exchange_text p.0 ++ p.1) × IsExchange p.0
 unfolding exchange_at
 exchange_at-found t p e =

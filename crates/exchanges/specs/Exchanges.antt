@@ -1,5 +1,5 @@
--- Exchange files: records one after the other until the end, each a line `exchange MOMENT NONCE LENGTH` and LENGTH
--- bytes of a request.
+-- Exchange files. A file is a sequence of records up to its end, each a line `exchange MOMENT NONCE LENGTH` and then
+-- LENGTH bytes of a request.
 use Rattle.std.specs.Prelude.{◌≡◌, ◌≢◌, ◌↔◌, ℕ, ◌+◌, ◌^◌, ◌<◌, ◌≤◌, List, [], ◌∷◌, ◌++◌, length, codes}
 use Rattle.std.specs.Fmt.{decimal}
 use Rattle.std.specs.List.{AllByRecursion, flat_map}
@@ -14,7 +14,7 @@ exchange_text e =
     codes "exchange "
     ++ (decimal e.moment ++ 32 ∷ (encode_lower e.nonce ++ 32 ∷ (decimal (length e.request) ++ 10 ∷ e.request)))
 
--- records one after the other
+-- a sequence of records
 abbrev pub exchanges_text : List Exchange → List ℕ
 exchanges_text es = flat_map exchange_text es
 
@@ -30,7 +30,7 @@ pub record AreExchanges (es : List Exchange) : Type 0 where
   pub each : AllByRecursion IsExchange es
   pub count : length es ≤ 10000
 
--- Behind k - 1 records something stands, and k is over the limit or no record begins there.
+-- Bytes are left after k - 1 records, and k is over the limit or no record begins there.
 pub record IsBadRecord (file : List ℕ) (k : ℕ) : Type 0 where
   pub before : List Exchange
   pub rest : List ℕ
@@ -40,13 +40,13 @@ pub record IsBadRecord (file : List ℕ) (k : ℕ) : Type 0 where
   pub more : rest ≢ []
   pub first : k ≤ 10000 → (e : Exchange) (after : List ℕ) → IsExchange e → rest ≢ exchange_text e ++ after
 
--- Bytes that tell of a file what reading asks: which exchanges it is the text of, and which record is the first bad
--- one.
+-- Bytes that a reader can use in place of a file: they are the text of the same exchanges, if of any, and have the
+-- same first bad record.
 pub record TellsOf (file bytes : List ℕ) : Type 0 where
   pub exchanges : (es : List Exchange) → AreExchanges es → (bytes ≡ exchanges_text es) ↔ (file ≡ exchanges_text es)
   pub bad : (k : ℕ) → IsBadRecord bytes k ↔ IsBadRecord file k
 
--- what an answered fault says of the file
+-- what a returned fault implies about the file
 abbrev pub IsFault : List ℕ → ExchangesFault → Type 0
 IsFault file (BadExchange k) = IsBadRecord file k
 IsFault file NoMemory = Unit {0}

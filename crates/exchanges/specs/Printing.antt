@@ -10,12 +10,12 @@ use Rattle.web.specs.declared.exchange.Given.{Given}
 use Rattle.web.specs.declared.exchange.Given.TheVariants.{Answer, Fault}
 use Rattle.web.specs.Runs.{Serves}
 
--- a response behind its length, or the word alone
+-- the word `answer`, a length and a response of that length, or the word `fault`
 abbrev pub given_text : Given → List ℕ
 given_text (Answer response) = codes "answer " ++ (decimal (length response) ++ 10 ∷ response)
 given_text Fault = codes "fault" ++ 10 ∷ []
 
--- one after the other
+-- the texts in succession
 abbrev pub all_given_text : List Given → List ℕ
 all_given_text given = flat_map given_text given
 
@@ -23,11 +23,11 @@ abbrev pub is_fault : Given → Bool
 is_fault (Answer response) = false
 is_fault Fault = true
 
--- whether one of them was given no response
+-- whether any exchange got no response
 abbrev pub has_fault : List Given → Bool
 has_fault given = list_any is_fault given
 
--- What a register gave to the exchanges is printed behind what the output held, and one of it is a fault or none.
+-- The output of a register for the exchanges is printed after the earlier output; `fault` says whether any got a fault.
 pub record Prints (before after keeps : Opening → List Arrival → Type 0) (exchanges : List Exchange)
     (old new : Option (List ℕ)) (fault : Bool) : Type 0 where
   pub given : List Given
@@ -35,6 +35,6 @@ pub record Prints (before after keeps : Opening → List Arrival → Type 0) (ex
   pub printed : Appends old new (all_given_text given)
   pub faults : has_fault given ≡ fault
 
--- A register gave something to each of the exchanges, whatever was printed of it.
+-- A register gave each of the exchanges a response or a fault, whatever was printed.
 abbrev pub AreRun : (before after keeps : Opening → List Arrival → Type 0) → List Exchange → Type 0
 AreRun before after keeps exchanges = (given : List Given) × Serves before after keeps exchanges given

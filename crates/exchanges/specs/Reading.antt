@@ -10,30 +10,30 @@ use Rattle.values.specs.Decimals.{number_of}
 use Rattle.web.specs.declared.exchange.Exchange.{Exchange}
 use Rattle.exchanges.specs.declared.exchange_reader.Record.{Record}
 
--- what follows these bytes
+-- the bytes after this prefix
 abbrev pub after : List ℕ → List ℕ → Option (List ℕ)
 after head t = if bytes_eq (take (length head) t) head then Some (drop (length head) t) else None
 
--- what stands before the first such byte, and what stands behind it
+-- the bytes before the first occurrence of this byte, and the bytes after it
 abbrev pub cut_of : ℕ → List ℕ → Option (List ℕ × List ℕ)
 cut_of byte t =
     if nat_lt (length (before_first (λ b. b == byte) t)) (length t)
     then Some (before_first (λ b. b == byte) t, after_first (λ b. b == byte) t)
     else None
 
--- the number up to the first such byte, and what stands behind it
+-- the number up to the first occurrence of this byte, and the bytes after it
 abbrev pub number_up_to : ℕ → List ℕ → Option (ℕ × List ℕ)
 number_up_to byte t = option_and_then (λ p. option_map (λ n. (n, p.1)) (number_of p.0)) (cut_of byte t)
 
--- the bytes, where the text is theirs in lower case
+-- the bytes, if the text is their lower-case hexadecimal form
 abbrev pub if_lower : List ℕ → List ℕ → Option (List ℕ)
 if_lower t bytes = if bytes_eq (encode_lower bytes) t then Some bytes else None
 
--- the 32 bytes that lower case hexadecimal digits write
+-- the 32 bytes that these lower-case hexadecimal digits encode
 abbrev pub nonce_of : List ℕ → Option (List ℕ)
 nonce_of t = option_and_then (if_lower t) (result_ok (decode_sized t 32))
 
--- the first bytes, so many, and those behind them
+-- the first `size` bytes and the bytes after them, if there are that many and a request may have that many
 abbrev pub request_in : ℕ → List ℕ → Option (List ℕ × List ℕ)
 request_in size t = if nat_le size 65536 && nat_le size (length t) then Some (take size t, drop size t) else None
 
@@ -45,7 +45,7 @@ o >>= f = option_and_then f o
 abbrev pub exchange_of : Record → Exchange
 exchange_of r = record { request = r.request.now; moment = r.moment; nonce = r.nonce }
 
--- the exchange of the first record, and what stands behind it
+-- the exchange of the first record, and the bytes after it
 unfoldable pub exchange_at : List ℕ → Option (Exchange × List ℕ)
 exchange_at t = do
   words ← after (codes "exchange ") t

@@ -31,24 +31,24 @@ use text::{NoMemory, Text};
 use values::read_decimal;
 use web::Exchange;
 
-/// The most records of a file.
+/// The greatest number of records in a file.
 pub const MAX_EXCHANGES: usize = 10000;
 
-/// The most bytes of a record's request.
+/// The greatest number of bytes in a record's request.
 pub const MAX_REQUEST: usize = 65536;
 
-/// The most bytes of a record's first line: a word, two numbers, a nonce, three spaces and a line feed.
+/// The greatest number of bytes in a record's first line: a word, two numbers, a nonce, three spaces and a line feed.
 pub const MAX_RECORD_LINE: usize = 101;
 
-/// The most bytes of a file: 10000 records, each with the longest first line and the longest request.
+/// The greatest size of a file: 10000 records, each with the longest first line and the longest request.
 pub const MAX_FILE: usize = MAX_EXCHANGES * (MAX_RECORD_LINE + MAX_REQUEST);
 
-/// Why a file isn't one of exchanges.
+/// Why a file isn't an exchange file.
 #[derive(Clone, Copy, Debug, PartialEq, Eq)]
 pub enum ExchangesFault {
-    /// This record, from 1, is the first that is cut or of another form, or it is one too many.
+    /// This record, counted from 1, is the first that is truncated or malformed, or it is one too many.
     BadExchange(usize),
-    /// A growth was refused.
+    /// An allocation failed.
     NoMemory,
 }
 
@@ -63,7 +63,7 @@ impl From<NoMemory> for ExchangesFault {
     }
 }
 
-// A record, and what stands behind it.
+// A record, and the bytes after it.
 #[derive(Drop)]
 struct Record<'a> {
     moment: u64,
@@ -78,7 +78,7 @@ fn first_place(text: &[u8], byte: u8) -> Option<usize>
     text.iter().position(|b| *b == byte)
 }
 
-// What stands before the first such byte, and what stands behind it.
+// The bytes before the first occurrence of this byte, and the bytes after it.
 fn cut_at(text: &[u8], byte: u8) -> Option<(&[u8], &[u8])>
     ensures { option_map (λ p. (p.0.now, p.1.now)) result ≡ cut_of byte text.now }
 {
@@ -88,7 +88,7 @@ fn cut_at(text: &[u8], byte: u8) -> Option<(&[u8], &[u8])>
     Some((&text[..place], &text[place + 1..]))
 }
 
-// The number up to the first such byte, and what stands behind it.
+// The number up to the first occurrence of this byte, and the bytes after it.
 fn number_up_to(text: &[u8], byte: u8) -> Option<(u64, &[u8])>
     ensures { option_map (λ p. (p.0, p.1.now)) result ≡ number_up_to byte text.now }
 {
@@ -101,7 +101,7 @@ fn number_up_to(text: &[u8], byte: u8) -> Option<(u64, &[u8])>
     Some((number, rest))
 }
 
-// Whether the digits are the nonce's in lower case.
+// Whether the digits are the lower-case hexadecimal form of the nonce.
 fn is_lower(nonce: &[u8; 32], digits: &[u8]) -> bool
     ensures { result ≡ bytes_eq (encode_lower nonce.now) digits.now }
 {
@@ -112,7 +112,7 @@ fn is_lower(nonce: &[u8; 32], digits: &[u8]) -> bool
     }
 }
 
-// The bytes of digits in either case.
+// The bytes that the digits encode, in either case.
 fn decoded(digits: &[u8]) -> Option<[u8; 32]>
     ensures { result ≡ result_ok (decode_sized digits.now 32) }
 {
@@ -136,7 +136,7 @@ fn nonce_of(digits: &[u8]) -> Option<[u8; 32]>
     }
 }
 
-// The first bytes, so many, and those behind them.
+// The first `size` bytes and the bytes after them, if there are that many and a request may have that many.
 fn request_in(size: u64, text: &[u8]) -> Option<(&[u8], &[u8])>
     ensures { option_map (λ p. (p.0.now, p.1.now)) result ≡ request_in size text.now }
 {
@@ -147,7 +147,7 @@ fn request_in(size: u64, text: &[u8]) -> Option<(&[u8], &[u8])>
     Some(text.split_at(size))
 }
 
-// What follows the word that begins a record.
+// The bytes after the word that begins a record.
 fn after_word(text: &[u8]) -> Option<&[u8]>
     ensures { option_copied result ≡ after (codes "exchange ") text.now }
 {
@@ -196,7 +196,7 @@ fn exchange_of(alloc: Global, found: &Record<'_>) -> Result<Exchange, NoMemory>
     })
 }
 
-// One more exchange at the end.
+// Appends the exchange of a record.
 fn push_record(
     exchanges: &mut Vec<Exchange>,
     alloc: Global,
@@ -208,23 +208,22 @@ fn push_record(
     Ok(())
 }
 
-/// The exchanges of a file: records one after the other until its end, each a line `exchange MOMENT NONCE LENGTH` and
-/// then LENGTH bytes of a request. MOMENT is 0 to 18446744073709551615 and LENGTH 0 to 65536, both in decimal without
-/// sign or leading zeros; NONCE is 64 lower case hexadecimal digits. A file has at most 10000 records, and may have
-/// none.
+/// The exchanges of a file: a sequence of records up to its end, each a line `exchange MOMENT NONCE LENGTH` and then
+/// LENGTH bytes of a request. MOMENT is 0 to 18446744073709551615 and LENGTH 0 to 65536, both in decimal without sign
+/// or leading zeros; NONCE is 64 lower-case hexadecimal digits. A file has at most 10000 records, and may have none.
 ///
 /// # Errors
 ///
-/// `BadExchange(k)`: record k, from 1, is the first that is cut or of another form, or it is record 10001.
+/// `BadExchange(k)`: record k, counted from 1, is the first that is truncated or malformed, or it is record 10001.
 pub fn read_exchanges(alloc: Global, file: &[u8]) -> Result<Vec<Exchange>, ExchangesFault>
-    // What is read are lawful exchanges, and the file is their text.
+    // The exchanges that were read are valid, and the file is their text.
     ensures found { IfOk result (λ es. AreExchanges es.items × (file.now ≡ exchanges_text es.items)) }
 
-    // The text of lawful exchanges is read, or memory is refused.
+    // The text of valid exchanges is read back, unless an allocation fails.
     ensures only { (es : List Exchange) → AreExchanges es → file.now ≡ exchanges_text es
         → MatchResult result (λ v. v.items ≡ es) (λ e. e ≡ ExchangesFault.NoMemory) }
 
-    // The record that is named is the first bad one.
+    // The reported record is the first bad one.
     ensures bad { IfErr result (λ e. IsFault file.now e) }
 {
     let mut exchanges = Vec::new(alloc);
@@ -243,7 +242,7 @@ pub fn read_exchanges(alloc: Global, file: &[u8]) -> Result<Vec<Exchange>, Excha
     Ok(exchanges)
 }
 
-/// A file's first 656370001 bytes, one more than any file of exchanges has, tell of the file what reading asks.
+/// A reader can use the first 656370001 bytes, one more than any exchange file has, in place of the file.
 pub fn the_first_bytes_tell_of_a_file()
     ensures { (file : List ℕ) → TellsOf file (take (MAX_FILE + 1) file) }
 {}

@@ -1,7 +1,7 @@
-//! Exchange files: how they are read, how their exchanges are run over an office, and what is printed for them.
+//! Exchange files: reading them, running their exchanges over an office, and printing the responses.
 //!
-//! A file is read exactly as its format says, and the first bad record is named. What is printed is what the office
-//! gave to each exchange, one after the other.
+//! A file is read exactly as its format says, and the first bad record is reported. The output is what the office gave
+//! to each exchange, in order.
 #![tactic(auto)]
 
 mod exchange_reader;

@@ -1,4 +1,4 @@
-//! What is printed for exchanges.
+//! The output for exchanges.
 
 ghost use Rattle.std.specs.Prelude.{◌≡◌, OnOk};
 ghost use Rattle.std.specs.Io.KnownBytes.{Appends};
@@ -23,8 +23,7 @@ fn print_one<W: Write>(out: &mut W, given: &Given) -> io::Result<()>
     }
 }
 
-/// Prints what exchanges were given, one after the other: a line `answer LENGTH` and the bytes of a response, or a line
-/// `fault`.
+/// Prints what the exchanges got, in order: a line `answer LENGTH` and the bytes of a response, or a line `fault`.
 pub fn print_given<W: Write>(out: &mut W, given: &[Given]) -> io::Result<()>
     ensures { OnOk result (Appends (W.contents out.old) (W.contents out.new) (all_given_text given.now)) }
 {
@@ -40,7 +39,7 @@ fn is_fault(given: &Given) -> bool
     matches!(given, Given::Fault)
 }
 
-/// Whether an exchange was given no response.
+/// Whether any exchange got no response.
 pub fn has_fault(given: &[Given]) -> bool
     ensures { result ≡ has_fault given.now }
 {

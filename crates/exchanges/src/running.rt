@@ -15,14 +15,14 @@ use std::io::Write;
 use text::NoMemory;
 use web::{Exchange, Given, run};
 
-/// Why exchanges were not run and printed well.
+/// Why a batch of exchanges was not run, or not printed without a fault.
 #[derive(Clone, Copy, Debug, PartialEq, Eq)]
 pub enum RunFault {
-    /// A growth was refused, and nothing was run.
+    /// An allocation failed, and nothing was run.
     NoMemory,
-    /// All were run, and the output can't be written.
+    /// All exchanges were run, and the output can't be written.
     Write,
-    /// All is printed, and an exchange was given no response.
+    /// Everything is printed, and an exchange got no response.
     Fault,
 }
 
@@ -37,11 +37,11 @@ impl From<NoMemory> for RunFault {
     }
 }
 
-/// Prints what exchanges were given, whole where some were given a fault.
+/// Prints what the exchanges got, in full even if some got a fault.
 ///
 /// # Errors
 ///
-/// `Write` where the output can't be written, and `Fault` where all is printed and an exchange was given a fault.
+/// `Write` if the output can't be written, and `Fault` if everything is printed and an exchange got a fault.
 pub fn print_all<W: Write>(out: &mut W, given: &[Given]) -> Result<(), RunFault>
     ensures ok { OnOk result (Appends (W.contents out.old) (W.contents out.new) (all_given_text given.now)) }
     ensures whole { OnOk result (has_fault given.now ≡ false) }
@@ -59,12 +59,12 @@ pub fn print_all<W: Write>(out: &mut W, given: &[Given]) -> Result<(), RunFault>
     Ok(())
 }
 
-/// Runs the exchanges and prints what each was given, whole where some were given a fault.
+/// Runs the exchanges and prints what each one got, in full even if some got a fault.
 ///
 /// # Errors
 ///
-/// `NoMemory` where nothing was run, `Write` where all were run and the output can't be written, and `Fault` where all
-/// is printed and an exchange was given a fault.
+/// `NoMemory` if nothing was run, `Write` if all exchanges were run and the output can't be written, and `Fault` if
+/// everything is printed and an exchange got a fault.
 pub fn apply_exchanges<R: Registry, W: Write>(
     registry: &mut R,
     alloc: Global,
@@ -78,7 +78,7 @@ pub fn apply_exchanges<R: Registry, W: Write>(
         → Prints (R.means registry.old) (R.means registry.new)
         (Keeps R.means R.is_open registry.new) exchanges.now (W.contents out.old) (W.contents out.new) true }
 
-    // All were run, whatever of it was printed.
+    // All exchanges were run, whatever was printed.
     ensures write { R.is_honest registry.new → result ≡ Err RunFault.Write → AreRun (R.means registry.old)
         (R.means registry.new) (Keeps R.means R.is_open registry.new) exchanges.now }
 
@@ -86,7 +86,7 @@ pub fn apply_exchanges<R: Registry, W: Write>(
     ensures unrun { result ≡ Err RunFault.NoMemory → registry.new ≡ registry.old }
     ensures unprinted { result ≡ Err RunFault.NoMemory → out.new ≡ out.old }
 
-    // If none is a message, all that the register keeps is as it was, whatever it means.
+    // If none is a message, the register keeps exactly what it kept before, whatever that means.
     ensures reads { R.is_honest registry.new → R.is_open registry.new → AskNoChange exchanges.now
         → R.is_as_before registry.old registry.new }
 {

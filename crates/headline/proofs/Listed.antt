@@ -1,4 +1,4 @@
--- The list, from what the tables show of it.
+-- The list, from the rows that the tables return for it.
 use Rattle.std.proofs.Common.{◌≡◌, ℕ, List, [], ◌∷◌, Option, Result, Ok, Err, refl, ap, subst, sym, ◌∙◌}
 use Rattle.std.specs.Prelude.{◌≤◌, IfErr, IfOk, IsTrue, OnOk, Vec}
 use Rattle.std.specs.declared.alloc.Global.{Global}
@@ -31,11 +31,11 @@ use Rattle.headline.specs.Headline.{AreExactLists, IsList, IsListResponse, OfSto
 abbrev pub ListsAreExact : Type 0
 ListsAreExact = (o : Opening) (l : List Arrival) → IsOffice o l → ListFits (state o l) → AreExactList (list_bytes o l) o l
 
--- no request asks two things
+-- a request has at most one reading
 abbrev pub AsksOneThing : Type 0
 AsksOneThing = (bytes : List ℕ) (a b : Ask) → Asks bytes a → Asks bytes b → a ≡ b
 
--- where a list isn't written, its fault is one of a register
+-- if a list isn't written, its fault is one of a register
 pub unwritten_only : (r : Result (Unit {0}) PublishFault) (count : ℕ) (means : Opening → List Arrival → Type 0)
     → IfErr r (OfStore (IsOfAList count)) → ((o : Opening) (l : List Arrival) → means o l → count ≤ 8)
     → IfErr r (OfStore (λ e. (o : Opening) (l : List Arrival) → means o l → IsOfARegister e))
@@ -47,7 +47,7 @@ module _ (exact : ListsAreExact) where
   is_list : (o : Opening) (l : List Arrival) → MayList o l → IsList o l (list_bytes o l)
   is_list o l may = record { same = refl; fits = may.fits; exact = exact o l may.office may.fits }
 
-  -- what is written of what the tables show is the list
+  -- if a list was found in the tables, the written bytes are the published list
   pub listed : {E : Type 0} (means : Opening → List Arrival → Type 0) → ((o : Opening) (l : List Arrival) → means o l → IsOffice o l)
       → (r : Result (Unit {0}) E) (found : Revoked) (old new : Option (List ℕ))
       → ((o : Opening) (l : List Arrival) → means o l → AreRevoked found (state o l))
@@ -70,7 +70,7 @@ module _ (exact : ListsAreExact) where
         subst (λ (bytes : List ℕ). IsList o l bytes) (sym same) (is_list o l (record { office = office o l m; fits = fits_here })),
   )
 
-  -- what is due to a GET of the list is the response with it
+  -- the specified response to a GET of the list is the response with the list
   is_response : (o : Opening) (l : List Arrival) (a : Ask) (moment : ℕ) (nonce response : List ℕ) → a ≡ get RevocationList
       → response ≡ answer_text o l a moment nonce → (a ≡ get RevocationList → MayList o l) → IsListResponse o l response
   is_response o l a moment nonce response same text may = record {
@@ -79,7 +79,7 @@ module _ (exact : ListsAreExact) where
     list = is_list o l (may same);
   }
 
-  -- what is answered to one is
+  -- an answered GET of the list got that response
   pub responded : {E : Type 0} → AsksOneThing → (r : Result (Vec ℕ Global) E) (before after keeps : Opening → List Arrival → Type 0)
       (request : List ℕ) (moment : ℕ) (nonce : List ℕ) → Asks request (get RevocationList)
       → IfOk r (λ v. IsAnswered before after keeps request moment nonce v.items)
@@ -89,7 +89,7 @@ module _ (exact : ListsAreExact) where
       let a = answered o l m in
       is_response o l a.ask moment nonce v.items (one request a.ask (get RevocationList) a.asks asks) a.text a.list
 
-  -- and so is each in a run
+  -- and so did each one in a batch
   pub in_run : AsksOneThing → (o : Opening) (l : List Arrival) (exchanges : List Exchange) (given : List Given) (last : List Arrival)
       → AllDue o l exchanges given last → AreExactLists o l exchanges given
   in_run one o l [] given last due = tt

@@ -1,4 +1,4 @@
--- What is answered is stored.
+-- The history of each answered request is durably represented.
 use Rattle.std.proofs.Common.{ℕ, List, Bool, Option, Result, Ok, Err}
 use Rattle.std.specs.Prelude.{IfOk, IsTrue, OnOk, Vec}
 use Rattle.std.specs.declared.alloc.Global.{Global}
@@ -14,7 +14,7 @@ use Rattle.exchanges.specs.Printing.{AreRun, Prints}
 use Rattle.headline.proofs.Listed.{AsksOneThing, ListsAreExact, in_run}
 use Rattle.headline.specs.Headline.{OfficeAnswers, OfficePrints, OfficeRuns}
 
--- tables that tell a history and are open
+-- tables that represent a history and are open
 abbrev pub AreOpen : State → Opening → List Arrival → Type 0
 AreOpen s o l = Tells s o l × IsTrue s.is_open
 

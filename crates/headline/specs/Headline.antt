@@ -1,4 +1,4 @@
--- The office over its tables, in the words of the plain machine.
+-- The promises of an office over its tables, in terms of the reference model.
 use Rattle.std.specs.Prelude.{◌≡◌, ℕ, List, [], ◌∷◌, ◌++◌, Bool, IfErr, IfOk, IsTrue, OnErr, OnOk, Option, Some}
 use Rattle.std.specs.Prelude.{Result, Ok, Err, Vec, slice_get, false, true}
 use Rattle.std.specs.Io.KnownBytes.{Appends}
@@ -39,13 +39,13 @@ use Rattle.headline.specs.declared.publish_fault.PublishFault.TheVariants.{Store
 
 -- ---- serials and bodies, after every history
 
--- a body that is there is the same after every longer history
+-- a certificate's unsigned part (its body) stays the same after every longer history
 abbrev pub BodiesStay : Type 0
 BodiesStay = (o : Opening) (l later : List Arrival) (serial : ℕ) (body : List ℕ)
     → body_of (state o l) serial ≡ Some body
     → body_of (state o (l ++ later)) serial ≡ Some body
 
--- the body of a serial names that serial, and the CA with the greatest number that had come when it was handed out
+-- the body of a serial names that serial, and the CA with the greatest number when the serial was assigned
 abbrev pub BodiesNameTheirSigners : Type 0
 BodiesNameTheirSigners = (o : Opening) (l : List Arrival) → IsOpening o → (serial : ℕ) (c : Certificate)
     → certificate_of (state o l) serial ≡ Some c → IsBodyFor serial (signer_of (state o l) serial) c
@@ -56,8 +56,8 @@ BodiesNameTheirSigners = (o : Opening) (l : List Arrival) → IsOpening o → (s
 abbrev pub list_bytes : Opening → List Arrival → List ℕ
 list_bytes o l = publication.published_list (state o l)
 
--- The bytes of the list, each section of which has a length of 32 bits. Cut in the one way that there is, they revoke
--- what accepted messages named, and nothing else.
+-- These bytes are the published list, and the length of each section fits in 32 bits. They can be divided into sections
+-- in only one way, and then revoke what accepted messages named, and nothing else.
 pub record IsList (o : Opening) (l : List Arrival) (bytes : List ℕ) : Type 0 where
   pub same : bytes ≡ list_bytes o l
   pub fits : ListFits (state o l)
@@ -69,14 +69,14 @@ pub record IsListResponse (o : Opening) (l : List Arrival) (response : List ℕ)
   pub text : response ≡ response_text 200 Bytes body
   pub list : IsList o l body
 
--- a later list revokes, under each CA of the earlier one's office, all that the earlier list does
+-- a later list revokes, under each CA that the office had at the earlier one, everything that the earlier one revokes
 abbrev pub ListsForgetNothing : Type 0
 ListsForgetNothing = (o : Opening) (l later : List Arrival) (old new : RevocationList)
     → IsExact o l old → IsExact o (l ++ later) new
     → (place : ℕ) (ca : Ca) → slice_get (state o l).cas place ≡ Some ca → (serial : ℕ) (key_id : List ℕ)
     → revokes (key_blob ca.key) serial key_id old ≡ true → revokes (key_blob ca.key) serial key_id new ≡ true
 
--- while the version stays, the list stays, byte for byte
+-- lists of the same version are equal, byte for byte
 abbrev pub EqualVersionsAreEqualLists : Type 0
 EqualVersionsAreEqualLists = (o : Opening) (l later : List Arrival)
     → (state o l).version ≡ (state o (l ++ later)).version
@@ -84,37 +84,37 @@ EqualVersionsAreEqualLists = (o : Opening) (l later : List Arrival)
 
 -- ---- over tables
 
--- The response to a request is the one that is due. The tables then tell the history with the request's arrival, where
--- it has one, and they store it where something was asked of them.
+-- The response to a request is the specified one. The tables then represent the history with the request's arrival, if
+-- it has one, and durably represent it if the request used them.
 abbrev pub OfficeAnswers : (old new : State) → (request : List ℕ) → ℕ → (nonce response : List ℕ) → Type 0
 OfficeAnswers old new request moment nonce response =
     IsAnswered (Tells old) (Tells new) (Stores new) request moment nonce response
 
--- so it is of a call that answers
+-- if a call answers, its answer is the specified one
 abbrev pub AnswersDue : (request : List ℕ) → ℕ → (nonce : List ℕ) → (old new : State)
     → Result (Vec ℕ Global) StoreFault → Type 0
 AnswersDue request moment nonce old new r = IfOk r (λ v. OfficeAnswers old new request moment nonce v.items)
 
--- where a GET of the list is answered, the answer is the list of each history that the tables told
+-- if a GET of the list is answered, the answer is the list of each history that the tables represented
 abbrev pub AnswersList : (request : List ℕ) → (old new : State) → Result (Vec ℕ Global) StoreFault → Type 0
 AnswersList request old new r = Asks request (get the_list)
     → IfOk r (λ v. (o : Opening) (l : List Arrival) → Tells old o l → IsListResponse o l v.items)
 
--- after a fault the tables tell what they told
+-- after a fault the tables represent what they represented before
 abbrev pub KeepsTellingOnErr : (old new : State) → Result (Vec ℕ Global) StoreFault → Type 0
 KeepsTellingOnErr old new r = OnErr r (KeepsTelling old new)
 
--- of tables that tell a history each fault is one that a register gives
+-- if the tables represent a history, each fault is one that a register may return
 abbrev pub FailsAsRegister : (old new : State) → Result (Vec ℕ Global) StoreFault → Type 0
 FailsAsRegister old new r = IfErr r (λ e. (o : Opening) (l : List Arrival) → Tells old o l → IsOfARegister e)
 
--- The database failed in answering this request, or its rules refused what was to be kept of the request's arrival.
+-- The database failed while it answered this request, or its rules refused a row of the request's arrival.
 abbrev pub OfficeStops : {S : Type 0} → (S → State) → (request : List ℕ) → ℕ → (nonce : List ℕ) → S → S → Type 0
 OfficeStops of request moment nonce old new =
     StopsAt (λ s. Tells (of s)) (λ a b. HasFailed (of a) (of b)) (λ a b x. IsStopped (of a) (of b) x)
     request moment nonce old new
 
--- Of what exchanges were given, each response to a GET of the list is the list, exact, of the history before it.
+-- Each response to a GET of the list is the exact list of the history before it.
 abbrev pub AreExactLists : Opening → List Arrival → List Exchange → List Given → Type 0
 AreExactLists o l (x ∷ xs) (Answer response ∷ given) =
     (Asks x.request (get the_list) → IsListResponse o l response)
@@ -123,30 +123,30 @@ AreExactLists o l (x ∷ xs) (Fault ∷ given) = AreExactLists o l xs given
 AreExactLists o l [] given = Unit {0}
 AreExactLists o l (x ∷ xs) [] = Unit {0}
 
--- What is due to exchanges is printed behind what the output held, and one of it is a fault or none. The tables then
--- tell the history with the arrivals that met no fault, and they store it where they have answered since the last
--- fault.
+-- The specified responses are printed after what the output held; `fault` says whether any is a fault. The
+-- tables then represent the history with the arrivals that had no fault, and durably represent it if they have answered
+-- since the last fault.
 pub record OfficePrints (old new : State) (exchanges : List Exchange) (held holds : Option (List ℕ)) (fault : Bool)
     : Type 0 where
   pub prints : Prints (Tells old) (Tells new) (Stores new) exchanges held holds fault
   pub lists : (o : Opening) (l : List Arrival) → Tells old o l → AreExactLists o l exchanges prints.given
 
--- So exchanges were run, whatever was printed.
+-- The exchanges were run as specified, whatever was printed.
 abbrev pub OfficeRuns : (old new : State) → List Exchange → Type 0
 OfficeRuns old new exchanges = AreRun (Tells old) (Tells new) (Stores new) exchanges
 
--- where the run is well, what is due is printed, and no fault
+-- if the batch succeeds, the specified responses are printed, and no fault
 abbrev pub PrintsDue : List Exchange → (held holds : Option (List ℕ)) → (old new : State) → Result (Unit {0}) RunFault
     → Type 0
 PrintsDue exchanges held holds old new r = OnOk r (OfficePrints old new exchanges held holds false)
 
--- where the run tells of faults, what is due is printed, and some are given a fault
+-- if the batch reports faults, the specified responses are printed, and some of them are faults
 abbrev pub PrintsWithFaults : List Exchange → (held holds : Option (List ℕ)) → (old new : State)
     → Result (Unit {0}) RunFault → Type 0
 PrintsWithFaults exchanges held holds old new r =
     r ≡ Err run.Fault → OfficePrints old new exchanges held holds true
 
--- where the output fails, all exchanges were run
+-- if the output fails, all exchanges were run
 abbrev pub RunsUnprinted : List Exchange → (old new : State) → Result (Unit {0}) RunFault → Type 0
 RunsUnprinted exchanges old new r = r ≡ Err run.Write → OfficeRuns old new exchanges
 
@@ -158,12 +158,12 @@ is_write (Ok done) = false
 is_write (Err (Store fault)) = false
 is_write (Err Write) = true
 
--- what a fault of the register says
+-- a property of the fault, if it is one of the register
 abbrev pub OfStore : (StoreFault → Type 0) → PublishFault → Type 0
 OfStore P (Store fault) = P fault
 OfStore P Write = Unit {0}
 
--- a fact of a call that found the list, and wrote it or a beginning of it
+-- a fact that holds if the call found the list, even if the writer then failed
 abbrev pub IfFound : Result (Unit {0}) PublishFault → Type 0 → Type 0
 IfFound (Ok done) P = P
 IfFound (Err (Store fault)) P = Unit {0}
@@ -171,12 +171,12 @@ IfFound (Err Write) P = P
 
 -- ---- publishing
 
--- where all is written, what is written is the list of each history that the tables told
+-- if everything is written, the written bytes are the list of each history that the tables represented
 abbrev pub WritesList : (held holds : Option (List ℕ)) → (old new : State) → Result (Unit {0}) PublishFault → Type 0
 WritesList held holds old new r = OnOk r ((bytes : List ℕ) × Appends held holds bytes
     × ((o : Opening) (l : List Arrival) → Tells old o l → IsList o l bytes))
 
--- where the list was found, the tables store each history that they told
+-- if the list was found, the tables durably represent each history that they represented before
 abbrev pub StoresWhereFound : (old new : State) → Result (Unit {0}) PublishFault → Type 0
 StoresWhereFound old new r = IfFound r ((o : Opening) (l : List Arrival) → Tells old o l → Stores new o l)
 
@@ -184,7 +184,7 @@ StoresWhereFound old new r = IfFound r ((o : Opening) (l : List Arrival) → Tel
 abbrev pub IsAsBeforeWhereOpen : (old new : State) → Type 0
 IsAsBeforeWhereOpen old new = IsTrue new.is_open → IsAsBefore old new
 
--- of tables that tell a history each fault of the register is one that a register gives
+-- if the tables represent a history, each fault of the register is one that a register may return
 abbrev pub PublishFailsAsRegister : (old new : State) → Result (Unit {0}) PublishFault → Type 0
 PublishFailsAsRegister old new r =
     IfErr r (OfStore (λ e. (o : Opening) (l : List Arrival) → Tells old o l → IsOfARegister e))

@@ -1,12 +1,12 @@
-//! The office over its tables: what is promised of all that it answers, in the words of the plain machine.
+//! The office over its tables: the promises for each of its answers, in terms of the reference model.
 //!
-//! Tables tell an opening and a history where they hold the rows of the plain machine that was opened so and was given
-//! the history's arrivals. Tables store what they tell where their connection is open: a crash then leaves these rows
-//! and nothing else. Tables that have answered are open, so what was answered is stored. Of a connection that a failed
-//! disk has shut, tables that tell a history say that a crash leaves its rows, or those with one arrival more. A
-//! request whose bytes alone are refused asks nothing of the tables.
+//! Tables represent an initial configuration and a history if they hold the rows of the reference model that began with
+//! this configuration and got the history's arrivals. They durably represent it if their connection is also open: a
+//! crash then leaves these rows and nothing else. Tables that have answered are open, so every answered request is
+//! preserved. If a failed disk has shut the connection, tables represent a history if a crash leaves its rows, or those
+//! with one more arrival. A request that is refused for its bytes alone doesn't use the tables.
 //!
-//! The clauses are asked of a disk that has returned what was written, as the call ends.
+//! The clauses assume that the disk has returned what was written to it until the call ends.
 #![tactic(auto)]
 
 mod publish_fault;
@@ -43,42 +43,42 @@ use store::{Store, what_is_open_is_stored};
 use web::{Exchange, answer};
 use wire::Sink;
 
-/// Exchanges, one after the other, over the tables of an office: whatever was lost, repeated or put in another order.
-/// What each is given is printed, whole where some are given a fault.
+/// Runs exchanges in order over the tables of an office, whatever was lost, repeated or reordered on the way. What each
+/// one got is printed, in full even if some got a fault.
 pub fn replay<S: Alter, W: Write>(
     store: &mut Store<S>,
     alloc: Global,
     exchanges: &[Exchange],
     out: &mut W,
 ) -> Result<(), RunFault>
-    // Each exchange is given the response that the plain machine gives after the first acceptances among the arrivals
-    // before it that met no fault; to a GET of the list the response is the list, exact. The tables then tell the
-    // history with all arrivals. Where an exchange asked something of them, they are open and store that history.
+    // Each exchange gets the response of the reference model after the first acceptances among the earlier arrivals
+    // that had no fault; the response to a GET of the list is the exact list. The tables then represent the history
+    // with all arrivals. If an exchange used the tables, they are open and durably represent that history.
     ensures ok { On S.Store (PrintsDue exchanges.now (W.contents out.old) (W.contents out.new))
         store.old.conn store.new.conn result }
 
-    // The same, but some are given a fault, and are no part of the history. The tables store it where they have
-    // answered since the last fault.
+    // The same, but some exchanges get a fault and are not part of the history. The tables durably represent it if they
+    // have answered since the last fault.
     ensures fault { On S.Store (PrintsWithFaults exchanges.now (W.contents out.old) (W.contents out.new))
         store.old.conn store.new.conn result }
 
-    // Where the output fails, all were run so, whatever of it was printed. For want of memory none was, and nothing is
-    // printed.
+    // If the output fails, all exchanges were still run, whatever was printed. If memory was refused, none was run, and
+    // nothing is printed.
     ensures write { On S.Store (RunsUnprinted exchanges.now) store.old.conn store.new.conn result }
     ensures unrun { result ≡ Err RunFault.NoMemory → store.new ≡ store.old }
     ensures unprinted { result ≡ Err RunFault.NoMemory → out.new ≡ out.old }
 
-    // If none is a message, the database is as it was, whatever its tables mean, while the connection is open.
+    // If no exchange is a message, the database is unchanged while the connection is open, whatever its tables mean.
     ensures reads { AskNoChange exchanges.now → Between S.Store IsAsBeforeWhereOpen store.old.conn store.new.conn }
 
-    // A disk that has returned what was written did so before.
+    // A disk that has been faithful when the call ends was faithful when it began.
     ensures honest { StaysClean S.Store store.old.conn store.new.conn }
 
-    // While the connection is open, the tables store what they tell: no crash afterwards loses it.
+    // While the connection is open, the tables durably represent what they represent: no crash afterwards loses it.
     ensures crash { StoresWhereOpen (state S.Store store.new.conn) }
 
     // The kth message that makes a certificate gets the serial first + k - 1 and the digest of the kth body, so no
-    // serial names two bodies; a body stays, and names the CA that signs it.
+    // serial names two bodies; a body never changes, and names the CA that signs it.
     ensures serials { (o : Opening) (l : List Arrival) → CountsUp o l }
     ensures bodies { BodiesStay }
     ensures signers { BodiesNameTheirSigners }
@@ -101,30 +101,30 @@ pub fn respond<S: Alter>(
     moment: u64,
     nonce: &[u8; 32],
 ) -> Result<Vec<u8>, StoreFault>
-    // It is the one that is due, and the tables then tell the history with the request's arrival, where it has one.
-    // Where something was asked of them, they are open and store that history, so that no crash loses it.
+    // The response is the specified one, and the tables then represent the history with the request's arrival, if it
+    // has one. If the request used them, they are open and durably represent that history, so no crash loses it.
     ensures answered { On S.Store (AnswersDue request.now moment nonce.now) store.old.conn store.new.conn result }
 
-    // After a fault they tell what they told.
+    // After a fault they represent what they represented before.
     ensures fault { On S.Store KeepsTellingOnErr store.old.conn store.new.conn result }
 
-    // A request that is no message leaves the database as it was, whatever its tables mean, while the connection is
-    // open.
+    // A request that isn't a message leaves the database unchanged while the connection is open, whatever its tables
+    // mean.
     ensures reads { AsksNoChange request.now → Between S.Store IsAsBeforeWhereOpen store.old.conn store.new.conn }
 
-    // Such a fault is want of memory, or the database failed, or refused a row that was due. `Device` is answered only
-    // where one of the last two was.
+    // If the tables represent a history, the fault is `NoMemory` or `Device`. `Device` is returned only if the database
+    // failed, or refused a specified row.
     ensures only { On S.Store FailsAsRegister store.old.conn store.new.conn result }
     ensures cause { HasCleanDisk (state S.Store store.new.conn) → IfErr result (λ e. HasCause e (OfficeStops
         (λ s. state S.Store s.conn) request.now moment nonce.now store.old store.new)) }
 
-    // A disk that has returned what was written did so before.
+    // A disk that has been faithful when the call ends was faithful when it began.
     ensures honest { StaysClean S.Store store.old.conn store.new.conn }
 
-    // While the connection is open, they store what they tell: no crash afterwards loses it.
+    // While the connection is open, they durably represent what they represent: no crash afterwards loses it.
     ensures crash { StoresWhereOpen (state S.Store store.new.conn) }
 
-    // To GET of the list it is the list, which revokes exactly what accepted messages named.
+    // The response to a GET of the list is the list, which revokes exactly what accepted messages named.
     ensures list { On S.Store (AnswersList request.now) store.old.conn store.new.conn result }
     ensures forgets { ListsForgetNothing }
     ensures versions { EqualVersionsAreEqualLists }
@@ -138,7 +138,7 @@ pub fn respond<S: Alter>(
     response
 }
 
-// Writes a list that was found.
+// Writes a list that was found in the tables.
 fn write_found<W: Sink>(revoked: &Revoked, sink: &mut W) -> Result<(), PublishFault>
     requires { W.failed sink.old < u64.MAX }
     ensures fits { OnOk result (IsTrue (fits revoked.now.parts.items revoked.now.key_ids)) }
@@ -161,8 +161,9 @@ fn write_found<W: Sink>(revoked: &Revoked, sink: &mut W) -> Result<(), PublishFa
     }
 }
 
-/// Writes the key revocation list from front to back, without holding it. Where a section would be too long it is a
-/// fault of memory. The writer is lent with fewer than 18446744073709551615 failures.
+/// Writes the key revocation list from front to back, without holding it. The fault is `NoMemory` for a section that
+/// would be too long, and `Damaged` for more CAs than an office may have. The writer has failed fewer than
+/// 18446744073709551615 times before.
 pub fn publish<S: Alter, W: Sink>(
     store: &mut Store<S>,
     alloc: Global,
@@ -170,26 +171,27 @@ pub fn publish<S: Alter, W: Sink>(
 ) -> Result<(), PublishFault>
     requires { W.failed sink.old < u64.MAX }
 
-    // What is written is the list, which revokes exactly what accepted messages named.
+    // The written bytes are the list, which revokes exactly what accepted messages named.
     ensures list { On S.Store (WritesList (W.taken sink.old) (W.taken sink.new)) store.old.conn store.new.conn result }
 
-    // The tables tell what they told. Where the list was found, they are open and store it, so that no crash loses it.
+    // The tables represent what they did, and durably if the list was found: they are then open, and no crash loses it.
     ensures same { Between S.Store KeepsTelling store.old.conn store.new.conn }
     ensures found { On S.Store StoresWhereFound store.old.conn store.new.conn result }
 
-    // While the connection is open, the database is as it was, whatever its tables mean.
+    // While the connection is open, the database is unchanged, whatever its tables mean.
     ensures before { Between S.Store IsAsBeforeWhereOpen store.old.conn store.new.conn }
     ensures honest { StaysClean S.Store store.old.conn store.new.conn }
 
-    // While the connection is open, they store what they tell: no crash afterwards loses it.
+    // While the connection is open, they durably represent what they represent: no crash afterwards loses it.
     ensures crash { StoresWhereOpen (state S.Store store.new.conn) }
 
-    // After any other fault than that of the writer nothing is written. That fault is answered just where the writer
+    // After any fault except the writer's, nothing is written. The writer's fault is returned exactly when the writer
     // failed.
     ensures unwritten { IfErr result (λ e. e ≢ PublishFault.Write → sink.new ≡ sink.old) }
     ensures failed { W.failed sink.new ≡ (if is_write result then W.failed sink.old + 1 else W.failed sink.old) }
 
-    // A fault of the register is want of memory, or the database failed. `Device` is answered only where it did.
+    // If the tables represent a history, a fault of the register is `NoMemory` or `Device`. `Device` is returned only
+    // if the database failed.
     ensures only { On S.Store PublishFailsAsRegister store.old.conn store.new.conn result }
     ensures cause { IfErr result (OfStore (λ e. HasCause e (HasFailed (state S.Store store.old.conn)
         (state S.Store store.new.conn)))) }

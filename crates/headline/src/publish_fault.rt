@@ -5,10 +5,10 @@ use office::StoreFault;
 /// Why a list was not written.
 #[derive(Clone, Copy, Debug, PartialEq, Eq)]
 pub enum PublishFault {
-    /// The register did not answer, or a section of the list would be too long, which is a fault of memory. Nothing is
-    /// written.
+    /// The register didn't answer, or the list has a section that would be too long (`NoMemory`) or more CAs than an
+    /// office may have (`Damaged`). Nothing is written.
     Store(StoreFault),
-    /// The writer failed. What was written is no list.
+    /// The writer failed. The bytes written so far aren't a list.
     Write,
 }
 

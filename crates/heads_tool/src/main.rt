@@ -1,11 +1,11 @@
-//! Heads of requests that come byte by byte: what is told of them by places, and what parsing tells.
+//! Request heads that come byte by byte: when a `Spot` decides about them, and when parsing does.
 //!
 //!     heads_tool FILE
 //!
-//! FILE has a head in hexadecimal digits on each line. For each the program prints a line `BYTES WORD BYTES WORD`: after
-//! how many bytes a `Spot` of the crate `http_requests` tells whether a head comes, and what it tells, and the same
-//! where all bytes are parsed after each byte. The words are `whole`, `hopeless`, and `waits` where all bytes came and
-//! neither is so. Files are the system's, and nothing is proved of them.
+//! Each line of FILE is a head in hexadecimal digits. For each one the program prints a line `BYTES WORD BYTES WORD`:
+//! after how many bytes a `Spot` of the crate `http_requests` decides whether there is a head, and its decision; and
+//! the same for parsing all bytes after each byte. The words are `whole`, `hopeless`, and `waits` if neither is decided
+//! after all bytes. Files are the system's, and nothing is proved about them.
 #![tactic(auto)]
 
 mod telling;

@@ -1,10 +1,10 @@
-//! Where a head tells whether it comes.
+//! After which byte it is decided whether there is a head.
 
 use http_requests::{Progress, Spot, progress_of};
 use std::alloc::{AllocError, Global};
 use std::fmt;
 
-/// After so many bytes of a head, this was told of it. It is printed as both.
+/// The decision after this many bytes of a head. Both are printed.
 #[derive(Clone, Copy)]
 pub(crate) struct Told {
     bytes: usize,
@@ -22,7 +22,7 @@ impl fmt::Display for Told {
     }
 }
 
-/// What is told by places: by the first byte that doesn't wait, or by all.
+/// The decision of a `Spot`: after the first byte at which it doesn't wait, or after all bytes.
 pub(crate) fn by_places(alloc: Global, head: &[u8]) -> Result<Told, AllocError> {
     let mut came = Vec::new(alloc);
     let mut spot = Spot::start();
@@ -45,7 +45,7 @@ pub(crate) fn by_places(alloc: Global, head: &[u8]) -> Result<Told, AllocError> 
     })
 }
 
-/// The same, where all bytes that came are parsed after each.
+/// The same for parsing all bytes so far after each byte.
 pub(crate) fn by_parsing(head: &[u8]) -> Told {
     for place in 0..head.len() {
         let bytes = place + 1;

@@ -1,4 +1,4 @@
--- What a request asks: it is lawful, later bytes leave it, and it is short just where fewer bytes came than it wants.
+-- What a request asks for: it is valid, later bytes don't change it, and it is short exactly when bytes are missing.
 use Rattle.std.proofs.Common.{lit≤, ◌≡◌, ◌↔◌, inl, inr, ℕ, ◌<◌, ◌≤◌, List, [], ◌∷◌, ◌++◌, length, take, Bool, true}
 use Rattle.std.proofs.Common.{false, cond, refl, sym, ap, subst, ◌∙◌, arith, length-append, codes, nat_lt}
 use Rattle.std.specs.Str.{bytes_eq}
@@ -18,11 +18,11 @@ use Rattle.http_requests.proofs.OneAsk.{same_path}
 
 -- ---- the cases of what is asked at a path
 
--- a message of so many bytes, of which these came
+-- a message of n bytes, with these bytes after the head
 abbrev taken : (caller key : List ℕ) → ℕ → List ℕ → Ask
 taken caller key n rest = cond (nat_lt (length rest) n) (refused ShortBody) (post caller key (take n rest))
 
--- what holds of each answer that no bytes change, and of a message, holds of what is asked, with the size wanted
+-- a property of constant asks, with size 0, and of messages, with their size, holds of each ask at a path
 module _ (P : (List ℕ → Ask) → ℕ → Type 0)
     (fixed : (a : Ask) → IsLawful a → ¬ (a ≡ refused ShortBody) → P (λ rest. a) 0)
     (body : (caller key : List ℕ) (n : ℕ) → IsPath (message caller key) → n ≤ 16384 → P (taken caller key n) n) where
@@ -50,7 +50,7 @@ module _ (P : (List ℕ → Ask) → ℕ → Type 0)
       by true = fixed (get r) is (λ e. cc)
       by false = fixed (refused WrongMethod) (lit≤ tt) (λ e. cc)
 
--- ---- it is lawful
+-- ---- validity
 
 taken_lawful : (rest caller key : List ℕ) (n : ℕ) → IsPath (message caller key) → n ≤ 16384
     → IsLawful (taken caller key n rest)
@@ -68,7 +68,7 @@ lawful_of bytes a (inr (h, rest, good, asked)) = lawful_of_head h rest a asked
 
 -- ---- bytes that come later
 
--- an answer that isn't refused for want of bytes
+-- an ask that isn't refused for lack of bytes
 abbrev IsSettled : Ask → Type 0
 IsSettled a = ¬ (a ≡ refused ShortBody)
 
@@ -103,13 +103,13 @@ later_of bytes more a (inr (h, rest, is, asked)) good settled =
     record { reads = reads; size = is.0.size; lines = is.0.lines } in
     inr (h, rest ++ more, (head, is.1), head_later h rest more a settled asked)
 
--- ---- bytes that are wanted
+-- ---- the bytes that are needed
 
--- the answer is that the body is short exactly where fewer than n bytes came
+-- the ask is the refusal of a short body exactly when fewer than n bytes came
 abbrev ShortBelow : ℕ → ℕ → Ask → Type 0
 ShortBelow n come a = (a ≡ refused ShortBody) ↔ (come < n)
 
--- another answer wants no body
+-- any other ask needs no body
 other : (come : ℕ) (a : Ask) → ¬ (a ≡ refused ShortBody) → ShortBelow 0 come a
 other come a differs = (λ e. absurd (differs e), λ below. absurd (omega (arith, below)))
 
@@ -121,7 +121,7 @@ taken_short rest caller key n = by (nat_lt (length rest) n) refl
     by true e = (λ _. grind (arith, nat_tests), λ _. refl)
     by false e = (λ same. cc, λ below. absurd (grind (arith, nat_tests)))
 
--- a request is refused for a short body exactly where fewer bytes follow the head than it wants
+-- a request is refused for a short body exactly when fewer bytes follow the head than it asks for
 pub short_below : (h : RequestHead) (n : ℕ) (rest : List ℕ) (a : Ask)
     → WantsBody h n → HeadAsks h rest a → ShortBelow n (length rest) a
 short_below h n rest a (inl (none, e)) (inl (also, f)) = rw (e, f) (other (length rest) (refused NoRoute) (λ g. cc))

@@ -1,4 +1,4 @@
--- How the path of a message is cut into caller and key.
+-- Dividing the path of a message into caller and key.
 use Rattle.std.proofs.Common.{◌≡◌, ℕ, List, ◌∷◌, ◌++◌, length, drop, take, Some, ap, refl, sym, ◌∙◌}
 use Rattle.std.proofs.Common.{arith, ◌==◌, codes, length-append}
 use Rattle.std.specs.Prelude.{position}
@@ -9,7 +9,7 @@ use Rattle.values.specs.Names.{is_name_byte, has_size}
 use Rattle.values.proofs.Lacking.{first_after, lacks_from}
 use Rattle.http_requests.specs.Paths.{message, IsPath, path_text}
 
--- what is cut at its first slash off what comes after the front of a message's path
+-- the rest of a message's path, after its prefix, is divided at its first slash
 pub record IsCut (rest caller key : List ℕ) : Type 0 where
   pub slash : position (λ b. b == 47) rest ≡ Some (length caller)
   pub front : (n : ℕ) → position (λ b. b == 47) rest ≡ Some n → take n rest ≡ caller

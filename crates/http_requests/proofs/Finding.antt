@@ -1,4 +1,4 @@
--- The path of each place finds its route.
+-- The text of each path finds its route.
 use Rattle.std.proofs.Common.{◌≡◌, ℕ, ◌<◌, List, [], ◌∷◌, ◌++◌, length, get_or, true, false, IsTrue, nat_le, Bool, Some}
 use Rattle.std.proofs.Common.{refl, sym, ap, ◌∙◌, subst, arith, codes, decimal, ◌==◌}
 use Rattle.std.specs.Char.{is_ascii_digit}
@@ -25,7 +25,7 @@ use Rattle.http_requests.proofs.Seeking.{IsPart, lits, at_end, cuts_none, cuts_s
 
 -- ---- parameters
 
--- bytes of a kind that no slash is of
+-- bytes of a class that excludes the slash
 part_from : (test : ℕ → Bool) (c : List ℕ) → test 47 ≡ false → ((b : ℕ) → test b ≡ true → b < 256) → 0 < length c
     → list_all test c ≡ true → IsPart c
 part_from test c off small some all = record {
@@ -46,7 +46,7 @@ part_of_serial n is =
     part_from is_ascii_digit (decimal n) refl (λ b h. grind (arith, nat_tests)) (decimal_nonempty n small)
     (digits_decimal own n small)
 
--- a byte is no parameter
+-- a byte isn't the token of a parameter
 byte_misses : (x : ℕ) → x < 256 → (256 == x) ≡ false
 byte_misses x h = grind (arith, nat_tests)
 
@@ -86,7 +86,7 @@ routed (resource (a.Certificate n)) is = certificate_found (decimal n) (part_of_
 routed (resource (a.Body n)) is = body_found (decimal n) (part_of_serial n is)
 routed (resource r) is = refl
 
--- paths of one text lead to one route
+-- a text that finds a route and is the text of a path finds that path's route
 pub same_route : (path : List ℕ) (r : RouteOf RouteKind) (p : Path)
     → IsPath p → first routing path ≡ Some r → path ≡ path_text p → r.value ≡ kind_at p
 same_route path r p is found e =
@@ -110,7 +110,7 @@ of_kind (resource (a.Certificate n)) is = (n, is, refl)
 of_kind (resource (a.Body n)) is = (n, is, refl)
 of_kind (resource r) is = refl
 
--- a path's text that finds this route is that of one of its paths
+-- if the text of a path finds this route, it is the text of one of the route's paths
 pub found_of : (kind : RouteKind) (path : List ℕ) (r : RouteOf RouteKind) (p : Path) → first routing path ≡ Some r
     → r.value ≡ kind → IsPath p → path ≡ path_text p → IsOf kind path
 found_of kind path r p found of is e =

@@ -1,4 +1,4 @@
--- Heads in the bytes of a request and in their front.
+-- Heads in the bytes of a request and in a prefix of them.
 use Rattle.std.proofs.Common.{◌≡◌, ℕ, ◌+◌, ◌-◌, ◌≤◌, List, ◌++◌, length, take}
 use Rattle.std.proofs.Common.{drop, min, sym, ap, ◌∙◌, arith, length-append}
 use Rattle.std.proofs.Math.Seq.{take-append-add}
@@ -8,7 +8,7 @@ use Rattle.httparse.specs.Grammar.{RequestHead, Field, ReadsRequest, print_reque
 use Rattle.httparse.specs.Spans.{AreFieldsAt}
 use Rattle.httparse.proofs.GrammarLemmas.{ReadsRequest-append}
 
--- a head of the front is one of the bytes
+-- a head of the prefix is a head of the bytes
 pub head_of_front : (bytes : List ℕ) (n k : ℕ) (h : RequestHead) → k ≤ length (take n bytes)
     → ReadsRequest (take n bytes) h (drop k (take n bytes)) → ReadsRequest bytes h (drop k bytes)
 head_of_front bytes n k h fits reads =
@@ -17,7 +17,7 @@ head_of_front bytes n k h fits reads =
     let rest = sym (drop-append-le k (take n bytes) (drop n bytes) fits) ∙ ap (drop k) whole in
     (more.0, sym whole ∙ more.1 ∙ ap (λ r. print_request h ++ r) rest)
 
--- a head of the bytes that fits the front is one of the front
+-- a head of the bytes that fits in the prefix is a head of the prefix
 pub head_in_front : (bytes : List ℕ) (n : ℕ) (h : RequestHead) (rest : List ℕ) → n ≡ min (length bytes) 8192
     → length (print_request h) ≤ 8192
     → ReadsRequest bytes h rest → ReadsRequest (take n bytes) h (take (n - length (print_request h)) rest)
@@ -27,7 +27,7 @@ head_in_front bytes n h rest cut fits reads =
     let e : n ≡ length p + (n - length p) = omega arith in
     (reads.0, ap (take n) reads.1 ∙ ap (λ m. take m (p ++ rest)) e ∙ take-append-add p rest (n - length p))
 
--- there are no more fields than headers
+-- there are no more fields than header spans
 pub fields_fit : (bytes : List ℕ) (headers : List HeaderSpan) (count : ℕ) (fields : List Field)
     → AreFieldsAt bytes headers count fields → length fields ≤ length headers
 fields_fit bytes headers count fields same =

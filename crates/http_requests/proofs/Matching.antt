@@ -1,4 +1,4 @@
--- What a found route says of the path.
+-- What a found route implies about the path.
 use Rattle.std.proofs.Common.{◌≡◌, ◌⊎◌, inl, inr, ℕ, zero, suc, ◌-◌, List, [], ◌∷◌, length, drop}
 use Rattle.std.proofs.Common.{Option, Some, None, Bool, true, false, cond, refl, ap, ◌∙◌, subst, ◌==◌}
 use Rattle.std.specs.Prelude.{⊤, ltb}
@@ -14,21 +14,21 @@ use Rattle.http_requests.specs.declared.router.RouteKind.TheVariants.{Fixed}
 use Rattle.http_requests.specs.Paths.{resource, IsPath, path_text}
 use Rattle.http_requests.specs.Routing.{routing}
 
--- so it is of each row, what is left of its pattern and its key
+-- the property holds of each row: of the rest of its pattern, and of its key
 abbrev AllRows : {K : Type 0} → (List ℕ → K → Type 0) → RowsOf K → Type 0
 AllRows P rs = AllByRecursion (λ row. P row.0 row.1) rs
 
--- bytes alone, and no parameter
+-- only bytes, and no parameter
 abbrev are_bytes : List ℕ → Bool
 are_bytes t = list_all (λ b. ltb b 256) t
 
--- of the row that ends here
+-- it holds of the row that ends here
 own_is : {K : Type 0} (P : List ℕ → K → Type 0) (rs : RowsOf K) (k : K) → AllRows P rs → own rs ≡ Some k → P [] k
 own_is P [] k all e = absurd cc
 own_is P (([], j) ∷ rest) k all e = let same : j ≡ k = cc in subst (P []) same all.0
 own_is P ((x ∷ t, j) ∷ rest) k all e = own_is P rest k all.1 e
 
--- of the rows after a byte
+-- it holds of the rows after a byte
 step_all : {K : Type 0} (P : List ℕ → K → Type 0) (b : ℕ) (rs : RowsOf K) → AllRows P rs
     → AllRows (λ t. P (b ∷ t)) (step b rs)
 step_all P b [] all = tt
@@ -40,7 +40,7 @@ step_all P b ((x ∷ t, j) ∷ rest) all = by (x == b) refl (step_all P b rest a
     by true e later = (subst (λ y. P (y ∷ t) j) (eqb-true x b e) all.0, later)
     by false e later = later
 
--- of the rows with a suffix
+-- it holds of the rows with a suffix
 suffix_all : {K : Type 0} (P : List ℕ → K → Type 0) (s : List ℕ) (rs : RowsOf K) → AllRows P rs
     → AllRows P (with_suffix s rs)
 suffix_all P s [] all = tt
@@ -50,7 +50,7 @@ suffix_all P s ((t, j) ∷ rest) all =
       | false ↦ suffix_all P s rest all.1
     ]
 
--- of the rows after a parameter
+-- it holds of the rows after a parameter
 param_all : {K : Type 0} (P : List ℕ → K → Type 0) (rs : RowsOf K) (path : List ℕ) → AllRows P rs
     → AllRows P (param_step rs path).1
 unfolding param_step
@@ -64,12 +64,12 @@ param_all {K = K} P rs path all = by (ltb 0 (length (longest_suffix (segment pat
     by false true = tt
     by false false = all
 
--- one of two answers is given
+-- the result is one of the two
 or_else_some : {K : Type 0} (k : K) (a b : Option K) → or_else a b ≡ Some k → (a ≡ Some k) ⊎ (b ≡ Some k)
 or_else_some k None b e = inr e
 or_else_some k (Some j) b e = inl e
 
--- what is found is a row, and if its pattern is bytes alone, these are the path
+-- the result is a row, and if its pattern has only bytes, the path is equal to it
 abbrev Found : {K : Type 0} → (List ℕ → K → Type 0) → K → List ℕ → Type 0
 Found P k path = (t : List ℕ) × P t k × (are_bytes t ≡ true → path ≡ t)
 
@@ -106,7 +106,7 @@ sound {K = K} P zero rs (b ∷ path) k all e =
       )
     ]
 
--- the row of a fixed route has the route's path, which is bytes alone
+-- the row of a fixed route has the route's path, which has only bytes
 abbrev IsRow : List ℕ → RouteKind → Type 0
 IsRow t (Fixed r) = IsPath (resource r) × (are_bytes t ≡ true) × (t ≡ path_text (resource r))
 IsRow t _ = ⊤

@@ -1,4 +1,4 @@
--- Texts tell paths apart, and so requests ask one thing.
+-- Distinct paths have distinct texts, so a request has at most one reading.
 use Rattle.std.proofs.Common.{◌≡◌, true, inl, inr, ℕ, List, length, drop}
 use Rattle.std.proofs.Common.{refl, sym, ap, ◌∙◌, subst, codes, decimal}
 use Rattle.std.proofs.lemmas.List.{append_cancel_right}
@@ -16,7 +16,7 @@ use Rattle.http_requests.specs.Asks.{Ask, HeadAsks, Asks, asked_at}
 use Rattle.http_requests.proofs.Finding.{routed, same_route, kind_at}
 use Rattle.http_requests.proofs.Cutting.{message_cut}
 
--- two messages whose paths have one text are of one caller and one key
+-- two messages whose paths have the same text have the same caller and the same key
 same_message : (c k d l : List ℕ) → IsPath (message c k) → IsPath (message d l)
     → path_text (message c k) ≡ path_text (message d l) → message c k ≡ message d l
 same_message c k d l is also e =
@@ -28,16 +28,16 @@ same_message c k d l is also e =
     let keys : k ≡ l = ap (drop 10) tails in
     cc
 
--- serials of one text are one
+-- serials with the same text are equal
 same_serial : (m n : ℕ) → is_serial m ≡ true → is_serial n ≡ true → decimal m ≡ decimal n → m ≡ n
 same_serial m n is also = decimal_injective m n (serial_small m is) (serial_small n also)
 
--- a path of a fixed route is the route's
+-- a path of a fixed route is the route's path
 at_fixed : (r : Resource) (q : Path) → Fixed r ≡ kind_at q → resource r ≡ q
 at_fixed r (resource (Certificate n)) kind = cc
 at_fixed r q kind = cc
 
--- paths of one route and one text are one
+-- paths with the same route and the same text are equal
 same_at : (p q : Path) → IsPath p → IsPath q → path_text p ≡ path_text q → kind_at p ≡ kind_at q → p ≡ q
 same_at (message c k) (message d l) is also e kind = same_message c k d l is also e
 same_at (message c k) (resource (Certificate n)) is also e kind = cc
@@ -51,12 +51,12 @@ same_at (resource (Body m)) (resource (Body n)) is also e kind =
 same_at (resource (Body m)) q is also e kind = cc
 same_at (resource r) q is also e kind = at_fixed r q kind
 
--- paths of one text are one
+-- paths with the same text are equal
 pub same_path : (p q : Path) → IsPath p → IsPath q → path_text p ≡ path_text q → p ≡ q
 same_path p q is also e =
     same_at p q is also e (same_route (path_text p) (row_of (kind_at p)) q also (routed p is) e)
 
--- a head asks one thing
+-- a head has at most one reading
 one_of_head : (h : RequestHead) (rest : List ℕ) (a b : Ask) → HeadAsks h rest a → HeadAsks h rest b → a ≡ b
 one_of_head h rest a b (inl (none, e)) (inl (also, f)) = e ∙ sym f
 one_of_head h rest a b (inl (none, e)) (inr (p, is, text, f)) = absurd (none p is text)
@@ -64,7 +64,7 @@ one_of_head h rest a b (inr (p, is, text, e)) (inl (none, f)) = absurd (none p i
 one_of_head h rest a b (inr (p, is, text, e)) (inr (q, also, other, f)) =
     e ∙ ap (λ r. asked_at r h rest) (same_path p q is also (sym text ∙ other)) ∙ sym f
 
--- a request asks one thing
+-- a request has at most one reading
 pub one_of : (bytes : List ℕ) (a b : Ask) → Asks bytes a → Asks bytes b → a ≡ b
 one_of bytes a b (inl (none, e)) (inl (also, f)) = e ∙ sym f
 one_of bytes a b (inl (none, e)) (inr (h, rest, good, asked)) = absurd (none h rest good)

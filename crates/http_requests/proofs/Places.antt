@@ -1,4 +1,4 @@
--- What may follow in a head, byte by byte.
+-- The bytes that may follow in a head, byte by byte.
 use Rattle.std.proofs.Common.{◌≡◌, ◌⊎◌, inl, inr, ℕ, ◌+◌, ◌<◌, ◌≤◌, List, [], ◌∷◌, ◌++◌, length, drop, get_or}
 use Rattle.std.proofs.Common.{codes, refl, sym, ap, add-one, subst}
 use Rattle.std.proofs.Common.{◌∙◌, arith, append_assoc, append-nil, length-append, IsTrue}
@@ -22,7 +22,7 @@ use Rattle.http_requests.specs.Places.{IsSection, IsEnd, IsFeed, IsValue, IsName
 use Rattle.http_requests.specs.Places.{is_visible, MayFollow, IsHeadOf, EndsAt, Leads, Begins}
 use Rattle.http_requests.specs.Reading.{HasCome, HoldsHead}
 
--- ---- a byte more
+-- ---- one more byte
 
 pub method_more : (least byte : ℕ) → least ≤ 1 → IsTrue (is_token_byte byte) → (count : ℕ) (rest : List ℕ)
     → IsMethod 0 count rest → IsMethod least count (byte ∷ rest)
@@ -126,7 +126,7 @@ pub name_end : (count : ℕ) (rest : List ℕ) → IsValue count rest → IsName
 name_end count rest v =
     record { name = []; rest = rest; valid = All-nil (λ b. IsTrue (is_token_byte b)); next = v; text = refl }
 
--- a line before others
+-- a line before other lines
 line_text : (x : ℕ) (name raw e f l : List ℕ)
     → x ∷ (name ++ 58 ∷ (raw ++ (e ++ (f ++ l)))) ≡ ((((x ∷ name) ++ 58 ∷ raw) ++ e) ++ f) ++ l
 line_text x name raw e f l = sym (simp (append_assoc, cons-append))
@@ -172,7 +172,7 @@ last_line count rest e = record {
 
 -- ---- a head from its first byte
 
--- visible bytes are those of a target, and of ASCII
+-- visible bytes may be in a target, and are ASCII
 visible_uri : (b : ℕ) → IsTrue (is_visible b) → IsTrue (is_uri_byte b)
 visible_uri b is = grind (arith, nat_tests)
 
@@ -185,7 +185,7 @@ visible_ascii bytes all i = elim (cases_lt i (length bytes)) [
   | inr le ↦ rw (get_or_past bytes i 0 le) (omega arith)
 ]
 
--- what may follow no byte is a head
+-- what may follow the empty list of bytes is a head
 pub starts : EndsAt Start 0 []
 starts count rest m =
     let t = m.next in
@@ -223,19 +223,19 @@ starts count rest m =
 
 -- ---- places
 
--- a head in two pieces, of which the first ends in a byte
+-- a head in two pieces, the first of which ends in a byte
 joined : (lines : ℕ) (bytes rest : List ℕ) (byte : ℕ) → IsHeadOf lines (bytes ++ byte ∷ rest)
     → IsHeadOf lines ((bytes ++ byte ∷ []) ++ rest)
 joined lines bytes rest byte whole =
     subst (IsHeadOf lines) (sym (append_assoc bytes (byte ∷ []) rest)) whole
 
--- where a byte leads, the bytes with it end there
+-- if a byte leads to a place, the bytes up to it end there
 pub next_at : (place next : Place) (lines byte : ℕ) (bytes : List ℕ) → Leads place byte next
     → EndsAt place lines bytes → EndsAt next lines (bytes ++ byte ∷ [])
 next_at place next lines byte bytes leads at =
     λ count rest follows. joined (lines + count) bytes rest byte (at count (byte ∷ rest) (leads count rest follows))
 
--- so they do where it begins a line
+-- if a byte begins a header line, the bytes up to it end in its name
 pub begin_at : (place : Place) (lines byte : ℕ) (bytes : List ℕ) → Begins place byte
     → EndsAt place lines bytes → EndsAt Name (lines + 1) (bytes ++ byte ∷ [])
 begin_at place lines byte bytes begins at = λ count rest follows.
@@ -244,7 +244,7 @@ begin_at place lines byte bytes begins at = λ count rest follows.
     let whole = at (1 + count) (byte ∷ rest) (begins count rest follows) in
     joined ((lines + 1) + count) bytes rest byte (subst P more whole)
 
--- bytes after which some may follow wait
+-- if at least one byte may follow, the bytes wait: they hold no head, but may become one
 waits_by : (place : Place) (lines count : ℕ) (bytes rest : List ℕ) → EndsAt place lines bytes
     → MayFollow place count rest → 0 < length rest → HasCome Waits bytes
 waits_by place lines count bytes rest at follows some =
@@ -256,7 +256,7 @@ waits_by place lines count bytes rest at follows some =
       inl (rest, whole.head, whole.reads),
     )
 
--- ---- each place but the last waits
+-- ---- each place except the last can be continued
 
 one_section : IsSection 0 (10 ∷ [])
 one_section = last_line 0 [] (refl, refl)
@@ -277,7 +277,7 @@ one_method : IsMethod 1 0 (65 ∷ 32 ∷ 47 ∷ 32 ∷ (codes "HTTP/1." ++ 48 �
 unfolding is_token_byte
 one_method = method_more 1 65 (omega arith) refl 0 _ (method_end 0 _ one_target)
 
--- at any place that isn't the end and isn't elsewhere
+-- the same at any place except the end and `Elsewhere`
 pub waits_at : (place : Place) (lines : ℕ) (bytes : List ℕ) → ¬ (place ≡ Whole) → ¬ (place ≡ Elsewhere)
     → EndsAt place lines bytes → HasCome Waits bytes
 waits_at Start lines bytes a b at = waits_by Start lines 0 bytes _ at one_method (omega arith)
@@ -304,6 +304,6 @@ whole_at lines bytes at few =
     let P : List ℕ → Type 0 = λ t. ReadsRequest t whole.head [] in
     (whole.head, [], (subst P (append-nil bytes) whole.reads, omega (arith, whole.size)))
 
--- no byte waits
+-- the empty list of bytes may become a head
 pub nothing_waits : HasCome Waits []
 nothing_waits = waits_at Start 0 [] (λ e. cc) (λ e. cc) starts

@@ -1,4 +1,4 @@
--- Heads in bytes that come one after the other.
+-- Heads in bytes that come one at a time.
 use Rattle.std.proofs.Common.{◌≡◌, ℕ, ◌≤◌, List, [], ◌∷◌, ◌++◌, length, take, Bool, true}
 use Rattle.std.proofs.Common.{false, refl, sym, ap, ◌∙◌, arith, length-append, subst, nat_lt}
 use Rattle.std.proofs.Math.Seq.{take-append_seam, take-length}
@@ -10,11 +10,11 @@ use Rattle.http_requests.specs.Heads.{IsGood}
 use Rattle.http_requests.specs.Reading.{HoldsNone, IsNoMore, HasCome, WaitsBefore}
 use Rattle.http_requests.specs.declared.progress.Progress.TheVariants.{Waits}
 
--- nothing comes before no bytes
+-- the empty list has no shorter prefix
 pub waits_before_nothing : WaitsBefore []
 waits_before_nothing n below = absurd (omega (arith, below))
 
--- bytes that wait, and one more
+-- bytes that may become a head, and one more byte
 pub waits_before_more : (bytes : List ℕ) (b : ℕ) → WaitsBefore bytes → HasCome Waits bytes
     → WaitsBefore (bytes ++ b ∷ [])
 waits_before_more bytes b before waits n below =
@@ -30,7 +30,7 @@ waits_before_more bytes b before waits n below =
         let same : n ≡ length bytes = grind (arith, nat_tests) in
         subst P (sym (ap (λ n. take n bytes) same ∙ take-length bytes)) waits
 
--- with a head in no shorter beginning, a head is all the bytes
+-- if no shorter prefix has a head, a head is all of the bytes
 pub no_more_of_waits : (bytes : List ℕ) → WaitsBefore bytes → IsNoMore bytes
 no_more_of_waits bytes before h [] reads = refl
 no_more_of_waits bytes before h (x ∷ rest) reads =
@@ -41,7 +41,7 @@ no_more_of_waits bytes before h (x ∷ rest) reads =
     let none = subst P cut (before (length p) (omega (arith, size))).0 in
     absurd (none h [] ((reads.0.0, sym (append-nil p)), reads.1))
 
--- a good head that is all the bytes is one of these bytes with a body after it
+-- a good head that is all of the bytes is a head of these bytes with a body after them
 pub good_with_body : (before body rest : List ℕ) (h : RequestHead) → IsGood before h rest → IsNoMore before
     → IsGood (before ++ body) h body
 good_with_body before body rest h good all =

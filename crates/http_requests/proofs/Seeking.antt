@@ -1,4 +1,4 @@
--- How the search of a router goes along a path: through literal bytes, and past a parameter.
+-- The search of a router along a path: through literal bytes, and past a parameter.
 use Rattle.std.proofs.Common.{◌≡◌, ℕ, zero, suc, ◌-◌, ◌<◌, List, [], ◌∷◌, ◌++◌, length, get_or, drop, Some, None}
 use Rattle.std.proofs.Common.{true, false, cond, refl, ap, ◌∙◌, subst, arith, ◌==◌, nat_eq, length-append}
 use Rattle.std.specs.Prelude.{ltb}
@@ -16,26 +16,26 @@ abbrev pub steps : {K : Type 0} → List ℕ → RowsOf K → RowsOf K
 steps [] rs = rs
 steps (b ∷ w) rs = steps w (step b rs)
 
--- a byte that stands in a row leads to the rows after it
+-- if the rows after a byte match the rest of a path, the rows match the path
 lit_step : {K : Type 0} (b : ℕ) (rs : RowsOf K) (p : List ℕ) (k : K) → seek 0 (step b rs) p ≡ Some k
     → seek 0 rs (b ∷ p) ≡ Some k
 unfolding seek
 lit_step b rs p k e = rw e refl
 
--- bytes that stand in a row lead to the rows after them
+-- the same for several bytes
 pub lits : {K : Type 0} (w : List ℕ) (rs : RowsOf K) (p : List ℕ) (k : K) → seek 0 (steps w rs) p ≡ Some k
     → seek 0 rs (w ++ p) ≡ Some k
 lits [] rs p k e = e
 lits (b ∷ w) rs p k e = lit_step b rs (w ++ p) k (lits w (step b rs) p k e)
 
--- a parameter of no row leads to no row
+-- without rows there are none after a parameter
 param_nothing : {K : Type 0} (p : List ℕ) → (param_step {K = K} [] p).1 ≡ []
 unfolding param_step
 param_nothing {K = K} p =
     elim (has_slash p) as (λ v. (cond {A = ℕ × RowsOf K} v (0, []) (length p, [])).1 ≡ [])
     [ true ↦ refl | false ↦ refl ]
 
--- no row is found among none
+-- a search among no rows finds none
 seek_nothing : {K : Type 0} (n : ℕ) (p : List ℕ) → seek {K = K} n [] p ≡ None
 unfolding seek
 seek_nothing n [] = refl
@@ -47,14 +47,14 @@ seek_nothing {K = K} zero (b ∷ p) =
       seek_nothing {K = K} ((param_step {K = K} [] (b ∷ p)).0 - 1) p,
     )
 
--- bytes that are skipped are dropped
+-- skipping bytes is searching without them
 seek_drop : {K : Type 0} (n : ℕ) (rs : RowsOf K) (p : List ℕ) → seek n rs p ≡ seek 0 rs (drop n p)
 unfolding seek
 seek_drop zero rs p = refl
 seek_drop (suc n) rs [] = refl
 seek_drop (suc n) rs (b ∷ p) = seek_drop n rs p
 
--- at the end the row that ends here is found
+-- at the end of the path the row that ends here is found
 pub at_end : {K : Type 0} (rs : RowsOf K) → seek 0 rs [] ≡ own rs
 unfolding seek
 at_end rs = refl
@@ -64,13 +64,13 @@ at_end rs = refl
 abbrev pub HasNoSlash : List ℕ → Type 0
 HasNoSlash c = AllByRecursion (λ b. (b == 47) ≡ false) c
 
--- what a parameter of a path can be: some bytes with no slash, of which the first is a byte
+-- a possible value of a parameter: at least one byte, and no slash, and the first one isn't a parameter's token
 pub record IsPart (c : List ℕ) : Type 0 where
   pub some : 0 < length c
   pub clear : HasNoSlash c
   pub byte : get_or c 0 0 < 256
 
--- the segment of bytes without a slash goes on after them
+-- a segment that begins with bytes without a slash continues after them
 segment_past : (c rest : List ℕ) → HasNoSlash c → segment (c ++ rest) ≡ c ++ segment rest
 segment_past [] rest clear = refl
 segment_past (b ∷ c) rest clear = rw clear.0 (ap (λ s. b ∷ s) (segment_past c rest clear.1))
@@ -79,7 +79,7 @@ slash_in : (c : List ℕ) → HasNoSlash c → has_slash c ≡ false
 slash_in [] clear = refl
 slash_in (b ∷ c) clear = rw clear.0 (slash_in c clear.1)
 
--- no end of such bytes is a slash
+-- no suffix of such bytes is a slash
 no_slash_end : (n : ℕ) (c : List ℕ) → HasNoSlash c → pointwise nat_eq (47 ∷ []) (drop n c) ≡ false
 no_slash_end zero [] clear = refl
 no_slash_end (suc n) [] clear = refl
@@ -88,11 +88,11 @@ no_slash_end zero (b ∷ c) clear =
     rw apart refl
 no_slash_end (suc n) (b ∷ c) clear = no_slash_end n c clear.1
 
--- a slash cuts nothing off bytes that have none
+-- bytes without a slash don't end in one
 pub cuts_none : (c : List ℕ) → HasNoSlash c → cuts c (47 ∷ []) ≡ false
 cuts_none c clear = and_right (ltb 1 (length c)) _ (no_slash_end (length c - 1) c clear)
 
--- a slash cuts off what is before it
+-- a slash after at least one byte is a proper suffix
 pub cuts_slash : (c : List ℕ) → 0 < length c → cuts (c ++ 47 ∷ []) (47 ∷ []) ≡ true
 cuts_slash c some =
     let size = length-append c (47 ∷ []) in
@@ -100,7 +100,7 @@ cuts_slash c some =
     let d = ap (λ n. drop n (c ++ 47 ∷ [])) e ∙ drop-append_seam c (47 ∷ []) in
     rw (lt-ltb 1 (length (c ++ 47 ∷ [])) (omega (arith, size)), d) refl
 
--- a parameter and what comes after it, where no literal fits
+-- a parameter and the bytes after it, if no literal byte matches
 param_found : {K : Type 0} (rs after : RowsOf K) (c rest : List ℕ) (k : K) → IsPart c
     → ((x : ℕ) → x < 256 → step x rs ≡ []) → param_step (step param_token rs) (c ++ rest) ≡ (length c, after)
     → seek 0 after rest ≡ Some k → seek 0 rs (c ++ rest) ≡ Some k
@@ -112,7 +112,7 @@ param_found {K = K} rs after (x ∷ p) rest k part miss step_is found =
     seek_drop (length p) after (p ++ rest) ∙ ap (seek 0 after) (drop-append_seam p rest) in
     rw (miss x part.byte, seek_nothing {K = K} 0 (p ++ rest), step_is, less, past, found) refl
 
--- a parameter up to a slash
+-- a parameter that extends to a slash
 pub to_slash : {K : Type 0} (rs : RowsOf K) (c rest : List ℕ) (k : K) → IsPart c → ((x : ℕ) → x < 256 → step x rs ≡ [])
     → longest_suffix (c ++ 47 ∷ []) (step param_token rs) ≡ 47 ∷ []
     → seek 0 (with_suffix (47 ∷ []) (step param_token rs)) (47 ∷ rest) ≡ Some k → seek 0 rs (c ++ 47 ∷ rest) ≡ Some k
@@ -123,7 +123,7 @@ to_slash rs c rest k part miss longest found =
     let size : length (c ++ 47 ∷ []) - 1 ≡ length c = omega (arith, length-append c (47 ∷ [])) in
     param_found rs after c (47 ∷ rest) k part miss (rw (cut, longest) (ap (λ n. (n, after)) size)) found
 
--- a parameter up to the end
+-- a parameter that extends to the end
 pub to_end : {K : Type 0} (rs : RowsOf K) (c : List ℕ) (k : K) → IsPart c → ((x : ℕ) → x < 256 → step x rs ≡ [])
     → longest_suffix c (step param_token rs) ≡ [] → own (step param_token rs) ≡ Some k → seek 0 rs c ≡ Some k
 unfolding param_step

@@ -1,4 +1,4 @@
--- What an answer stands for.
+-- The ask that a returned value represents.
 use Rattle.http_requests.specs.declared.asked.Asked.{Asked}
 use Rattle.http_requests.specs.declared.asked.Asked.TheVariants.{Refused, Get, Post}
 use Rattle.http_requests.specs.Asks.{Ask, refused, get, post}

@@ -1,4 +1,4 @@
--- What was found of the values of one name.
+-- The values that were found for one name.
 use Rattle.std.specs.Prelude.{◌≡◌, ℕ, ◌≤◌, List, [], ◌∷◌, length, map}
 use Rattle.httparse.specs.declared.spans.HeaderSpan.{HeaderSpan}
 use Rattle.httparse.specs.Spans.{header_bytes}
@@ -6,7 +6,7 @@ use Rattle.http_requests.specs.Heads.{values}
 use Rattle.http_requests.specs.declared.fields.FieldValues.{FieldValues}
 use Rattle.http_requests.specs.declared.fields.FieldValues.TheVariants.{None, One, Several}
 
--- the values that the headers of this name cover, in order
+-- the values in the spans of the headers with this name, in order
 abbrev pub covered : List ℕ → List ℕ → List HeaderSpan → List (List ℕ)
 covered name bytes headers = values name (map (header_bytes bytes) headers)
 

@@ -1,4 +1,4 @@
--- The paths that are answered, as texts.
+-- The supported paths, as texts.
 use Rattle.std.specs.Prelude.{⊤, ℕ, List, ◌++◌, codes, decimal, IsTrue}
 use Rattle.values.specs.Names.{is_name}
 use Rattle.values.specs.Serials.{is_serial}
@@ -6,12 +6,12 @@ use Rattle.http_requests.specs.declared.resource.Resource.{Resource}
 use Rattle.http_requests.specs.declared.resource.Resource.TheVariants.{Pending, Certificate, Body}
 use Rattle.http_requests.specs.declared.resource.Resource.TheVariants.{RevocationList, Signers, Table, Cas}
 
--- where a path leads: to the messages of a caller under a request key, or to a resource
+-- a path leads to the messages of a caller under a request ID (`key`), or to a resource
 pub data Path : Type 0 where
   message : (caller key : List ℕ) → Path
   resource : Resource → Path
 
--- names are names, and a serial is one
+-- names and serials are valid
 abbrev pub IsPath : Path → Type 0
 IsPath (message caller key) = IsTrue (is_name caller) × IsTrue (is_name key)
 IsPath (resource (Certificate n)) = IsTrue (is_serial n)

@@ -1,4 +1,4 @@
--- What may follow in a head: by the place where the bytes that came end, so many more header lines and these bytes.
+-- What may follow in a head after a place: the remaining bytes, with `count` more header lines.
 use Rattle.std.specs.Prelude.{◌≡◌, ℕ, ◌+◌, ◌≤◌, Bool, ◌&&◌, nat_lt, List, [], ◌∷◌, ◌++◌, length, drop, codes, All}
 use Rattle.httparse.specs.Ascii.{line_feed, space, digit_zero, colon, del}
 use Rattle.httparse.specs.Grammar.{Field, IsField, LineEnd, RequestHead, ReadsRequest, AllPass}
@@ -9,7 +9,7 @@ use Rattle.http_requests.specs.declared.growing.Place.TheVariants.{Start, Method
 use Rattle.http_requests.specs.declared.growing.Place.TheVariants.{VersionEnd, Feed, Line, LastFeed, Name, Value}
 use Rattle.http_requests.specs.declared.growing.Place.TheVariants.{Whole, Elsewhere}
 
--- so many header lines, and the empty line
+-- `count` header lines, and the empty line
 pub record IsSection (count : ℕ) (bytes : List ℕ) : Type 0 where
   pub fields : List Field
   pub last : LineEnd
@@ -17,20 +17,20 @@ pub record IsSection (count : ℕ) (bytes : List ℕ) : Type 0 where
   pub size : length fields ≡ count
   pub text : bytes ≡ print_section fields last
 
--- the end of a line, and what follows it
+-- the end of a line, and the bytes after it
 pub record IsEnd (count : ℕ) (bytes : List ℕ) : Type 0 where
   pub end : LineEnd
   pub rest : List ℕ
   pub next : IsSection count rest
   pub text : bytes ≡ print_end end ++ rest
 
--- the line feed of an end of two bytes, and what follows it
+-- the line feed of an end of two bytes, and the bytes after it
 pub record IsFeed (count : ℕ) (bytes : List ℕ) : Type 0 where
   pub rest : List ℕ
   pub next : IsSection count rest
   pub text : bytes ≡ line_feed ∷ rest
 
--- what is left of a value
+-- the rest of a value
 pub record IsValue (count : ℕ) (bytes : List ℕ) : Type 0 where
   pub raw : List ℕ
   pub rest : List ℕ
@@ -38,7 +38,7 @@ pub record IsValue (count : ℕ) (bytes : List ℕ) : Type 0 where
   pub next : IsEnd count rest
   pub text : bytes ≡ raw ++ rest
 
--- what is left of a name
+-- the rest of a name
 pub record IsName (count : ℕ) (bytes : List ℕ) : Type 0 where
   pub name : List ℕ
   pub rest : List ℕ
@@ -46,7 +46,7 @@ pub record IsName (count : ℕ) (bytes : List ℕ) : Type 0 where
   pub next : IsValue count rest
   pub text : bytes ≡ name ++ colon ∷ rest
 
--- what is left of a version, of which so many bytes came
+-- the rest of a version after its first `came` bytes
 pub record IsVersion (came count : ℕ) (bytes : List ℕ) : Type 0 where
   pub minor : ℕ
   pub rest : List ℕ
@@ -54,11 +54,11 @@ pub record IsVersion (came count : ℕ) (bytes : List ℕ) : Type 0 where
   pub next : IsEnd count rest
   pub text : bytes ≡ drop came (codes "HTTP/1.") ++ (digit_zero + minor) ∷ rest
 
--- a visible byte of ASCII
+-- a visible ASCII byte
 abbrev pub is_visible : ℕ → Bool
 is_visible b = nat_lt space b && nat_lt b del
 
--- what is left of a target of such bytes: at least so many
+-- the rest of a target of visible bytes: at least `least` of them
 pub record IsTarget (least count : ℕ) (bytes : List ℕ) : Type 0 where
   pub target : List ℕ
   pub rest : List ℕ
@@ -67,7 +67,7 @@ pub record IsTarget (least count : ℕ) (bytes : List ℕ) : Type 0 where
   pub next : IsVersion 0 count rest
   pub text : bytes ≡ target ++ space ∷ rest
 
--- what is left of a method: at least so many bytes
+-- the rest of a method: at least `least` bytes
 pub record IsMethod (least count : ℕ) (bytes : List ℕ) : Type 0 where
   pub method : List ℕ
   pub rest : List ℕ
@@ -76,7 +76,7 @@ pub record IsMethod (least count : ℕ) (bytes : List ℕ) : Type 0 where
   pub next : IsTarget 1 count rest
   pub text : bytes ≡ method ++ space ∷ rest
 
--- these are bytes that may follow
+-- these bytes, with `count` more header lines, complete a head from this place (from `Elsewhere`, none do)
 abbrev pub MayFollow : Place → ℕ → List ℕ → Type 0
 MayFollow Start count bytes = IsMethod 1 count bytes
 MayFollow Method count bytes = IsMethod 0 count bytes
@@ -92,13 +92,13 @@ MayFollow Value count bytes = IsValue count bytes
 MayFollow Whole count bytes = (count ≡ 0) × (bytes ≡ [])
 MayFollow Elsewhere count bytes = ⊥
 
--- the bytes are a head of so many header lines
+-- the bytes are a head with `lines` header lines
 pub record IsHeadOf (lines : ℕ) (bytes : List ℕ) : Type 0 where
   pub head : RequestHead
   pub reads : ReadsRequest bytes head []
   pub size : length head.fields ≡ lines
 
--- where the bytes end, so many header lines began: with any bytes that may follow there they are a head
+-- the bytes end at this place, after the start of `lines` header lines: any bytes that may follow complete a head
 abbrev pub EndsAt : Place → ℕ → List ℕ → Type 0
 EndsAt place lines bytes =
     (count : ℕ) (rest : List ℕ) → MayFollow place count rest → IsHeadOf (lines + count) (bytes ++ rest)

@@ -27,10 +27,10 @@ response_head status media size =
 abbrev pub response_text : ℕ → MediaType → List ℕ → List ℕ
 response_text status media body = response_head status media (length body) ++ body
 
--- the body that says a refusal
+-- the body of a refusal
 abbrev pub refusal_text : Refusal → List ℕ
 refusal_text r = codes "refused " ++ decimal (refusal_number r) ++ codes " " ++ refusal_name r ++ codes "\n"
 
--- the response that says a refusal
+-- the response of a refusal
 abbrev pub refusal_response : Refusal → List ℕ
 refusal_response r = response_text (refusal_status r) PlainText (refusal_text r)

@@ -1,4 +1,4 @@
--- The path that a route stands for.
+-- The path that a route represents.
 use Rattle.http_requests.specs.declared.route.Route.{Route}
 use Rattle.http_requests.specs.declared.route.Route.TheVariants.{Message, Resource}
 use Rattle.http_requests.specs.Paths.{Path, message, resource}

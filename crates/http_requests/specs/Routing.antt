@@ -1,4 +1,4 @@
--- The routes as the router keeps them.
+-- The routes as the router stores them.
 use Rattle.std.specs.Prelude.{ℕ, List, [], ◌∷◌, ◌++◌, Result, Ok, Err, codes}
 use Rattle.matchit.specs.declared.error.InsertError.{InsertError}
 use Rattle.matchit.specs.Order.{placed}
@@ -17,7 +17,7 @@ pattern_of Certificate = codes "/v1/certs/" ++ param_token ∷ []
 pattern_of Body = codes "/v1/certs/" ++ param_token ∷ codes "/body"
 pattern_of (Fixed r) = path_text (resource r)
 
--- its text, and the places of its parameters' names in it
+-- its text, and the positions of its parameters' names in it
 abbrev pub text_of : RouteKind → List ℕ
 text_of Message = codes "/v1/callers/{caller}/requests/{key}"
 text_of Certificate = codes "/v1/certs/{serial}"
@@ -38,7 +38,7 @@ abbrev pub rows_of : List RouteKind → RowsOf (RouteOf RouteKind)
 rows_of [] = []
 rows_of (kind ∷ rest) = (pattern_of kind, row_of kind) ∷ rows_of rest
 
--- the routes, in the order in which a router keeps them
+-- the routes, in the order in which a router stores them
 abbrev pub kinds : List RouteKind
 kinds =
     Message ∷ Fixed Cas ∷ Body ∷ Certificate ∷ Fixed RevocationList ∷ Fixed Pending ∷ Fixed Signers ∷ Fixed Table ∷ []
@@ -51,7 +51,7 @@ routing = rows_of kinds
 abbrev pub routing_by_parameters : RowsOf (RouteOf RouteKind)
 routing_by_parameters = rows_of (Message ∷ Body ∷ Certificate ∷ [])
 
--- the rows of a router once it has taken in the route with this text
+-- the rows of a router after a route was inserted, if its text is valid
 abbrev with_read : Result Scan InsertError → RouteKind → RowsOf (RouteOf RouteKind) → RowsOf (RouteOf RouteKind)
 with_read (Ok scan) kind rows = placed (scan.pattern, route_from scan kind) rows
 with_read (Err e) kind rows = rows

@@ -1,4 +1,4 @@
--- What a read head says of the head in the bytes.
+-- A head that was read, compared with the head in the bytes.
 use Rattle.std.specs.Prelude.{◌≡◌}
 use Rattle.httparse.specs.Grammar.{RequestHead}
 use Rattle.http_requests.specs.declared.head.Head.{Head}

@@ -1,4 +1,4 @@
-//! What a request asks.
+//! What a request asks for.
 
 ghost use Rattle.std.specs.Prelude.{◌≡◌};
 ghost use Rattle.http_requests.specs.Asks.{Asks, IsLawful};
@@ -11,18 +11,18 @@ use crate::resource::Resource;
 use crate::router::Routes;
 use values::Refusal;
 
-/// What a request asks.
+/// What a request asks for.
 #[derive(Clone, Copy, Drop)]
 pub enum Asked<'a> {
     /// Nothing that is answered: one of the refusals from `BadHead` to `ShortBody`.
     Refused(Refusal),
     /// A resource.
     Get(Resource),
-    /// That the office take a message of this caller under this request key. Both are names.
+    /// That the office accept a message of this caller under this request ID. Both are valid names.
     Post {
         /// The caller's name.
         caller: &'a [u8],
-        /// The request key.
+        /// The request ID.
         key: &'a [u8],
         /// The bytes of the body, at most `MAX_BODY`.
         message: &'a [u8],
@@ -30,7 +30,7 @@ pub enum Asked<'a> {
 }
 
 impl<'a> Plan<'a> {
-    /// What is asked with these bytes after the head. Bytes after the body aren't looked at.
+    /// What is asked with these bytes after the head. Bytes after the body are ignored.
     fn with(self, rest: &'a [u8]) -> Asked<'a>
         ensures { ask_of result ≡ plan_ask self.entry rest.now }
     {
@@ -51,8 +51,8 @@ impl<'a> Plan<'a> {
     }
 }
 
-/// What the bytes of a request ask (RFC 9112, section 3). Bytes after the body, and all bytes after the head of a GET,
-/// aren't looked at.
+/// What the bytes of a request ask for (RFC 9112, section 3). Bytes after the body, and all bytes after the head of a
+/// GET, are ignored.
 pub fn asks<'a>(routes: &Routes, request: &'a [u8]) -> Asked<'a>
     ensures asked { Asks request.now (ask_of result) }
     ensures lawful { IsLawful (ask_of result) }

@@ -1,4 +1,4 @@
-//! The values of header lines of one name.
+//! The values of header lines with one name.
 
 ghost use Rattle.std.specs.Prelude.{◌≡◌, ℕ, ◌+◌, ◌≤◌, ◌<◌, List, [], ◌∷◌, ◌++◌, length};
 ghost use Rattle.std.specs.Prelude.{min, All, IfSome, IfNone, OnSome, codes, nat_lt};
@@ -11,7 +11,7 @@ ghost use Rattle.http_requests.specs.FieldValues.{AreFound, covered};
 use crate::limits::MAX_BODY;
 use httparse::spans::HeaderSpan;
 
-/// The values of the header lines of one name, as far as they matter.
+/// The values of the header lines with one name, as far as they matter.
 #[derive(Clone, Copy, Drop)]
 enum FieldValues<'a> {
     None,
@@ -31,14 +31,14 @@ impl<'a> FieldValues<'a> {
     }
 }
 
-/// Whether two names are one, in letters of either case.
+/// Whether two names are equal, ignoring ASCII case.
 fn is_same_name(name: &[u8], other: &[u8]) -> bool
     ensures { result ≡ str_eq_ignore_ascii_case name.now other.now }
 {
     name.eq_ignore_ascii_case(other)
 }
 
-/// The values of the lines of this name.
+/// The values of the lines with this name.
 fn values_of<'a>(bytes: &'a [u8], headers: &[HeaderSpan], name: &[u8]) -> FieldValues<'a>
     requires { All (IsHeaderWithin (length bytes.now)) headers.now }
     ensures { AreFound result (covered name.now bytes.now headers.now) }
@@ -52,7 +52,7 @@ fn values_of<'a>(bytes: &'a [u8], headers: &[HeaderSpan], name: &[u8]) -> FieldV
     found
 }
 
-/// The number that the digits write, or one over the limit of a body where it is larger.
+/// The number in these digits, or one over the limit of a body if it is larger.
 fn capped(digits: &[u8]) -> Option<usize>
     ensures numeral { OnSome result (IsNumeral 10 digits.now) }
     ensures some { IfSome result (λ n. n ≡ min (MAX_BODY + 1) (digits_value 10 digits.now)) }
@@ -71,7 +71,7 @@ fn capped(digits: &[u8]) -> Option<usize>
     Some(n)
 }
 
-/// The length that the lines state, if they may state it.
+/// The length that the lines state, if any, or `None` if they are invalid.
 pub(crate) fn stated_length(bytes: &[u8], headers: &[HeaderSpan]) -> Option<Option<usize>>
     requires { All (IsHeaderWithin (length bytes.now)) headers.now }
     ensures lawful { OnSome result (AreLawful (covered (codes "content-length") bytes.now headers.now)) }

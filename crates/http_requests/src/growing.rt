@@ -8,24 +8,24 @@ use crate::limits::MAX_HEADER_LINES;
 use crate::progress::{Progress, progress_of};
 use httparse::{is_header_name_token, is_header_value_token, is_method_token};
 
-/// Where in a head the bytes that came end.
+/// The place in a head after the bytes so far.
 #[derive(Clone, Copy)]
 enum Place {
     /// Before the first byte.
     Start,
     /// In the method.
     Method,
-    /// Behind the space after the method.
+    /// After the space that follows the method.
     BeforeTarget,
     /// In the target.
     Target,
-    /// In the version, of which so many bytes came.
+    /// In the version, after this many of its bytes.
     Version(usize),
-    /// Behind the version.
+    /// After the version.
     VersionEnd,
     /// Between the two bytes that end a line.
     Feed,
-    /// Where a header line or the empty line begins.
+    /// At the start of a header line or of the empty line.
     Line,
     /// Between the two bytes of the empty line.
     LastFeed,
@@ -35,21 +35,21 @@ enum Place {
     Value,
     /// At the end.
     Whole,
-    /// Anywhere, or no head at all.
+    /// An unknown place, or no head at all.
     Elsewhere,
 }
 
-/// The front of a version.
+/// The beginning of a version.
 const VERSION: &[u8] = b"HTTP/1.";
 
-/// Whether it is a visible byte of ASCII.
+/// Whether it is a visible ASCII byte.
 fn is_visible(byte: u8) -> bool
     ensures { result ≡ is_visible byte }
 {
     b' ' < byte && byte < 127
 }
 
-/// Where a byte of the version leads, or the one after it.
+/// The place after a byte of the version.
 fn in_version(came: usize, byte: u8) -> Place
     ensures { Leads (Place.Version came) byte result }
 {
@@ -65,7 +65,7 @@ fn in_version(came: usize, byte: u8) -> Place
     Place::Elsewhere
 }
 
-/// Where a byte of a header line leads, or one that ends a line.
+/// The place after a byte in a header line or at the end of a line.
 fn in_line(place: Place, byte: u8) -> Place
     ensures { Leads place byte result }
 {
@@ -85,7 +85,7 @@ fn in_line(place: Place, byte: u8) -> Place
     }
 }
 
-/// Where a byte leads that begins no header line: elsewhere, where the place doesn't tell that it may stand there.
+/// The place after a byte that begins no header line: `Elsewhere` if it isn't known that the byte may follow.
 fn next_place(place: Place, byte: u8) -> Place
     ensures { Leads place byte result }
 {
@@ -111,9 +111,9 @@ fn begins_line(place: Place, byte: u8) -> bool
     }
 }
 
-/// Where in a head the bytes that came end, and how many header lines began before that.
+/// The place in a head after the bytes so far, and how many header lines began before it.
 ///
-/// Most bytes tell by where they stand what has come, and only where these don't tell, all bytes are parsed.
+/// For most bytes the place decides the progress. All bytes are parsed only if it doesn't.
 #[derive(Clone, Copy)]
 pub struct Spot {
     place: Place,
@@ -131,7 +131,7 @@ impl Spot {
         }
     }
 
-    /// Behind one byte more.
+    /// After one more byte.
     pub fn next(self, byte: u8) -> Spot
         ensures { (bytes : List ℕ) → IsAt self bytes → IsAt result (bytes ++ byte ∷ []) }
     {
@@ -147,8 +147,8 @@ impl Spot {
         }
     }
 
-    /// What has come of a head, which the bytes are up to here. As `progress_of`, but that the bytes are parsed only
-    /// where the spot doesn't tell.
+    /// The progress of a head, given the bytes so far. Like `progress_of`, but the bytes are parsed only if the place
+    /// doesn't decide.
     pub fn progress(self, bytes: &[u8]) -> Progress
         requires { IsAt self bytes.now }
         ensures { HasCome result bytes.now }

@@ -11,18 +11,18 @@ use crate::limits::{MAX_HEAD, MAX_HEADER_LINES};
 use httparse::Status;
 use httparse::spans::{EMPTY_HEADER_SPAN, HeaderSpan, RequestSpans, parse_request};
 
-/// What the head of a request says (RFC 9112, sections 2 to 6).
+/// The contents of a request's head (RFC 9112, sections 2 to 6).
 #[derive(Clone, Copy, Drop)]
 pub struct Head<'a> {
-    /// The method, as it stands in the request line.
+    /// The method, as it is in the request line.
     pub method: &'a [u8],
-    /// The request target, as it stands in the request line.
+    /// The request target, as it is in the request line.
     pub target: &'a [u8],
-    /// The length of the body that the head states, or `MAX_BODY + 1` where it is larger.
+    /// The length of the body that the head states, or `MAX_BODY + 1` if it is larger.
     pub stated: Option<usize>,
-    /// Whether a `transfer-encoding` line is there.
+    /// Whether there is a `transfer-encoding` line.
     pub is_coded: bool,
-    /// How many bytes the head has.
+    /// The length of the head in bytes.
     pub len: usize,
 }
 
@@ -39,8 +39,8 @@ fn spans_of(front: &[u8], headers: &mut [HeaderSpan]) -> Option<RequestSpans>
     }
 }
 
-/// What the head says that the bytes begin with (RFC 9112, sections 2 to 6). `None` where there is none of at most
-/// `MAX_HEAD` bytes and `MAX_HEADER_LINES` header lines, or where it has two `content-length` lines or one whose value
+/// The contents of the head that the bytes begin with (RFC 9112, sections 2 to 6). `None` if there is none of at most
+/// `MAX_HEAD` bytes and `MAX_HEADER_LINES` header lines, or if it has two `content-length` lines or one whose value
 /// isn't all digits.
 pub fn read_head(bytes: &[u8]) -> Option<Head<'_>>
     ensures within { IfSome result (λ r. r.len ≤ length bytes.now) }

@@ -1,9 +1,9 @@
-//! What the bytes of an HTTP request ask, and the texts of the responses.
+//! What the bytes of an HTTP request ask for, and the texts of the responses.
 //!
-//! `asks` finds in the bytes of a request the one thing that they ask: a resource, that a message be taken, or nothing
-//! that is answered, which is then the first refusal that applies. Heads are those of RFC 9112 within fixed limits, and
-//! a path leads somewhere exactly where it is the text of a route. Responses are written into room that was reserved
-//! before, so that nothing can fail once there is something to answer.
+//! `asks` finds what the bytes of a request ask for: a resource, that a message be accepted, or, if it isn't answered,
+//! the first refusal that applies. Heads are those of RFC 9112 within fixed limits. A path is supported exactly when
+//! it is the text of a route. Responses are written into memory that was reserved before, so nothing can fail once
+//! there is an answer.
 #![tactic(auto)]
 
 mod asked;

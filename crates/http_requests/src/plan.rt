@@ -1,4 +1,4 @@
-//! What a head asks for, before the bytes of its body come.
+//! What a head asks for, before the bytes of its body arrive.
 
 ghost use Rattle.std.specs.Prelude.{◌≡◌, ℕ, List, codes, if◌then◌else◌};
 ghost use Rattle.std.specs.Str.{bytes_eq};
@@ -26,13 +26,13 @@ pub enum Plan<'a> {
     Refused(Refusal),
     /// A resource, whatever follows.
     Get(Resource),
-    /// That the office take a message of this caller under this request key. Both are names.
+    /// That the office accept a message of this caller under this request ID. Both are valid names.
     Post {
         /// The caller's name.
         caller: &'a [u8],
-        /// The request key.
+        /// The request ID.
         key: &'a [u8],
-        /// How many bytes the message has, at most `MAX_BODY`.
+        /// The size of the message in bytes, at most `MAX_BODY`.
         size: usize,
     },
 }
@@ -43,7 +43,7 @@ fn has_method(head: &Head<'_>, method: &Method) -> bool
     head.method == method.as_str().as_bytes()
 }
 
-/// The plan of a head that posts to a caller's messages.
+/// The plan for a head that posts to a caller's messages.
 fn post_of<'a>(head: &Head<'_>, caller: &'a [u8], key: &'a [u8]) -> Plan<'a>
     ensures size { (known : List (List ℕ)) → States head.now.stated known
         → plan_size result ≡ stated_size known head.now.is_coded }
@@ -62,7 +62,7 @@ fn post_of<'a>(head: &Head<'_>, caller: &'a [u8], key: &'a [u8]) -> Plan<'a>
     Plan::Post { caller, key, size }
 }
 
-/// The plan of a head at a resource.
+/// The plan for a head at a resource.
 fn get_of<'a>(head: &Head<'_>, resource: Resource) -> Plan<'a>
     ensures size { plan_size result ≡ 0 }
     ensures ask { (h : RequestHead) (rest : List ℕ) → Shows head.now h → plan_ask result rest
@@ -75,7 +75,7 @@ fn get_of<'a>(head: &Head<'_>, resource: Resource) -> Plan<'a>
     }
 }
 
-/// The plan of a head.
+/// The plan for a head.
 pub(crate) fn head_plan<'a>(routes: &Routes, head: &Head<'a>) -> Plan<'a>
     ensures { (h : RequestHead) → IsRequestHead h → Shows head.now h → PlansHead h result }
 {
@@ -95,7 +95,7 @@ pub(crate) fn head_plan<'a>(routes: &Routes, head: &Head<'a>) -> Plan<'a>
     }
 }
 
-/// What the head asks for that the bytes begin with (RFC 9112, section 3), and how many bytes of body that takes.
+/// What the head that the bytes begin with asks for (RFC 9112, section 3), and the size of its body.
 pub fn plan_of<'a>(routes: &Routes, bytes: &'a [u8]) -> Plan<'a>
     ensures { Plans bytes.now result }
 {

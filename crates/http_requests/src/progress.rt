@@ -1,4 +1,4 @@
-//! How much of a head has come.
+//! The progress of a head whose bytes are still coming.
 
 ghost use Rattle.http_requests.specs.Reading.{HasCome};
 
@@ -6,18 +6,18 @@ use crate::limits::MAX_HEADER_LINES;
 use httparse::Status;
 use httparse::spans::{EMPTY_HEADER_SPAN, parse_request};
 
-/// What has come of a head of at most `MAX_HEADER_LINES` header lines.
+/// The progress of a head of at most `MAX_HEADER_LINES` header lines.
 #[derive(Clone, Copy)]
 pub enum Progress {
     /// A whole head.
     Whole,
-    /// No head yet, but bytes that may become one.
+    /// No head yet, but the bytes may become one.
     Waits,
-    /// Bytes that no more bytes can make a head.
+    /// Bytes that can't become a head.
     Hopeless,
 }
 
-/// What has come of a head. The limit on a head's bytes isn't looked at.
+/// The progress of a head in these bytes. The limit on a head's size isn't checked.
 pub fn progress_of(bytes: &[u8]) -> Progress
     ensures { HasCome result bytes.now }
 {

@@ -1,13 +1,13 @@
-//! What a GET gives.
+//! The resources of a GET.
 
-/// What a GET gives. Serials are from 1 to `LAST_SERIAL`.
+/// The resource of a GET. Serials are from 1 to `LAST_SERIAL`.
 #[derive(Clone, Copy)]
 pub enum Resource {
     /// The certificates that are neither signed nor revoked.
     Pending,
     /// The line of the certificate with this serial.
     Certificate(u64),
-    /// The body of the certificate with this serial, the bytes that are signed.
+    /// The unsigned certificate (body) with this serial: the bytes that are signed.
     Body(u64),
     /// The key revocation list.
     RevocationList,

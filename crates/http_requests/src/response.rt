@@ -1,4 +1,4 @@
-//! The texts of responses, written into room that was reserved before, so that writing them can't fail.
+//! The texts of responses, written into memory that was reserved before, so that writing them can't fail.
 
 ghost use Rattle.std.specs.Prelude.{[], ◌≡◌, ◌≤◌, ◌<◌, ◌+◌, ◌^◌, ◌++◌, length, vec_len, vec_capacity};
 ghost use Rattle.std.specs.List.{flat_map, sum_by};
@@ -11,10 +11,10 @@ use http::StatusCode;
 use itoa::Buffer;
 use values::Refusal;
 
-/// No head of a response has more bytes, whatever its status, its media type and its body's length.
+/// The greatest size of a response's head in bytes, for any status, media type and body length.
 pub const MAX_RESPONSE_HEAD: usize = 145;
 
-/// No body that says a refusal has more bytes.
+/// The greatest size of a refusal's body in bytes.
 pub const MAX_REFUSAL: usize = 28;
 
 /// The media type of a body (RFC 9110, section 8.3).
@@ -60,7 +60,7 @@ fn status_of(refusal: Refusal) -> StatusCode
     }
 }
 
-/// The pieces at the end, one after the other.
+/// Appends the pieces in order.
 fn put_pieces(out: &mut Vec<u8>, pieces: &[&[u8]])
     requires { vec_len out.old + length (flat_map (λ p. p.now) pieces.now) ≤ vec_capacity out.old }
     ensures items { out.new.items ≡ out.old.items ++ flat_map (λ p. p.now) pieces.now }
@@ -75,7 +75,7 @@ fn put_pieces(out: &mut Vec<u8>, pieces: &[&[u8]])
     }
 }
 
-/// The head of a response with a body of `size` bytes, at the end.
+/// Appends the head of a response with a body of `size` bytes.
 fn put_head(out: &mut Vec<u8>, status: StatusCode, media: MediaType, size: usize)
     requires valid { IsStatusCode status }
     requires space { vec_len out.old + MAX_RESPONSE_HEAD ≤ vec_capacity out.old }
@@ -104,8 +104,7 @@ fn put_head(out: &mut Vec<u8>, status: StatusCode, media: MediaType, size: usize
     );
 }
 
-/// The head of a response (RFC 9112, sections 4 and 5) with status 200 and a body of `size` bytes, at the end of what
-/// stands in `out`.
+/// Appends to `out` the head of a response (RFC 9112, sections 4 and 5) with status 200 and a body of `size` bytes.
 pub fn begin_response(out: &mut Vec<u8>, media: MediaType, size: usize)
     requires { vec_len out.old + MAX_RESPONSE_HEAD ≤ vec_capacity out.old }
     ensures items { out.new.items ≡ out.old.items ++ response_head 200 media size }
@@ -115,7 +114,7 @@ pub fn begin_response(out: &mut Vec<u8>, media: MediaType, size: usize)
     put_head(out, StatusCode::OK, media, size);
 }
 
-/// How many bytes the pieces have together.
+/// The total length of the pieces.
 fn total_len(pieces: &[&[u8]]) -> usize
     requires { sum_by (λ p. length p.now) pieces.now < 2 ^ 64 }
     ensures { result ≡ sum_by (λ p. length p.now) pieces.now }
@@ -123,7 +122,7 @@ fn total_len(pieces: &[&[u8]]) -> usize
     pieces.iter().map(|piece| piece.len()).sum()
 }
 
-/// A response whose body is the pieces, one after the other, in room that was reserved before.
+/// A response whose body is the pieces in order, in memory that was reserved before.
 fn respond_in_pieces(
     mut room: Vec<u8>,
     status: StatusCode,
@@ -140,7 +139,7 @@ fn respond_in_pieces(
     room
 }
 
-/// A response (RFC 9112, sections 4 and 5) with status 200, in room that was reserved before.
+/// A response (RFC 9112, sections 4 and 5) with status 200, in memory that was reserved before.
 pub fn respond(room: Vec<u8>, media: MediaType, body: &[u8]) -> Vec<u8>
     requires empty { room.items ≡ [] }
     requires space { MAX_RESPONSE_HEAD + length body.now ≤ vec_capacity room }
@@ -149,8 +148,8 @@ pub fn respond(room: Vec<u8>, media: MediaType, body: &[u8]) -> Vec<u8>
     respond_in_pieces(room, StatusCode::OK, media, &[body])
 }
 
-/// The response that says a refusal, in room that was reserved before. Its body is the word `refused`, the refusal's
-/// number and its name, and a line feed.
+/// The response of a refusal, in memory that was reserved before. Its body is the word `refused`, the refusal's number
+/// and its name, and a line feed.
 pub fn refuse(room: Vec<u8>, refusal: Refusal) -> Vec<u8>
     requires empty { room.items ≡ [] }
     requires space { MAX_RESPONSE_HEAD + MAX_REFUSAL ≤ vec_capacity room }

@@ -1,4 +1,4 @@
-//! Where a path leads.
+//! The destination of a path.
 
 ghost use Rattle.std.specs.Prelude.{◌≡◌, ◌≢◌, ◌==◌, ℕ, List, IfSome, IfNone, IsTrue, Some, None, position, decimal};
 ghost use Rattle.matchit.specs.Router.{RouteOf};
@@ -15,16 +15,16 @@ use crate::resource::Resource;
 use crate::router::{RouteKind, Routes};
 use values::{is_name, is_serial, read_decimal};
 
-/// Where a path leads.
+/// The destination of a path.
 #[derive(Clone, Copy, Drop)]
 pub enum Route<'p> {
-    /// To the messages of a caller under a request key.
+    /// The messages of a caller under a request ID.
     Message { caller: &'p [u8], key: &'p [u8] },
-    /// To what a GET gives.
+    /// A resource of a GET.
     Resource(Resource),
 }
 
-/// Which route the path has, its parameters not looked at.
+/// The route of the path, without a check of its parameters.
 fn kind_of(routes: &Routes, path: &str) -> Option<RouteKind>
     ensures some { IfSome result (λ kind.
         (r : RouteOf RouteKind) × (first routing path.now ≡ Some r) × (r.value ≡ kind)) }
@@ -36,14 +36,14 @@ fn kind_of(routes: &Routes, path: &str) -> Option<RouteKind>
     }
 }
 
-/// Where the first slash is.
+/// The position of the first slash.
 fn slash_at(bytes: &[u8]) -> Option<usize>
     ensures { result ≡ position (λ b. b == 47) bytes.now }
 {
     bytes.iter().position(|b| *b == b'/')
 }
 
-/// The caller and the request key in the path of a message.
+/// The caller and the request ID in the path of a message.
 fn message_of(path: &[u8]) -> Option<(&[u8], &[u8])>
     ensures names { IfSome result (λ r. IsPath (message r.0.now r.1.now)) }
     ensures text { IfSome result (λ r. path.now ≡ path_text (message r.0.now r.1.now)) }
@@ -69,7 +69,7 @@ fn message_of(path: &[u8]) -> Option<(&[u8], &[u8])>
     Some((caller, key))
 }
 
-/// The serial that the text writes, from 1 to the last one.
+/// The serial in the text, from 1 to the last one.
 fn serial_of(text: &[u8]) -> Option<u64>
     ensures serial { IfSome result (λ n. IsTrue (is_serial n)) }
     ensures text { IfSome result (λ n. text.now ≡ decimal n) }
@@ -94,7 +94,7 @@ fn certificate_of(path: &[u8]) -> Option<u64>
     serial_of(digits)
 }
 
-/// The serial in the path of a body.
+/// The serial in the path of a certificate's body.
 fn body_of(path: &[u8]) -> Option<u64>
     ensures serial { IfSome result (λ n. IsPath (resource (Resource.Body n))) }
     ensures text { IfSome result (λ n. path.now ≡ path_text (resource (Resource.Body n))) }
@@ -110,7 +110,7 @@ fn body_of(path: &[u8]) -> Option<u64>
     serial_of(digits)
 }
 
-/// Where the path leads.
+/// The destination of the path.
 pub(crate) fn route_of<'p>(routes: &Routes, path: &'p str) -> Option<Route<'p>>
     ensures path { IfSome result (λ r. IsPath (path_of r)) }
     ensures text { IfSome result (λ r. path.now ≡ path_text (path_of r)) }

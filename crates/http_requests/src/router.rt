@@ -1,4 +1,4 @@
-//! The routes, kept for finding.
+//! The routes, stored for lookup.
 
 ghost use Rattle.std.specs.Prelude.{◌≡◌, IfOk};
 ghost use Rattle.matchit.specs.Router.{RouteOf};
@@ -11,7 +11,7 @@ use matchit::Router;
 use std::alloc::Global;
 use text::NoMemory;
 
-/// Which route a path has.
+/// The route of a path.
 #[derive(Clone, Copy)]
 pub enum RouteKind {
     /// `/v1/callers/{caller}/requests/{key}`
@@ -20,11 +20,11 @@ pub enum RouteKind {
     Certificate,
     /// `/v1/certs/{serial}/body`
     Body,
-    /// A path without parameters, that of this resource.
+    /// A path without parameters, which is that of this resource.
     Fixed(Resource),
 }
 
-/// The routes of the office, made once and lent to each call that looks for one.
+/// The routes of the office, made once and borrowed by each call that looks one up.
 #[derive(Drop)]
 pub struct Routes {
     pub(crate) router: Router<RouteKind>,
@@ -82,7 +82,7 @@ impl Routes {
     ///
     /// # Errors
     ///
-    /// `NoMemory`, where the router took a route not in. Only want of memory is in the way.
+    /// `NoMemory` if the router couldn't insert a route. Lack of memory is the only possible reason.
     pub fn new(alloc: Global) -> Result<Routes, NoMemory> {
         match router_of(alloc) {
             Ok(router) => Ok(Routes { router }),

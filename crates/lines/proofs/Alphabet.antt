@@ -1,4 +1,4 @@
--- Words of 68 characters of the standard alphabet: they are the base64 of 51 bytes, and nothing else is.
+-- Words of 68 characters of the standard alphabet: exactly these are the base64 of 51 bytes.
 use Rattle.std.proofs.Common.{◌≡◌, ℕ, zero, suc, ◌+◌, ◌*◌, ◌/◌, ◌%◌, ◌<◌, ◌≤◌, true, false}
 use Rattle.std.proofs.Common.{eqb, ltb, nat_lt, slice_set, List, [], ◌∷◌, ◌++◌, length, drop}
 use Rattle.std.proofs.Common.{replicate, slice_index, Option, None, Ok, refl, sym, ap, ◌∙◌, arith}
@@ -27,7 +27,7 @@ values = standard.decode_table
 
 -- ---- letters and their values
 
--- the letters are the bytes to which the engine gives a value below 64
+-- the letters are the bytes to which the engine assigns a value below 64
 value_below : (x : ℕ) → x < 256 → is_base64_letter x ≡ ltb (slice_index values x) 64
 value_below x lt = agree_below_at is_base64_letter (λ y. ltb (slice_index values y) 64) 256 x refl lt
 
@@ -48,7 +48,7 @@ letter_at : (word : List ℕ) (i : ℕ) → list_all is_base64_letter word ≡ t
     → is_base64_letter (slice_index word i) ≡ true
 letter_at word i e lt = AllPass-from_list_all is_base64_letter word e i 0 lt
 
--- letters have no space among them
+-- letters contain no space
 pub letters_free : (word : List ℕ) → list_all is_base64_letter word ≡ true → IsFreeOfSpace word
 letters_free [] e = tt
 letters_free (x ∷ word) e =
@@ -56,7 +56,7 @@ letters_free (x ∷ word) e =
     let apart = ne_eqb x 32 (λ same. absurd (cc (ap is_base64_letter (sym same) ∙ parts.0))) in
     (apart, letters_free word parts.1)
 
--- ---- what is written
+-- ---- writing
 
 letters_of : (m : List ℕ) → IsBytes m → list_all is_base64_letter (encode_symbols table m) ≡ true
 unfolding encode_symbols
@@ -88,7 +88,7 @@ word_again blob len fits =
     ∙ append-nil (encode_symbols table blob) in
     and_from _ _ (eq-eqb _ _ long) (ap (list_all is_base64_letter) bare ∙ letters_of blob fits)
 
--- ---- what is read
+-- ---- reading
 
 both_none : (x y : Option DecodeError) → x ≡ None → y ≡ None → or_else x y ≡ None
 both_none x y x_none y_none = rw (x_none) y_none
@@ -109,7 +109,7 @@ groups_none word (suc q) fits letters le =
     (both_none _ _ (at i (omega arith)) (both_none _ _ (at (i + 1) (omega arith)) (both_none _ _ (at (i + 2)
     (omega arith)) (at (i + 3) (omega arith)))))
 
--- what is kept of a letter
+-- the state of the scan after a letter
 abbrev with_letter : Leftover → ℕ → Leftover
 with_letter st b =
     record st {
@@ -123,7 +123,7 @@ letter_kept : (st : Leftover) (i b : ℕ) → nat_lt 0 st.padding_count ≡ fals
     → eqb (slice_index values b) 255 ≡ false → push_leftover values 61 64 st i b ≡ Ok (with_letter st b)
 letter_kept st i b unpadded plain value = rw (plain, unpadded, value) refl
 
--- letters alone, with their values
+-- each byte has a value, and none is padding
 abbrev AreRead : List ℕ → Type 0
 AreRead bs = AllByRecursion (λ b. (eqb b 61 ≡ false) × (eqb (slice_index values b) 255 ≡ false)) bs
 
@@ -134,7 +134,7 @@ scan_letters st i (b ∷ bs) unpadded all =
     scan-cons_ok values 61 64 st i b bs (with_letter st b) (letter_kept st i b unpadded all.0.0 all.0.1)
     ∙ scan_letters (with_letter st b) (i + 1) bs unpadded all.1
 
--- a last group of four letters is read whole
+-- a last group of four letters is read completely
 last_four : (word : List ℕ) (w x y z : ℕ) → length word ≡ 68 → drop 64 word ≡ w ∷ x ∷ y ∷ z ∷ []
     → AreRead (w ∷ x ∷ y ∷ z ∷ [])
     → (suffix_error values 61 false RequireCanonical 64 word ≡ None) × (length (suffix_bytes values 61 64 word) ≡ 3)
@@ -153,7 +153,7 @@ four_left word len =
     let e : drop 68 word ≡ [] = drop_all 68 word (omega arith) in
     rw (a, b, c, d, e) refl
 
--- 68 letters are the base64 of 51 bytes.
+-- Every word of 68 letters is the base64 of 51 bytes.
 pub word_found : (word : List ℕ) → IsBytes word → is_base64_word word ≡ true → (blob : List ℕ)
     × (decode_of standard word ≡ Ok blob) × (length blob ≡ 51)
 word_found word fits is_word =

@@ -1,4 +1,4 @@
--- The standard engine of base64: what it writes is read again, and nothing else is read.
+-- The standard base64 engine: it reads back exactly what it writes.
 use Rattle.std.proofs.Common.{◌≡◌, ℕ, zero, suc, ◌+◌, ◌*◌, ◌/◌, ◌<◌, true, false, not, eqb, List}
 use Rattle.std.proofs.Common.{[], ◌∷◌, ◌++◌, length, drop, replicate, get_or, slice_index, Option}
 use Rattle.std.proofs.Common.{Some, None, Result, Ok, Err, refl, sym, subst, ◌∙◌, ◌⊎◌, arith, inl, inr}
@@ -27,16 +27,16 @@ is_consistent = refl
 pub is_strict : IsStrict standard
 is_strict = (refl, refl)
 
--- What is written is read again.
+-- An encoding is decoded to the same bytes.
 pub base64_again : (bytes : List ℕ) → IsBytes bytes → decode_of standard (encode_of standard bytes) ≡ Ok bytes
 base64_again bytes fits = decode_of-encode_of standard bytes is_consistent fits
 
--- What is read was written so.
+-- A word that is decoded is the encoding of the result.
 pub base64_found : (word bytes : List ℕ) → IsBytes word → decode_of standard word ≡ Ok bytes
     → word ≡ encode_of standard bytes
 base64_found word bytes fits e = decode_of_strict standard word bytes is_strict fits e
 
--- The padding fills up the last group of four.
+-- The length of an encoding: the padding completes the last group of four.
 pub length-encode_of : (bytes : List ℕ) → length (encode_of standard bytes) ≡ encoded_size_of standard (length bytes)
 length-encode_of bytes =
     let symbols : List ℕ = encode_symbols standard.encode_table bytes in
@@ -50,20 +50,20 @@ length-encode_of bytes =
 
 -- ---- bytes
 
--- Bytes behind bytes are bytes.
+-- Bytes followed by bytes are bytes.
 pub IsBytes-append : (a b : List ℕ) → IsBytes a → IsBytes b → IsBytes (a ++ b)
 IsBytes-append [] b fits_a fits_b i = fits_b i
 IsBytes-append (x ∷ a) b fits_a fits_b zero = fits_a 0
 IsBytes-append (x ∷ a) b fits_a fits_b (suc i) = IsBytes-append a b (λ k. fits_a (suc k)) fits_b i
 
--- ---- what is read is bytes
+-- ---- decoding yields bytes
 
--- where the first error of two is none, both are
+-- if the first of two errors is none, both are
 or_else_none : (x y : Option DecodeError) → or_else x y ≡ None → (x ≡ None) × (y ≡ None)
 or_else_none None y e = (refl, e)
 or_else_none (Some x) y e = absurd cc
 
--- a byte with no error has a value below 64
+-- a byte without an error has a value below 64
 symbol_below : (dec s : List ℕ) (i : ℕ) → IsDecodeTable dec → IsBytes s → symbol_error dec s i ≡ None
     → slice_index dec (slice_index s i) < 64
 symbol_below dec s i table fits none = elim (table (slice_index s i) (fits i)) [
@@ -71,14 +71,14 @@ symbol_below dec s i table fits none = elim (table (slice_index s i) (fits i)) [
   | inr below ↦ below
 ]
 
--- three bytes of four values below 64
+-- four values below 64 make three bytes
 IsBytes-decode_group : (a b c d : ℕ) → a < 64 → b < 64 → c < 64 → d < 64 → IsBytes (decode_group a b c d)
 IsBytes-decode_group a b c d a< b< c< d< zero = omega arith
 IsBytes-decode_group a b c d a< b< c< d< (suc zero) = omega arith
 IsBytes-decode_group a b c d a< b< c< d< (suc (suc zero)) = omega arith
 IsBytes-decode_group a b c d a< b< c< d< (suc (suc (suc i))) = omega arith
 
--- the groups before the last
+-- the groups before the last decode to bytes
 IsBytes-groups_bytes : (dec s : List ℕ) (q : ℕ) → IsDecodeTable dec → IsBytes s → groups_error dec s q ≡ None
     → IsBytes (groups_bytes dec s q)
 unfolding groups_error groups_bytes
@@ -99,16 +99,16 @@ IsBytes-groups_bytes dec s (suc q) table fits none =
 abbrev pub type_of : {A : Type 0} → A → Type 0
 type_of {A} x = A
 
--- what the scan of the last group keeps, whose type has no public name
+-- the state of the scan of the last group, whose type has no public name
 abbrev pub Leftover : Type 0
 Leftover = type_of no_leftover
 
--- a scan passed, or it found an error
+-- a scan succeeded, or it found an error
 result_cases : (r : Result Leftover DecodeError) → ((st : Leftover) × (r ≡ Ok st)) ⊎ ((e : DecodeError) × (r ≡ Err e))
 result_cases (Ok st) = inl (st, refl)
 result_cases (Err e) = inr (e, refl)
 
--- the scan of the last group keeps values below 64
+-- in the scan of the last group, values stay below 64
 IsLeftover-scan_steps : (dec : List ℕ) (pad at : ℕ) (bs : List ℕ) (i : ℕ) (st last : Leftover) → IsDecodeTable dec
     → IsBytes bs → IsLeftover st i → scan_steps dec pad at (Ok st) i bs ≡ Ok last → (k : ℕ)
     → slice_index last.morsels k < 64
@@ -133,7 +133,7 @@ none_below (suc (suc zero)) = omega arith
 none_below (suc (suc (suc zero))) = omega arith
 none_below (suc (suc (suc (suc k)))) = omega arith
 
--- the last group
+-- the last group decodes to bytes
 IsBytes-suffix_bytes : (dec s : List ℕ) (pad at : ℕ) → IsDecodeTable dec → IsBytes s
     → IsBytes (suffix_bytes dec pad at s)
 IsBytes-suffix_bytes dec s pad at table fits = elim (result_cases (scan_last dec pad at s)) [
@@ -147,12 +147,12 @@ IsBytes-suffix_bytes dec s pad at table fits = elim (result_cases (scan_last dec
   | inr bad ↦ rw bad.1 (λ i. omega arith)
 ]
 
--- what decodes has no error
+-- a successful decoding has no error
 outcome_ok : (x : Option DecodeError) (d b : List ℕ) → decode_outcome x d ≡ Ok b → (x ≡ None) × (d ≡ b)
 outcome_ok None d b e = (refl, cc)
 outcome_ok (Some x) d b e = absurd cc
 
--- What an engine reads from bytes is bytes.
+-- An engine decodes bytes to bytes.
 pub IsBytes-decode_of : (engine : GeneralPurpose) (s b : List ℕ) → IsBytes s → decode_of engine s ≡ Ok b → IsBytes b
 IsBytes-decode_of engine s b fits e =
     let dec = engine.decode_table in
@@ -167,9 +167,9 @@ IsBytes-decode_of engine s b fits e =
     let back = IsBytes-suffix_bytes dec s pad (4 * q) table fits in
     subst IsBytes parts.1 (IsBytes-append (groups_bytes dec s q) (suffix_bytes dec pad (4 * q) s) front back)
 
--- ---- a byte that no element is
+-- ---- a byte that no element equals
 
--- what no element of a list is, what stands past its end is not either, unless it is 0
+-- a byte other than 0 that no element equals isn't found at any index, even past the end
 pub free_at : (c : ℕ) (xs : List ℕ) (i : ℕ) → eqb 0 c ≡ false → list_all (λ x. not (eqb x c)) xs ≡ true
     → eqb (get_or xs i 0) c ≡ false
 free_at c [] i zero_free e = zero_free

@@ -1,4 +1,4 @@
--- The words that stand for a blob, and the blob that a word stands for.
+-- The words that encode a blob, and the blob that a word encodes.
 use Rattle.std.proofs.Common.{◌≡◌, ℕ, false, cond, eqb, ◌↔◌, List, length}
 use Rattle.std.proofs.Common.{Some, None, Ok, refl, sym, ap, subst, ◌∙◌, inl, inr}
 use Rattle.std.specs.Prelude.{IsTrue}
@@ -14,7 +14,7 @@ use Rattle.lines.proofs.Alphabet.{word_again, word_found}
 use Rattle.lines.proofs.Base64.{IsBytes-decode_of, base64_again, base64_found, length-encode_of}
 use Rattle.lines.proofs.Cases.{ok_of}
 
--- the blob that a word stands for
+-- the blob that a word encodes
 pub blob_of_found : (word blob : List ℕ) → IsBytes word → blob_of word ≡ Some blob → (word ≡ encode_of standard blob)
     × (length blob ≡ 51) × IsBytes blob
 blob_of_found word blob fits e = elim (cases_Bool (eqb (length word) 68)) [
@@ -34,13 +34,13 @@ blob_of_found word blob fits e = elim (cases_Bool (eqb (length word) 68)) [
         subst (λ (x : List ℕ). (word ≡ encode_of standard x) × (length x ≡ 51) × IsBytes x) is.1
         (base64_found word b fits read, eqb-true _ _ is.0, IsBytes-decode_of standard word b fits read)
 
--- the base64 of a blob stands for it
+-- decoding the base64 of a blob gives the blob back
 pub blob_of_again : (blob : List ℕ) → length blob ≡ 51 → IsBytes blob → blob_of (encode_of standard blob) ≡ Some blob
 blob_of_again blob len fits =
     let long : length (encode_of standard blob) ≡ 68 = length-encode_of blob ∙ rw len refl in
     cond-true _ _ None (eq-eqb _ _ long) ∙ rw (base64_again blob fits) (cond-true _ (Some blob) None (eq-eqb _ _ len))
 
--- a word that stands for no blob is not 68 letters
+-- a word that encodes no blob is not 68 letters
 pub blob_of_none : (word : List ℕ) → IsBytes word → blob_of word ≡ None → is_base64_word word ≡ false
 blob_of_none word fits none = elim (cases_Bool (is_base64_word word)) [
   | inl is_word ↦
@@ -52,7 +52,7 @@ blob_of_none word fits none = elim (cases_Bool (is_base64_word word)) [
   | inr no_word ↦ no_word
 ]
 
--- 68 characters of the alphabet, as the base64 of 51 bytes.
+-- A word is 68 characters of the alphabet exactly when it is the base64 of 51 bytes.
 pub word_is_blob : (word : List ℕ) → IsBytes word → IsTrue (is_base64_word word)
     ↔ ((blob : List ℕ) × IsBytes blob × (length blob ≡ 51) × (word ≡ encode_of standard blob))
 word_is_blob word fits = (

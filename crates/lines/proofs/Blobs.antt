@@ -1,4 +1,4 @@
--- What a blob is made of.
+-- The structure of a blob.
 use Rattle.std.proofs.Common.{◌≡◌, ℕ, zero, suc, ◌+◌, true, eqb, nat_lt, ◌&&◌, List, [], ◌∷◌, ◌++◌}
 use Rattle.std.proofs.Common.{length, drop, Some, None, refl, sym, ap, subst, ◌∙◌, arith}
 use Rattle.std.specs.Prelude.{IsTrue}
@@ -15,11 +15,11 @@ use Rattle.lines.specs.Keys.{ed25519, key_blob, key_of}
 use Rattle.lines.specs.KeyLines.{is_key}
 use Rattle.lines.proofs.Base64.{IsBytes-append}
 
--- 19 bytes stand before the key.
+-- The key is preceded by 19 bytes.
 pub length-key_blob : (key : List ℕ) → length (key_blob key) ≡ 19 + length key
 length-key_blob key = omega arith
 
--- The key that is found in a blob is its key.
+-- A key that is found in a blob has this blob.
 pub key_of_found : (blob key : List ℕ) → key_of blob ≡ Some key → (blob ≡ key_blob key) × (length key ≡ 32)
 key_of_found blob key e =
     let is = cond_some (bytes_eq blob (key_blob (drop 19 blob)) && eqb (length blob) 51) (drop 19 blob) key e in
@@ -36,12 +36,12 @@ key_of_again key len =
 
 -- ---- bytes as a test
 
--- bytes pass the test
+-- bytes pass the test for bytes
 pub all_bytes : (xs : List ℕ) → IsBytes xs → list_all (λ b. nat_lt b 256) xs ≡ true
 all_bytes [] fits = refl
 all_bytes (x ∷ xs) fits = and_from _ _ (lt-ltb x 256 (fits 0)) (all_bytes xs (λ i. fits (suc i)))
 
--- What passes the test is bytes.
+-- A list that passes the test for bytes consists of bytes.
 pub IsBytes_from : (xs : List ℕ) → list_all (λ b. nat_lt b 256) xs ≡ true → IsBytes xs
 IsBytes_from [] e i = omega arith
 IsBytes_from (x ∷ xs) e zero = ltb-true x 256 (and_parts _ _ e).0
@@ -57,7 +57,7 @@ is_key_parts key e =
     let parts = and_parts (eqb (length key) 32) (list_all (λ b. nat_lt b 256) key) e in
     (eqb-true _ _ parts.0, IsBytes_from key parts.1)
 
--- The blob of a key is bytes.
+-- The blob of a key consists of bytes.
 pub IsBytes-key_blob : (key : List ℕ) → length key ≡ 32 → IsBytes key → IsBytes (key_blob key)
 IsBytes-key_blob key len fits =
     let head : List ℕ = string_text ed25519 ++ u32_text 32 in

@@ -1,4 +1,4 @@
--- Worked key lines, computed by the definitions.
+-- Worked examples of public-key lines, computed by the definitions.
 use Rattle.std.proofs.Common.{◌≡◌, List, ℕ, ◌++◌, codes, replicate, refl, None, Some, Ok, Err}
 use Rattle.base64.proofs.OnLiterals.{base64_on_literals}
 use Rattle.lines.specs.KeyLines.{key_line_text}
@@ -29,7 +29,7 @@ pub written : key_line_text (record { key = replicate 32 17; comment = Some (cod
 unfolding base64_on_literals
 written = refl
 
--- another type, a word too long, a blob of another type, a comment of two lines
+-- a wrong type, a word that is too long, a blob of a wrong type, a comment of two lines
 pub faults : (key_line_at (codes "ssh-rsa AAAA") ≡ Err WrongType) × (key_line_at (codes "ssh-ed25519 " ++
     (ones ++ codes "A")) ≡ Err BadBase64)
     × (key_line_at (codes "ssh-ed25519 BAAAC3NzaC1lZDI1NTE5AAAAIBERERERERERERERERERERERERERERERERERERERERER") ≡ Err

@@ -1,4 +1,4 @@
--- From what reading gives to what was answered.
+-- From reading by the definitions to the result of a function.
 use Rattle.std.proofs.Common.{◌≡◌, ◌≢◌, ℕ, List, Result, Ok, Err, sym, ap, subst, ◌∙◌}
 use Rattle.std.specs.Prelude.{IsTrue, IsOk, IfErr}
 use Rattle.base64.specs.GeneralPurpose.{IsBytes}
@@ -9,12 +9,12 @@ use Rattle.lines.specs.declared.key_line.LineFault.{LineFault}
 use Rattle.lines.specs.declared.key_line.LineFault.TheVariants.{NoMemory}
 use Rattle.lines.proofs.KeyLineLaws.{Says, fault_again, key_line_again, key_line_says}
 
--- The text of a lawful line was read, unless memory was refused.
+-- The text of a valid line was read, unless memory was refused.
 pub only_from : (line : List ℕ) (r : Result KeyLine LineFault) (k : KeyLine) → IsTrue (is_key_line k)
     → line ≡ key_line_text k → Gives r (key_line_at line) → Gives r (Ok k)
 only_from line r k lawful text given = subst (Gives r) (ap key_line_at text ∙ key_line_again k lawful) given
 
--- The fault that was answered is there.
+-- A reported fault is present in the text.
 pub fault_from : (line : List ℕ) (r : Result KeyLine LineFault) → IsBytes line → Gives r (key_line_at line)
     → IfErr r (IsFault line)
 fault_from line (Ok k) fits given = tt
@@ -25,13 +25,13 @@ fault_from line (Err NoMemory) fits given = lawful (key_line_at line) given (key
     lawful (Err e) ok says = absurd cc
 fault_from line (Err e) fits given = subst (Says line) given (key_line_says line fits)
 
--- an answer that gives a fault is that fault
+-- the result is a fault if reading gives that fault
 given_fault : (r : Result KeyLine LineFault) (e : LineFault) → Gives r (Err e) → r ≡ Err e
 given_fault (Ok k) e given = absurd cc
 given_fault (Err NoMemory) e given = absurd cc
 given_fault (Err f) e given = sym given
 
--- The fault that is there was answered.
+-- A fault that is present in the text was reported.
 pub answered_from : (line : List ℕ) (r : Result KeyLine LineFault) (e : LineFault) → IsBytes line → e ≢ NoMemory
     → IsFault line e → Gives r (key_line_at line) → r ≡ Err e
 answered_from line r e fits other fault given =

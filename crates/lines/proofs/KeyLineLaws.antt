@@ -1,4 +1,4 @@
--- What is read as a key line is its text, its text is read, and each fault says what is wrong with the whole text.
+-- A text is read as a valid public-key line exactly when it is its text; each fault is a property of the whole text.
 use Rattle.std.proofs.Common.{◌≡◌, ◌≢◌, ℕ, true, ◌⊎◌, List, ◌++◌, length, take, drop}
 use Rattle.std.proofs.Common.{Option, Some, None, Result, Ok, Err, refl, sym, ap, ap₂, subst, ◌∙◌, arith, inl, inr}
 use Rattle.std.specs.Prelude.{IfOk, IsTrue}
@@ -32,7 +32,7 @@ option_cases (Some x) = inr (x, refl)
 
 -- ---- the type
 
--- what stands behind the type
+-- the rest of the line after the type
 after_type_found : (line rest : List ℕ) → after_type line ≡ Some rest → line ≡ key_line_head ++ rest
 after_type_found line rest e =
     let is = cond_some (bytes_eq (take 12 line) key_line_head) (drop 12 line) rest e in
@@ -41,7 +41,7 @@ after_type_found line rest e =
 
 -- ---- the steps of reading
 
--- what is left of reading after each step
+-- the remaining steps of reading after each step
 abbrev read_key : List ℕ → List ℕ → Result KeyLine LineFault
 read_key rest key = checked_line key (comment_of rest)
 
@@ -51,22 +51,22 @@ read_blob rest blob = or_fault BadBlob (key_of blob) >>= read_key rest
 abbrev read_rest : List ℕ → Result KeyLine LineFault
 read_rest rest = or_fault BadBase64 (blob_of (word_of rest)) >>= read_blob rest
 
--- reading, where there is no such type
+-- reading, if the type is missing
 at_type : (line : List ℕ) → after_type line ≡ None → key_line_at line ≡ Err WrongType
 unfolding key_line_at
 at_type line none = rw none refl
 
--- reading, behind the type
+-- reading, after the type
 at_rest : (line rest : List ℕ) → after_type line ≡ Some rest → key_line_at line ≡ read_rest rest
 unfolding key_line_at
 at_rest line rest some = rw some refl
 
 module _ (line rest : List ℕ) (is_rest : after_type line ≡ Some rest) where
-  -- where the word is no blob's
+  -- if the word encodes no blob
   at_word : blob_of (word_of rest) ≡ None → key_line_at line ≡ Err BadBase64
   at_word none = at_rest line rest is_rest ∙ rw none refl
 
-  -- where the blob is no key's
+  -- if the blob is no key's
   at_blob : (blob : List ℕ) → blob_of (word_of rest) ≡ Some blob → key_of blob ≡ None → key_line_at line ≡ Err BadBlob
   at_blob blob is_blob none = at_rest line rest is_rest ∙ rw (is_blob, none) refl
 
@@ -93,22 +93,22 @@ at_line key comment lawful =
     at_key (key_line_head ++ rest) rest refl blob key is_blob (key_of_again key parts.0)
     ∙ ap (checked_line key) (comment_of-text word comment free)
 
--- The text of a lawful line is read.
+-- The text of a valid line is read as that line.
 pub key_line_again : (k : KeyLine) → IsTrue (is_key_line k) → key_line_at (key_line_text k) ≡ Ok k
 key_line_again k lawful =
     let parts = and_parts (is_key k.key) (is_comment_or_none k.comment) lawful in
     at_line k.key k.comment parts.0 ∙ cond-true _ (Ok k) (Err BadComment) parts.1
 
--- ---- each fault, from what it says of the text
+-- ---- each fault, from the property of the text
 
--- Another type is found.
+-- A wrong type is reported.
 wrong_type_again : (line : List ℕ) → HasWrongType line → key_line_at line ≡ Err WrongType
 wrong_type_again line wrong = elim (option_cases (after_type line)) [
   | inl none ↦ at_type line none
   | inr some ↦ absurd (wrong some.0 (after_type_found line some.0 some.1))
 ]
 
--- A word that is not 68 letters is found.
+-- A word that is not 68 letters is reported.
 bad_base64_again : (line : List ℕ) → IsBytes line → HasBadBase64 line → key_line_at line ≡ Err BadBase64
 bad_base64_again line fits bad =
     let rest : List ℕ = bad.0 in
@@ -123,7 +123,7 @@ bad_base64_again line fits bad =
           absurd (both_ways (is_base64_word (word_of rest)) bad.2 is_word)
     ]
 
--- The blob of no key is found.
+-- A blob that is no key's is reported.
 bad_blob_again : (line : List ℕ) → HasBadBlob line → key_line_at line ≡ Err BadBlob
 bad_blob_again line bad =
     let rest : List ℕ = bad.0 in
@@ -135,12 +135,12 @@ bad_blob_again line bad =
       | inr some ↦ absurd (bad.6 some.0 (key_of_found blob some.0 some.1).0)
     ]
 
--- A comment that is not lawful is found.
+-- An invalid comment is reported.
 bad_comment_again : (line : List ℕ) → HasBadComment line → key_line_at line ≡ Err BadComment
 bad_comment_again line bad =
     ap key_line_at bad.4 ∙ at_line bad.0 (Some bad.1) bad.3 ∙ cond-false _ _ (Err BadComment) bad.2
 
--- Where a fault is, reading gives it.
+-- A fault that is present in the text is reported.
 pub fault_again : (line : List ℕ) (e : LineFault) → IsBytes line → e ≢ NoMemory → IsFault line e
     → key_line_at line ≡ Err e
 fault_again line WrongType fits other fault = wrong_type_again line fault
@@ -149,9 +149,9 @@ fault_again line BadBlob fits other fault = bad_blob_again line fault
 fault_again line BadComment fits other fault = bad_comment_again line fault
 fault_again line NoMemory fits other fault = absurd (other refl)
 
--- ---- what is read
+-- ---- the result of reading
 
--- What is read is lawful and has that text, and a fault that is answered is there.
+-- A line that is read is valid and has that text, and a reported fault is present in the text.
 abbrev pub Says : List ℕ → Result KeyLine LineFault → Type 0
 Says line read = MatchResult read (λ k. IsTrue (is_key_line k) × (line ≡ key_line_text k)) (IsFault line)
 
@@ -175,7 +175,7 @@ says_key line rest blob key fits is_line is_word blob_fits is_blob len =
       | inr bad ↦ rw bad (key, c, bad, lawful, text)
     ]
 
--- What reading gives says what the text is.
+-- The result of reading has these properties.
 pub key_line_says : (line : List ℕ) → IsBytes line → Says line (key_line_at line)
 key_line_says line fits = elim (option_cases (after_type line)) [
   | inl none ↦ subst (Says line) (sym (at_type line none)) (λ rest is. absurd (cc (sym none ∙ ap after_type is)))
@@ -206,15 +206,15 @@ key_line_says line fits = elim (option_cases (after_type line)) [
       ]
 ]
 
--- What was read is lawful and has that text.
+-- A line that was read is valid and has that text.
 pub found_from : (line : List ℕ) (r : Result KeyLine LineFault) → IsBytes line → Gives r (key_line_at line)
     → IfOk r (λ k. IsTrue (is_key_line k) × (line ≡ key_line_text k))
 found_from line (Ok k) fits given = subst (Says line) given (key_line_says line fits)
 found_from line (Err e) fits given = tt
 
--- ---- laws of all lines
+-- ---- theorems about all lines
 
--- No text belongs to two lines.
+-- No two valid lines have the same text.
 pub key_line_unique : (a b : KeyLine) → IsTrue (is_key_line a) → IsTrue (is_key_line b)
     → key_line_text a ≡ key_line_text b → a ≡ b
 key_line_unique a b lawful_a lawful_b same =
@@ -226,6 +226,6 @@ key_line_unique a b lawful_a lawful_b same =
     ok_is : (x y : KeyLine) → read x ≡ read y → x ≡ y
     ok_is x y e = cc
 
--- its key has 32 bytes
+-- the key of a valid line has 32 bytes
 pub key_size : (k : KeyLine) → is_key_line k ≡ true → length k.key ≡ 32
 key_size k e = eqb-true _ _ (and_parts _ _ (and_parts (is_key k.key) (is_comment_or_none k.comment) e).0).0

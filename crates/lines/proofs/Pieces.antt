@@ -23,12 +23,12 @@ front_and_rest : {X : Type 0} (f : X → List ℕ) (xs : List X) (i : ℕ)
 front_and_rest f xs i =
     sym (flat_map-append f (take i xs) (drop i xs)) ∙ ap (flat_map f) (take-append-drop i xs)
 
--- A list is its first text, and each other behind a comma.
+-- A list is its first text, followed by the others, each after a comma.
 pub list_text-cons : (text : List ℕ) (texts : List (List ℕ)) → list_text (text ∷ texts) ≡ text ++ others_text texts
 list_text-cons text [] = sym (append-nil text)
 list_text-cons text (other ∷ texts) = ap (λ (l : List ℕ). text ++ 44 ∷ l) (list_text-cons other texts)
 
--- ---- what calls did, one after the other
+-- ---- successive calls
 
 module _ {S : Type 0} {taken : S → Option (List ℕ)} {failed room : S → ℕ} where
   -- Nothing is written.
@@ -41,7 +41,7 @@ module _ {S : Type 0} {taken : S → Option (List ℕ)} {failed room : S → ℕ
     left = λ e. omega arith;
   }
 
-  -- A piece, and then another.
+  -- A piece, and then another one.
   pub writes_then : (old mid new : S) (ok : Bool) (a b : List ℕ)
       → Writes taken failed room old mid true a → Writes taken failed room mid new ok b
       → Writes taken failed room old new ok (a ++ b)
@@ -53,7 +53,7 @@ module _ {S : Type 0} {taken : S → Option (List ℕ)} {failed room : S → ℕ
     left = λ e. let one = first.left refl in let two = second.left e in omega (arith, length-append a b);
   }
 
-  -- A piece that was not written to its end, and one behind it.
+  -- A piece that was not written completely, whatever was to follow it.
   pub writes_stop : (old new : S) (a b : List ℕ)
       → Writes taken failed room old new false a → Writes taken failed room old new false (a ++ b)
   writes_stop old new a b first = record {
@@ -64,13 +64,13 @@ module _ {S : Type 0} {taken : S → Option (List ℕ)} {failed room : S → ℕ
     left = λ e. absurd cc;
   }
 
-  -- The same text in another spelling.
+  -- The same text in another form.
   pub writes_as : {old new : S} {ok : Bool} {text same : List ℕ} → text ≡ same
       → Writes taken failed room old new ok text → Writes taken failed room old new ok same
   writes_as {old} {new} {ok} e written =
       let P : List ℕ → Type 0 = Writes taken failed room old new ok in subst P e written
 
-  -- What a call that failed did.
+  -- The effect of a call that failed.
   pub writes_failed : {E : Type 0} (r : Result (Unit {0}) E) (old new : S) (text : List ℕ) → IsErr r
       → Writes taken failed room old new false text → Writes taken failed room old new (is_ok r) text
   writes_failed (Ok x) old new text err written = absurd cc

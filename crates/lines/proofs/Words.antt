@@ -1,4 +1,4 @@
--- A text is its first word, and a space and what follows, if there is one.
+-- A text is its first word, followed by a space and a rest if there is a space.
 use Rattle.std.proofs.Common.{◌≡◌, ℕ, ◌+◌, ◌<◌, ◌≤◌, false, eqb, List, [], ◌∷◌, ◌++◌, length, drop}
 use Rattle.std.proofs.Common.{get_or, Option, Some, None, refl, sym, ap, ◌∙◌, arith, inl, inr}
 use Rattle.std.specs.List.{AllByRecursion, after_first, position_or_len}
@@ -12,13 +12,13 @@ use Rattle.lines.specs.Reading.{comment_of, is_space, word_of}
 abbrev pub IsFreeOfSpace : List ℕ → Type 0
 IsFreeOfSpace text = AllByRecursion (λ b. eqb b 32 ≡ false) text
 
--- the first space stands right behind a word without spaces
+-- the first space is right after a word without spaces
 first_behind : (word rest : List ℕ) → IsFreeOfSpace word
     → position_or_len is_space (word ++ 32 ∷ rest) ≡ length word
 first_behind [] rest free = refl
 first_behind (x ∷ word) rest free = let more = first_behind word rest free.1 in rw free.0 (omega (arith, more))
 
--- a word without spaces has no first space
+-- there is no first space in a word without spaces
 no_first : (word : List ℕ) → IsFreeOfSpace word → position_or_len is_space word ≡ length word
 no_first [] free = refl
 no_first (x ∷ word) free = let more = no_first word free.1 in rw free.0 (omega (arith, more))
@@ -29,16 +29,16 @@ pub word_of-text : (word : List ℕ) (comment : Option (List ℕ)) → IsFreeOfS
 word_of-text word None free = rw (append-nil word, no_first word free) (take_all (length word) word (omega arith))
 word_of-text word (Some c) free = rw (first_behind word c free) (take_at word (32 ∷ c) (length word) refl)
 
--- nothing follows a word that is all
+-- nothing follows a word that is the whole text
 comment_none : (text : List ℕ) → length text ≤ length (word_of text) → comment_of text ≡ None
 comment_none text le = cond-false _ (Some (after_first is_space text)) None (le-ltb _ _ le)
 
--- something follows a word that is not all
+-- something follows a word that is not the whole text
 comment_some : (text : List ℕ) → length (word_of text) < length text
     → comment_of text ≡ Some (after_first is_space text)
 comment_some text lt = cond-true _ (Some (after_first is_space text)) None (lt-ltb _ _ lt)
 
--- What follows the first word.
+-- The rest after the first word.
 pub comment_of-text : (word : List ℕ) (comment : Option (List ℕ)) → IsFreeOfSpace word
     → comment_of (word ++ comment_text comment) ≡ comment
 comment_of-text word None free =
@@ -55,7 +55,7 @@ comment_of-text word (Some c) free =
     comment_some (word ++ 32 ∷ c) (omega (arith, ap length same, length-append word (32 ∷ c)))
     ∙ ap (λ (x : List ℕ). Some x) behind
 
--- A text is its first word and what follows.
+-- A text is its first word and the rest.
 pub text_is : (text : List ℕ) → text ≡ word_of text ++ comment_text (comment_of text)
 text_is text =
     let at : ℕ = position_or_len is_space text in

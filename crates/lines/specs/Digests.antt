@@ -10,6 +10,6 @@ use Rattle.lines.specs.Keys.{key_blob}
 abbrev pub digest_text : List ℕ → List ℕ
 digest_text bytes = encode_lower (sha256 bytes)
 
--- the fingerprint of a key as ssh-keygen(1) shows it: the digest of its blob, in base64 without padding (43 characters)
+-- the fingerprint of a key as ssh-keygen(1) shows it: the digest of its blob in unpadded base64 (43 characters)
 abbrev pub fingerprint_text : List ℕ → List ℕ
 fingerprint_text key = codes "SHA256:" ++ encode_of standard_no_pad (sha256 (key_blob key))

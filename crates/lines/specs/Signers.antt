@@ -11,11 +11,11 @@ use Rattle.lines.specs.declared.signers.SignerRow.{SignerRow}
 abbrev pub list_text : List (List ℕ) → List ℕ
 list_text texts = join_with_byte 44 texts
 
--- texts, each behind a comma
+-- texts, each after a comma
 abbrev pub others_text : List (List ℕ) → List ℕ
 others_text texts = flat_map (λ t. 44 ∷ t) texts
 
--- the patterns, a space, the options, a space, and the line of the authority's key, with a line feed
+-- the patterns, a space, the options, a space, and the CA's public-key line, with a line feed
 abbrev pub signer_text : SignerRow → List ℕ
 signer_text row =
     list_text row.rules ++ (codes " cert-authority,namespaces=\"" ++ (list_text row.namespaces ++ (codes "\" " ++

@@ -6,7 +6,7 @@ ghost use Rattle.lines.specs.Keys.{ed25519, key_blob, key_of, signature_blob, si
 
 use wire::Cursor;
 
-// The string behind the name of the algorithm.
+// The string after the name of the algorithm.
 fn string_in(blob: &[u8]) -> Option<&[u8]>
     ensures found { IfSome result (λ b. blob.now ≡ string_text ed25519 ++ string_text b.now) }
     ensures only { (b : List ℕ) → length b < 2 ^ 32 → blob.now ≡ string_text ed25519 ++ string_text b
@@ -24,7 +24,7 @@ fn string_in(blob: &[u8]) -> Option<&[u8]>
     Some(string)
 }
 
-/// The 32 bytes of the public key in a key blob, and none where the bytes are no such blob.
+/// The 32 bytes of the public key in a key blob, or `None` if the bytes aren't such a blob.
 pub fn read_key_blob(blob: &[u8]) -> Option<[u8; 32]>
     ensures value { result ≡ key_of blob.now }
     ensures found { IfSome result (λ key. blob.now ≡ key_blob key) }
@@ -33,7 +33,7 @@ pub fn read_key_blob(blob: &[u8]) -> Option<[u8; 32]>
     <[u8; 32]>::try_from(string_in(blob)?).ok()
 }
 
-/// The 64 bytes of the signature in a signature blob, and none where the bytes are no such blob.
+/// The 64 bytes of the signature in a signature blob, or `None` if the bytes aren't such a blob.
 pub fn read_signature_blob(blob: &[u8]) -> Option<[u8; 64]>
     ensures value { result ≡ signature_of blob.now }
     ensures found { IfSome result (λ signature. blob.now ≡ signature_blob signature) }

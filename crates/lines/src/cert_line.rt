@@ -1,4 +1,4 @@
-//! Certificate lines written.
+//! Writing certificate lines.
 
 ghost use Rattle.std.specs.Prelude.{◌≡◌, IfOk};
 ghost use Rattle.lines.specs.CertLines.{certificate_line_text};
@@ -11,7 +11,7 @@ use text::NoMemory;
 ///
 /// # Errors
 ///
-/// `NoMemory`, where a growth was refused.
+/// `NoMemory`, if an allocation was refused.
 pub fn write_cert_line(alloc: Global, cert: &[u8], comment: &[u8]) -> Result<Vec<u8>, NoMemory>
     ensures { IfOk result (λ text. text.items ≡ certificate_line_text cert.now comment.now) }
 {

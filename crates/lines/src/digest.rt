@@ -10,7 +10,7 @@ use crate::key_line::KeyLine;
 use base64::engine::general_purpose::STANDARD_NO_PAD;
 use sha2::{Digest, Sha256};
 
-/// The SHA-256 of bytes (FIPS 180-4), as 64 hexadecimal digits in lower case. It takes no memory.
+/// The SHA-256 of bytes (FIPS 180-4), as 64 hexadecimal digits in lower case. It allocates nothing.
 pub fn body_digest(body: &[u8]) -> [u8; 64]
     ensures { result ≡ digest_text body.now }
 {
@@ -33,7 +33,7 @@ fn unpadded_base64(digest: &[u8; 32]) -> [u8; 43]
 }
 
 /// The fingerprint of a key, as ssh-keygen(1) shows it: `SHA256:`, and the SHA-256 of the key's blob as 43 characters
-/// of base64 without padding. It takes no memory.
+/// of base64 without padding. It allocates nothing.
 pub fn fingerprint(line: &KeyLine) -> [u8; 50]
     ensures { result ≡ fingerprint_text line.now.key }
 {

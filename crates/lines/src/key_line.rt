@@ -1,25 +1,25 @@
-//! The public half of a key, as one line of text.
+//! The public-key line: the public half of a key, as one line of text.
 
 ghost use Rattle.std.specs.Prelude.{◌≡◌, IfOk};
 
 use std::alloc::Global;
 use text::{NoMemory, Text};
 
-/// An Ed25519 public key, with a comment or none. No comment and a comment of no bytes are two values.
+/// An Ed25519 public key, with a comment or none. No comment and an empty comment are different values.
 #[derive(Drop)]
 pub struct KeyLine {
     /// The 32 bytes of the key.
     pub key: [u8; 32],
-    /// Up to 1024 bytes, each a tab, printed ASCII or beyond ASCII.
+    /// Up to 1024 bytes, each a tab, printable ASCII or beyond ASCII.
     pub comment: Option<Text>,
 }
 
 impl KeyLine {
-    /// A copy.
+    /// A copy, in new memory.
     ///
     /// # Errors
     ///
-    /// `NoMemory`, where a growth was refused.
+    /// `NoMemory`, if an allocation was refused.
     pub fn copied(&self, alloc: Global) -> Result<KeyLine, NoMemory>
         ensures { IfOk result (λ k. k ≡ self.now) }
     {
@@ -34,7 +34,7 @@ impl KeyLine {
     }
 }
 
-/// Why a text is no key line, in the order in which it is looked at.
+/// Why a text is no public-key line, in the order in which the faults are checked.
 #[derive(Clone, Copy, Debug, PartialEq, Eq)]
 pub enum LineFault {
     /// It does not begin with `ssh-ed25519` and a space.
@@ -43,9 +43,9 @@ pub enum LineFault {
     BadBase64,
     /// The 51 bytes are not the blob of an Ed25519 key.
     BadBlob,
-    /// The comment has a byte that no comment has, or more than 1024 bytes.
+    /// The comment has a byte that isn't allowed in comments, or more than 1024 bytes.
     BadComment,
-    /// A growth was refused.
+    /// An allocation was refused.
     NoMemory,
 }
 

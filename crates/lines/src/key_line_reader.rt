@@ -1,4 +1,4 @@
-//! Key lines read.
+//! Reading public-key lines.
 
 ghost use Rattle.std.specs.Prelude.{◌≡◌, ◌≢◌, ◌⊎◌, false, true, IsTrue, IfOk, IfErr, option_copied, position};
 ghost use Rattle.std.specs.List.{list_all};
@@ -13,7 +13,7 @@ use base64::engine::general_purpose::STANDARD;
 use std::alloc::Global;
 use text::Text;
 
-/// The most bytes of a comment.
+/// The most bytes in a comment.
 pub const MAX_COMMENT: usize = 1024;
 
 fn after_type(line: &[u8]) -> Option<&[u8]>
@@ -28,7 +28,7 @@ fn first_space(text: &[u8]) -> Option<usize>
     text.iter().position(|b| *b == b' ')
 }
 
-/// The word up to the first space, and what stands behind that. Without a space the text is one word.
+/// The word up to the first space, and the text after the space. Without a space the text is one word.
 pub fn word_and_rest(text: &[u8]) -> (&[u8], Option<&[u8]>)
     ensures word { result.0.now ≡ word_of text.now }
     ensures rest { option_copied result.1 ≡ comment_of text.now }
@@ -104,22 +104,22 @@ fn read(alloc: Global, line: &[u8]) -> Result<KeyLine, LineFault>
     Ok(KeyLine { key, comment })
 }
 
-/// Reads a key line (sshd(8), "AUTHORIZED_KEYS FILE FORMAT", without options): `ssh-ed25519`, a space, 68 characters of
-/// base64, and then nothing, or a space and a comment. The line comes without its line feed.
+/// Reads a public-key line (sshd(8), "AUTHORIZED_KEYS FILE FORMAT", without options): `ssh-ed25519`, a space, 68
+/// characters of base64, and then nothing, or a space and a comment. The line is given without its line feed.
 ///
 /// # Errors
 ///
-/// The first fault from the left, in the order of `LineFault`. Memory is asked for once all else is found lawful.
+/// The first fault from the left, in the order of `LineFault`. Memory is allocated only once the line is found valid.
 pub fn read_key_line(alloc: Global, line: &[u8]) -> Result<KeyLine, LineFault>
     ensures exact { Gives result (key_line_at line.now) }
 
-    // What is read is a lawful line, and the text is its text.
+    // The line that is read is valid, and the text is its text.
     ensures found { IfOk result (λ k. IsTrue (is_key_line k) × (line.now ≡ key_line_text k)) }
 
-    // The text of a lawful line is read, or memory is refused.
+    // The text of a valid line is read, unless memory is refused.
     ensures only { (k : KeyLine) → IsTrue (is_key_line k) → line.now ≡ key_line_text k → Gives result (Ok k) }
 
-    // The fault that is answered is there, and the fault that is there is answered.
+    // A reported fault is present in the text, and a fault that is present is reported.
     ensures fault { IfErr result (λ e. IsFault line.now e) }
     ensures answered { (e : LineFault) → e ≢ LineFault.NoMemory → IsFault line.now e → result ≡ Err e }
 {

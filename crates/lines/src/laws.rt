@@ -1,4 +1,4 @@
-//! What holds of every key line, said of the definitions that the calls cite.
+//! Theorems about the definitions that the contracts cite, for every public-key line.
 
 ghost use Rattle.std.specs.Prelude.{◌≡◌, ◌≢◌, ◌↔◌, List, ℕ, length, IsTrue, MatchResult};
 ghost use Rattle.base64.specs.Engines.{standard};
@@ -8,15 +8,15 @@ ghost use Rattle.lines.specs.Reading.{IsFault, key_line_at};
 ghost use Rattle.lines.specs.declared.key_line.KeyLine.{KeyLine};
 ghost use Rattle.lines.specs.declared.key_line.LineFault.{LineFault};
 
-/// The text of a lawful line is read as that line, so no text belongs to two.
+/// The text of a valid line is read as that line, so no text belongs to two lines.
 pub fn key_lines_are_read_again()
     ensures again { (k : KeyLine) → IsTrue (is_key_line k) → key_line_at (key_line_text k) ≡ Ok k }
     ensures unique { (a b : KeyLine) → IsTrue (is_key_line a) → IsTrue (is_key_line b)
         → key_line_text a ≡ key_line_text b → a ≡ b }
 {}
 
-/// What is read of any bytes is a lawful line with that text, or a fault that is there; and a fault that is there is
-/// read.
+/// Reading any bytes gives a valid line with that text, or a fault that is present; and a fault that is present is
+/// reported.
 pub fn key_lines_are_lawful_or_faulty()
     ensures says { (line : List ℕ) → IsBytes line
         → MatchResult (key_line_at line) (λ k. IsTrue (is_key_line k) × (line ≡ key_line_text k)) (IsFault line) }
@@ -24,7 +24,7 @@ pub fn key_lines_are_lawful_or_faulty()
         → key_line_at line ≡ Err e }
 {}
 
-/// 68 characters of the standard alphabet are the base64 of 51 bytes, and nothing else is.
+/// A word is the base64 of 51 bytes exactly when it is 68 characters of the standard alphabet.
 pub fn base64_words_are_blobs()
     ensures { (word : List ℕ) → IsBytes word → IsTrue (is_base64_word word)
         ↔ ((blob : List ℕ) × IsBytes blob × (length blob ≡ 51) × (word ≡ encode_of standard blob)) }

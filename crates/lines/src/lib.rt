@@ -1,8 +1,8 @@
 //! Public keys, certificates and allowed signers as lines of text, and digests.
 //!
-//! A key line is read exactly where the text is the line of a key and a lawful comment; of any other text the first
-//! fault is named. What is written is the text of its value, and is read again as that value. Digests and fingerprints
-//! are texts of SHA-256 as FIPS 180-4 defines it, and take no memory.
+//! A text is read as a public-key line exactly when it is the line of a key and a valid comment or none; for any other
+//! text the first fault is reported. A valid public-key line is written as its text, which is read back as the same
+//! value. Digests and fingerprints are texts of SHA-256 as FIPS 180-4 defines it, and need no allocation.
 #![tactic(auto)]
 
 mod blob;

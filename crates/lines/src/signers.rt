@@ -1,4 +1,4 @@
-//! Allowed signers written.
+//! Writing allowed signers.
 
 ghost use Rattle.std.specs.Prelude.{◌≡◌, ◌≤◌, ◌<◌, ◌+◌, ◌++◌, ◌∷◌, [], length};
 ghost use Rattle.std.specs.Prelude.{codes, IsOk, OnOk, OnErr, if◌then◌else◌, is_ok};
@@ -15,14 +15,14 @@ use crate::writing::bare_key_line;
 use text::{Text, Texts};
 use wire::{Failed, Sink, write_all};
 
-/// A line of allowed signers: an authority, and whom and what it may vouch for.
+/// A line of allowed signers: a CA, and the principals and namespaces that it is trusted for.
 #[derive(Drop)]
 pub struct SignerRow {
     /// The patterns of the principals.
     pub rules: Texts,
     /// The namespaces of signatures.
     pub namespaces: Texts,
-    /// The 32 bytes of the authority's key.
+    /// The 32 bytes of the CA's public key.
     pub ca: [u8; 32],
 }
 
@@ -43,7 +43,7 @@ impl From<Failed> for OutFault {
     }
 }
 
-// What stands behind the namespaces.
+// The end of a line, after the namespaces.
 fn signer_end(ca: &[u8; 32]) -> [u8; 83]
     ensures { result ≡ codes "\" " ++ (key_line_head ++ (encode_of standard (key_blob ca.now) ++ 10 ∷ [])) }
 {
@@ -60,7 +60,7 @@ fn write_piece<W: Sink>(piece: &[u8], sink: &mut W) -> Result<(), Failed>
     write_all(sink, piece)
 }
 
-// A text of a list, with the comma before it.
+// A text in a list, with the comma before it.
 fn write_other<W: Sink>(text: &Text, sink: &mut W) -> Result<(), Failed>
     requires { W.failed sink.old < u64.MAX }
     ensures { Writes W.taken W.failed W.room sink.old sink.new (is_ok result) (44 ∷ text.now) }
@@ -111,18 +111,18 @@ fn write_rows<W: Sink>(rows: &[SignerRow], sink: &mut W) -> Result<(), Failed>
 }
 
 /// Writes allowed signers (ssh-keygen(1), "ALLOWED SIGNERS"), a line for each row, in order.
-/// It takes no memory.
+/// It allocates nothing.
 ///
 /// # Errors
 ///
-/// `Write`, exactly where the writer failed in this call. The writer then took a beginning of the text.
+/// `Write`, exactly when the writer failed in this call. The writer then took a prefix of the text.
 pub fn write_signers<W: Sink>(rows: &[SignerRow], sink: &mut W) -> Result<(), OutFault>
     requires { W.failed sink.old < u64.MAX }
     ensures ok { OnOk result (Appends (W.taken sink.old) (W.taken sink.new) (signers_text rows.now)) }
     ensures err { OnErr result (AppendsBeginning (W.taken sink.old) (W.taken sink.new) (signers_text rows.now)) }
     ensures failed { W.failed sink.new ≡ (if is_ok result then W.failed sink.old else W.failed sink.old + 1) }
 
-    // A writer that has the room does not fail.
+    // A writer with enough room does not fail.
     ensures sure { length (signers_text rows.now) ≤ W.room sink.old → IsOk result }
 {
     write_rows(rows, sink)?;

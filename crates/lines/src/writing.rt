@@ -1,4 +1,4 @@
-//! Key lines written.
+//! Writing public-key lines.
 
 ghost use Rattle.std.specs.Prelude.{◌≡◌, ◌≤◌, ◌+◌, ◌++◌, length, vec_len, vec_capacity, IsOk, OnOk, OnErr, IfOk};
 ghost use Rattle.base64.specs.Engines.{standard};
@@ -22,7 +22,7 @@ fn key_base64(key: &[u8; 32]) -> [u8; 68]
     text
 }
 
-/// The 80 bytes of the line of a key without comment. It takes no memory.
+/// The 80 bytes of the public-key line of a key without a comment. It allocates nothing.
 pub fn bare_key_line(key: &[u8; 32]) -> [u8; 80]
     ensures { result ≡ key_line_head ++ encode_of standard (key_blob key.now) }
 {
@@ -32,23 +32,23 @@ pub fn bare_key_line(key: &[u8; 32]) -> [u8; 80]
     line
 }
 
-/// Puts a key line at the end, without a line feed.
+/// Appends a public-key line, without a line feed.
 ///
 /// # Errors
 ///
-/// `NoMemory`, where a growth was refused, so never within the vector's capacity. The vector is as it was.
+/// `NoMemory`, if an allocation was refused, so never within the vector's capacity. The vector is unchanged.
 pub fn put_key_line(out: &mut Vec<u8>, line: &KeyLine) -> Result<(), NoMemory>
     ensures ok { OnOk result (out.new.items ≡ out.old.items ++ key_line_text line.now) }
     ensures err { OnErr result (out.new.items ≡ out.old.items) }
 
-    // Within the vector's capacity it does not fail.
+    // It does not fail within the vector's capacity.
     ensures sure { vec_len out.old + length (key_line_text line.now) ≤ vec_capacity out.old → IsOk result }
 {
     let front = bare_key_line(&line.key);
     match &line.comment {
         None => out.extend_from_slice(&front)?,
         Some(comment) => {
-            // Room for all of it first, so that a refusal leaves the vector as it was.
+            // Reserve room for all of it first, so that a refusal leaves the vector unchanged.
             out.reserve(front.len() + 1 + comment.as_slice().len())?;
             out.extend_from_slice(&front)?;
             out.push(b' ')?;
@@ -58,11 +58,11 @@ pub fn put_key_line(out: &mut Vec<u8>, line: &KeyLine) -> Result<(), NoMemory>
     Ok(())
 }
 
-/// A key line as text, without a line feed.
+/// A public-key line as text, without a line feed.
 ///
 /// # Errors
 ///
-/// `NoMemory`, where a growth was refused.
+/// `NoMemory`, if an allocation was refused.
 pub fn write_key_line(alloc: Global, line: &KeyLine) -> Result<Vec<u8>, NoMemory>
     ensures { IfOk result (λ text. text.items ≡ key_line_text line.now) }
 {

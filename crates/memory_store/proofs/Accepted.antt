@@ -1,4 +1,4 @@
--- One arrival more over the lists.
+-- One more arrival over the lists.
 use Rattle.std.proofs.Common.{◌≡◌, ℕ, ◌+◌, ◌<◌, ◌≤◌, List, [], ◌∷◌, ◌++◌, None, Result, Ok, Err, sym, ap, subst, ◌∙◌, arith}
 use Rattle.std.specs.Prelude.{IsOkAnd}
 use Rattle.values.specs.declared.refusal.Refusal.{Refusal}
@@ -14,7 +14,7 @@ use Rattle.office.specs.Shows.{Shows}
 use Rattle.office.proofs.Steps.{shows_accepted}
 use Rattle.memory_store.specs.Contents.{Contents, state_of, row_of, Writes}
 
--- what was decided and written is what is due
+-- a decision that was written is the specified outcome
 pub accepted : (t new : Contents) (o : Opening) (l : List Arrival) (a : Arrival) (d : Decision) (j : Result First Refusal)
     → reply_kept t.kept a ≡ None → judged (state_of t) t.kept a ≡ j
     → d.version < 9223372036854775807

@@ -1,4 +1,4 @@
--- Departments found by their names.
+-- Finding departments by name.
 use Rattle.std.proofs.Common.{◌≡◌, ℕ, List, [], ◌∷◌, Bool, true, false, cond, Some, refl, ◌∙◌}
 use Rattle.std.specs.Prelude.{find, IsTrue, IfSome}
 use Rattle.std.specs.List.{list_all}
@@ -13,14 +13,14 @@ use Rattle.message.specs.declared.department.Department.{Department}
 use Rattle.message.specs.Values.{is_department}
 use Rattle.memory_store.specs.Departments.{entries, has_name}
 
--- the department of a name is found among the rows
+-- the department with a name is found among the entries
 pub find-entries : (name : List ℕ) (ds : List Department) → entry.find (slice_cmp nat_cmp) name (entries ds) ≡ find (λ d. has_name d name) ds
 find-entries name [] = refl
 find-entries name (d ∷ ds) =
     let here : is_eq (slice_cmp nat_cmp name d.name) ≡ bytes_eq d.name name = is_eq-slice_cmp name d.name ∙ nat_list_eq_equiv.symm name d.name in
     rw (here, find-entries name ds) refl
 
--- what is found among lawful departments is lawful
+-- a department found among valid departments is valid
 pub found_lawful : (p : Department → Bool) (ds : List Department) → list_all is_department ds ≡ true → IfSome (find p ds) (λ d. IsTrue (is_department d))
 found_lawful p [] all = tt
 found_lawful p (d ∷ ds) all =

@@ -1,4 +1,4 @@
--- What the lists keep, after each change.
+-- The invariants of the lists, after each change.
 use Rattle.std.proofs.Common.{◌≡◌, ℕ, zero, suc, ◌+◌, ◌-◌, ◌≤◌, ◌<◌, List, [], ◌∷◌, ◌++◌, length, true, false, cond, None, arith, length-append}
 use Rattle.std.specs.Prelude.{All, IfSome, nat_lt, slice_get, slice_index_or}
 use Rattle.std.specs.FinMap.Entries.{put}
@@ -20,13 +20,13 @@ use Rattle.office.proofs.Growth.{length-signed_at}
 use Rattle.memory_store.specs.Contents.{Contents, AreKept, state_of}
 use Rattle.memory_store.proofs.Places.{all_after_put}
 
--- an element that is there has what all have
+-- an element that exists has a property that all have
 pub all_get : {X : Type 0} (P : X → Type 0) (xs : List X) (k : ℕ) → All P xs → IfSome (slice_get xs k) P
 all_get P [] k all = tt
 all_get P (x ∷ xs) zero all = All-head P x xs all
 all_get P (x ∷ xs) (suc k) all = all_get P xs k (All-tail P x xs all)
 
--- the certificate of a serial
+-- the certificate of a serial is valid
 pub issued_lawful : (t : Contents) (serial : ℕ) → AreKept t → IfSome (certificate_of (state_of t) serial) IsCertificate
 issued_lawful t serial k =
     elim (nat_lt serial t.opening.first) as (λ b. IfSome (cond b None (slice_get t.certificates (serial - t.opening.first))) IsCertificate) [

@@ -1,4 +1,4 @@
--- Key ids put in their places.
+-- Key IDs put in their places.
 use Rattle.std.proofs.Common.{◌≡◌, ℕ, suc, List, [], ◌∷◌, length, Bool, true, false, cond, refl, ap, ◌∙◌}
 use Rattle.std.specs.Prelude.{slice_get}
 use Rattle.std.specs.List.{take_while, insert}
@@ -24,7 +24,7 @@ zero_where t u us o e first = place-cons u us t ∙ ap (λ (x : Ordering). cond 
 later_where : (t u : List ℕ) (us : List (List ℕ)) → slice_cmp nat_cmp t u ≡ Greater → place_among (u ∷ us) t ≡ suc (place_among us t)
 later_where t u us e = place-cons u us t ∙ ap (λ (x : Ordering). cond (is_gt x) (suc (place_among us t)) 0) e
 
--- where it stands at its place already, nothing changes
+-- if it is at its place already, nothing changes
 pub put_again : (t : List ℕ) (ts : List (List ℕ)) → is_at (slice_get ts (place_among ts t)) t ≡ true → put_text t ts ≡ ts
 put_again t [] is = absurd cc
 put_again t (u ∷ us) is = by_case (slice_cmp nat_cmp t u) (put_again t us) refl
@@ -37,7 +37,7 @@ put_again t (u ∷ us) is = by_case (slice_cmp nat_cmp t u) (put_again t us) ref
     by_case Equal rest e = rw e refl
     by_case Greater rest e = rw e (ap (λ (ks : List (List ℕ)). u ∷ ks) (rest (rw (later_where t u us e) at is)))
 
--- where it doesn't, it makes room
+-- if it isn't, it is inserted there
 pub put_new : (t : List ℕ) (ts : List (List ℕ)) → is_at (slice_get ts (place_among ts t)) t ≡ false → insert ts (place_among ts t) t ≡ put_text t ts
 put_new t [] is = refl
 put_new t (u ∷ us) is = by_case (slice_cmp nat_cmp t u) (put_new t us) refl

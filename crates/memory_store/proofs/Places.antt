@@ -28,7 +28,7 @@ tie_is xs ys o e = sym (is_eq-slice_cmp xs ys) ∙ ap is_eq e
 same_bytes : (xs ys : List ℕ) → bytes_eq xs ys ≡ true → xs ≡ ys
 same_bytes xs ys e = (bytes_eq-Decides xs ys).0 e
 
--- where the place has one of the name, it gives way
+-- if the department at the place has the name, it is replaced
 pub put_replaced : (v : Department) (ds : List Department) → is_named (slice_get ds (place_of ds v.name)) v.name ≡ true
     → entries (slice_set ds (place_of ds v.name) v) ≡ put (slice_cmp nat_cmp) v.name v (entries ds)
 put_replaced v [] is = absurd cc
@@ -49,7 +49,7 @@ put_replaced v (d ∷ ds) is = by_case (slice_cmp nat_cmp v.name d.name) (put_re
         let more : place_of (d ∷ ds) v.name ≡ suc (place_of ds v.name) = place-cons d ds v.name ∙ ap (λ (o : Ordering). cond (is_gt o) (suc (place_of ds v.name)) 0) e in
         rw (more, e) (ap (λ (es : List (List ℕ × Department)). entry d ∷ es) (rest (rw more at is)))
 
--- where it has none of the name, it makes room
+-- if it doesn't, the new one is inserted before it
 pub put_inserted : (v : Department) (ds : List Department) → is_named (slice_get ds (place_of ds v.name)) v.name ≡ false
     → entries (insert ds (place_of ds v.name) v) ≡ put (slice_cmp nat_cmp) v.name v (entries ds)
 put_inserted v [] is = refl
@@ -91,7 +91,7 @@ all_put p k d (e ∷ es) one all =
       | Greater ↦ and_from (p e.1) (list_all p (values (put (slice_cmp nat_cmp) k d es))) parts.0 later
     ]
 
--- one that passes, put among those that pass
+-- if a department that passes is put among departments that pass, all of them pass
 pub all_after_put : (p : Department → Bool) (d : Department) (old new : List Department) → p d ≡ true → list_all p old ≡ true
     → entries new ≡ put (slice_cmp nat_cmp) d.name d (entries old) → list_all p new ≡ true
 all_after_put p d old new one all is =

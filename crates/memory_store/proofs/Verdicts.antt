@@ -1,4 +1,4 @@
--- From what decides to what judges, and from rows to the state.
+-- From `decide` to `judge`, and from rows to the state.
 use Rattle.std.proofs.Common.{◌≡◌, true, false, Some, None, Result, Ok, Err, refl, sym, ap}
 use Rattle.std.specs.Prelude.{nat_lt}
 use Rattle.std.specs.List.{list_any}
@@ -18,7 +18,7 @@ use Rattle.office.proofs.Judged.{step_gives}
 
 -- ---- the message
 
--- ---- what is judged
+-- ---- the verdict
 
 pub bad_message : (t : Contents) (a : Arrival) → message_with_text a.bytes ≡ None → judged (state_of t) t.kept a ≡ Err BadMessage
 bad_message t a is = rw is refl

@@ -1,4 +1,4 @@
--- What the plain store holds.
+-- The contents of the in-memory store.
 use Rattle.std.specs.Prelude.{◌≡◌, ℕ, ◌+◌, ◌≤◌, List, [], ◌∷◌, ◌++◌, length, All, IsTrue, IsOkAnd, Result, Ok, Err}
 use Rattle.std.specs.List.{list_all}
 use Rattle.std.specs.List.Sorted.{IsNonDecreasing}
@@ -30,16 +30,16 @@ pub record Contents : Type 0 where
   pub departments : List Department
   -- by serial
   pub certificates : List Certificate
-  -- the runs of the serials that are revoked
+  -- the ranges of revoked serials
   pub runs : List Run
-  -- the key ids that are revoked, ascending
+  -- the revoked key IDs, ascending
   pub key_ids : List (List ℕ)
   -- a row for each first acceptance
   pub kept : List Kept
   pub version : ℕ
   pub date : ℕ
 
--- the plain machine's state
+-- the state of the reference model
 abbrev pub state_of : Contents → State
 state_of t = record {
   opening = t.opening;
@@ -55,19 +55,19 @@ state_of t = record {
 abbrev pub row_of : Arrival → List ℕ → Kept
 row_of a reply = record { caller = a.caller; key = a.key; bytes = a.bytes; reply = reply }
 
--- what is found of an arrival that is no repeat
+-- what is decided about an arrival that isn't a repeat
 abbrev pub Judges : Result Decision Stop → Contents → Arrival → Type 0
 Judges (Ok d) t a = IsOkAnd (judged (state_of t) t.kept a) (λ f. (f.arrival ≡ a) × (f.reply ≡ d.reply)
     × (written d (state_of t) ≡ change (state_of t) f))
 Judges (Err (stop.Refused r)) t a = judged (state_of t) t.kept a ≡ Err r
 Judges (Err stop.NoMemory) t a = Unit {0}
 
--- the contents with what was decided, and a row for the arrival
+-- the contents after a decision was written, with a row for the arrival
 pub record Writes (old : Contents) (a : Arrival) (d : Decision) (new : Contents) : Type 0 where
   pub kept : new.kept ≡ old.kept ++ row_of a d.reply ∷ []
   pub state : state_of new ≡ written d (state_of old)
 
--- what the lists keep: serials in range, rows as they may be, and CAs in order that serve from handed out serials on
+-- the invariants: valid configuration and rows, serials in range, CAs in order, none starting after the next serial
 pub record AreKept (t : Contents) : Type 0 where
   pub opening : IsOpening t.opening
   pub serials : t.opening.first + length t.certificates ≤ t.opening.last + 1

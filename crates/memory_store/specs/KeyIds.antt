@@ -1,4 +1,4 @@
--- Key ids in ascending order.
+-- Key IDs in ascending order.
 use Rattle.std.specs.Prelude.{ℕ, List, length, Bool, false, Option, Some, None}
 use Rattle.std.specs.List.{take_while}
 use Rattle.std.specs.Ordering.{is_gt, nat_cmp}
@@ -9,7 +9,7 @@ use Rattle.std.specs.Str.{bytes_eq}
 abbrev pub comes_after : List ℕ → List ℕ → Bool
 comes_after t other = is_gt (slice_cmp nat_cmp t other)
 
--- how many of ascending texts come before this one
+-- how many of the texts, which are in ascending order, come before this one
 abbrev pub place_among : List (List ℕ) → List ℕ → ℕ
 place_among ts t = length (take_while (λ other. comes_after t other) ts)
 

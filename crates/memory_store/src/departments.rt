@@ -1,6 +1,6 @@
 //! Departments in the order of their names.
 //!
-//! The department that gives way is dropped by name: the proof of a function that ends with one takes its fields apart.
+//! A replaced department is dropped explicitly: if it lives to the function's end, the proof takes its fields apart.
 
 ghost use Rattle.std.specs.Prelude.{◌≡◌, OnOk, OnErr, find, option_copied};
 ghost use Rattle.std.specs.List.{slice_get};
@@ -44,14 +44,14 @@ fn has_name(department: &Department, name: &[u8]) -> bool
     department.name.is(name)
 }
 
-/// The department of a name.
+/// The department with a name.
 pub(crate) fn named<'a>(departments: &'a [Department], name: &[u8]) -> Option<&'a Department>
     ensures { option_copied result ≡ find (λ d. has_name d name.now) departments.now }
 {
     departments.iter().find(|d| has_name(d, name))
 }
 
-/// Puts a department in its place, where one of its name gives way.
+/// Puts a department in its place. One with the same name is replaced.
 pub(crate) fn put_department(
     departments: &mut Vec<Department>,
     department: Department,

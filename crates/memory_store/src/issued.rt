@@ -22,7 +22,7 @@ impl PlainStore {
     }
 }
 
-/// Keeps the signature of the certificate at the place, if there is one.
+/// Stores the signature of the certificate at the place, if there is one.
 pub(crate) fn sign(certificates: &mut Vec<Certificate>, place: usize, signature: Signature)
     ensures { certificates.new.items ≡ signed_at certificates.old.items place signature }
 {

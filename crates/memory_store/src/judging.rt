@@ -1,6 +1,6 @@
-//! What an arrival is answered.
+//! The answer to an arrival.
 //!
-//! Large values are dropped by name: the proof of a function that ends with one takes each of its fields apart.
+//! Large values are dropped explicitly: if one lives to a function's end, the proof takes each of its fields apart.
 
 ghost use Rattle.std.specs.Prelude.{◌≡◌, ◌≤◌, IfOk, IfErr, IsTrue, Some};
 ghost use Rattle.std.specs.List.{list_any};
@@ -51,7 +51,7 @@ fn is_known(kept: &[Kept], arrival: &Arrival) -> bool
 }
 
 impl PlainStore {
-    /// What an arrival that is no repeat gives.
+    /// The decision about an arrival that isn't a repeat.
     pub(crate) fn judge(&self, alloc: Global, arrival: &Arrival) -> Result<Decision, Stop>
         ensures judges { Judges result self.now arrival.now }
         ensures room { IfOk result (λ d. HasRoom d.change (state_of self.now)) }
@@ -69,7 +69,7 @@ impl PlainStore {
         }
     }
 
-    /// Refuses a message that comes too late or under a key that was used, and decides on another.
+    /// Refuses a message that comes too late or under a used request ID, and decides about any other.
     fn admit(&self, alloc: Global, arrival: &Arrival, message: &Message) -> Result<Decision, Stop>
         requires message { IsTrue (is_message message.now) }
         requires read { message_with_text arrival.now.bytes ≡ Some message.now }
@@ -87,7 +87,7 @@ impl PlainStore {
         self.decided(alloc, arrival, message)
     }
 
-    /// What a message gives.
+    /// The decision about a message.
     fn decided(&self, alloc: Global, arrival: &Arrival, message: &Message) -> Result<Decision, Stop>
         requires { IsTrue (is_message message.now) }
         ensures decided { Decided result (state_of self.now) arrival.now.caller message.now arrival.now.moment
@@ -96,7 +96,7 @@ impl PlainStore {
         ensures change { IfOk result (λ d. IsLawfulChange d.change) }
         ensures version { IfOk result (λ d. d.version ≤ LAST_VERSION) }
     {
-        // A version past the last counts as a refused growth.
+        // A version past the last is reported as `NoMemory`.
         if LAST_VERSION < self.version {
             return Err(Stop::NoMemory);
         }
@@ -115,7 +115,7 @@ impl PlainStore {
     }
 }
 
-/// The decision, unless its version is past the last: that counts as a refused growth.
+/// The decision, unless its version is past the last: that is reported as `NoMemory`.
 fn in_versions(decision: Decision) -> Result<Decision, Stop>
     ensures same { IfOk result (λ d. d ≡ decision) }
     ensures version { IfOk result (λ d. d.version ≤ LAST_VERSION) }

@@ -1,4 +1,4 @@
-//! Key ids in ascending order.
+//! Key IDs in ascending order.
 
 ghost use Rattle.std.specs.Prelude.{◌≡◌, OnOk, OnErr};
 ghost use Rattle.std.specs.List.{slice_get};
@@ -32,7 +32,7 @@ fn is_at(key_ids: &[Text], place: usize, key_id: &[u8]) -> bool
     }
 }
 
-/// Puts a key id in its place, once.
+/// Puts a key ID in its place, unless it is there already.
 pub(crate) fn put_key_id(key_ids: &mut Vec<Text>, key_id: Text) -> Result<(), NoMemory>
     ensures ok { OnOk result (key_ids.new.items ≡ put_text key_id key_ids.old.items) }
     ensures err { OnErr result (key_ids.new.items ≡ key_ids.old.items) }

@@ -1,4 +1,4 @@
-//! The plain store: an office's register as lists in memory.
+//! The in-memory store: an office's register as lists in memory.
 #![tactic(auto)]
 
 mod departments;

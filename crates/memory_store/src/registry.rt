@@ -1,6 +1,6 @@
-//! The plain store is a register.
+//! The in-memory store is a register.
 //!
-//! Large values are dropped by name: the proof of a function that ends with one takes each of its fields apart.
+//! Large values are dropped explicitly: if one lives to a function's end, the proof takes each of its fields apart.
 
 ghost use Rattle.std.specs.Prelude.{◌≡◌, IfOk};
 ghost use Rattle.std.proofs.Common.{◌∙◌, refl};

@@ -1,4 +1,4 @@
-//! What the store shows.
+//! The rows that the store returns.
 
 ghost use Rattle.std.specs.Prelude.{◌≡◌, IfOk, take, drop};
 ghost use Rattle.office.specs.Parts.{AreParts};
@@ -51,7 +51,7 @@ fn copied_runs(runs: &Runs, alloc: Global) -> Result<Runs, NoMemory>
 }
 
 impl PlainStore {
-    /// Certificates by serial, from this place on, of many the first 1000.
+    /// Certificates by serial, from this place on, at most 1000.
     pub(crate) fn certificate_rows(
         &self,
         alloc: Global,
@@ -62,7 +62,7 @@ impl PlainStore {
         copied(batch_of(self.certificates.as_slice(), place), alloc)
     }
 
-    /// The revoked key ids.
+    /// The revoked key IDs.
     fn key_id_rows(&self, alloc: Global) -> Result<Vec<Text>, NoMemory>
         ensures { IfOk result (λ ids. ids.items ≡ self.now.key_ids) }
     {
@@ -73,7 +73,7 @@ impl PlainStore {
         Ok(key_ids)
     }
 
-    /// The revoked serials and key ids.
+    /// The revoked serials and key IDs.
     pub(crate) fn revoked_rows(&self, alloc: Global) -> Result<Revocations, NoMemory>
         ensures { IfOk result (λ rows. AreRevocations rows (state_of self.now)) }
     {
@@ -90,7 +90,7 @@ impl PlainStore {
         parts_of(alloc, self.cas.as_slice(), &self.revoked)
     }
 
-    /// The revoked key ids, as the published list has them.
+    /// The revoked key IDs, as the published list has them.
     pub(crate) fn key_ids(&self, alloc: Global) -> Result<Texts, NoMemory>
         ensures { IfOk result (λ ids. ids ≡ self.now.key_ids) }
     {

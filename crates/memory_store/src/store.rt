@@ -1,6 +1,6 @@
-//! The plain store.
+//! The in-memory store.
 //!
-//! An opening is dropped by name: the proof of a function that ends with one takes its fields apart.
+//! An initial configuration is dropped explicitly: if one lives to a function's end, the proof takes its fields apart.
 
 ghost use Rattle.std.specs.Prelude.{◌≡◌, ◌∷◌, [], ℕ, false, IfOk};
 ghost use Rattle.krl.specs.Sets.{contains};
@@ -16,7 +16,7 @@ use std::alloc::Global;
 use std::marker::Model;
 use text::{NoMemory, Text};
 
-/// An office's register as lists in memory. Contracts see it as the plain machine's state and the rows that are kept.
+/// An office's register as lists in memory. Contracts see it as the reference model's state and the kept rows.
 #[derive(Drop)]
 pub struct PlainStore {
     pub(crate) opening: Opening,
@@ -26,7 +26,7 @@ pub struct PlainStore {
     pub(crate) departments: Vec<Department>,
     // by serial
     pub(crate) certificates: Vec<Certificate>,
-    // the serials
+    // the revoked serials
     pub(crate) revoked: Runs,
     // ascending
     pub(crate) revoked_key_ids: Vec<Text>,
@@ -93,7 +93,7 @@ impl PlainStore {
     }
 }
 
-/// The first CA alone, and no serial.
+/// A list with only the first CA, and no revoked serials.
 fn first_lists(alloc: Global, ca: Ca) -> Result<(Vec<Ca>, Runs), NoMemory>
     ensures cas { IfOk result (λ lists. lists.0.items ≡ ca ∷ []) }
     ensures runs { IfOk result (λ lists. (n : ℕ) → contains lists.1 n ≡ false) }

@@ -21,7 +21,7 @@ impl PlainStore {
         ensures is { option_copied result ≡ certificate_concerned (state_of self.now) message.now }
         ensures lawful { IfSome (option_copied result) IsCertificate }
     {
-        // What holds of the store is known to the proof only where a field of it is read.
+        // The proof gets the store's invariants only if one of its fields is read.
         let _ = &self.opening;
         match concerned(message).serial {
             Some(serial) => self.issued(serial),
@@ -29,7 +29,7 @@ impl PlainStore {
         }
     }
 
-    /// The department that a message concerns, where it concerns this certificate.
+    /// The department that a message concerns, if it concerns this certificate.
     fn department_of(
         &self,
         message: &Message,
@@ -60,7 +60,7 @@ impl PlainStore {
         }
     }
 
-    /// Whether the key id that a message concerns is revoked, where it concerns this certificate.
+    /// Whether the key ID that a message concerns is revoked, if it concerns this certificate.
     fn is_key_id_revoked(&self, message: &Message, certificate: Option<&Certificate>) -> bool
         requires { option_copied certificate ≡ certificate_concerned (state_of self.now) message.now }
         ensures { SaysKeyIdRevoked result (state_of self.now) message.now }
@@ -73,7 +73,7 @@ impl PlainStore {
         }
     }
 
-    /// The rows that a message concerns, while the version can grow.
+    /// The rows that a message concerns, as long as the version can grow.
     pub(crate) fn view(&self, message: &Message) -> View<'_>
         requires version { self.now.version < 9223372036854775807 }
         requires lawful { IsTrue (is_message message.now) }

@@ -1,6 +1,6 @@
-//! What was decided is written.
+//! Writing decisions.
 //!
-//! Large values are dropped by name: the proof of a function that ends with one takes each of its fields apart.
+//! Large values are dropped explicitly: if one lives to a function's end, the proof takes each of its fields apart.
 
 ghost use Rattle.std.specs.Prelude.{◌≡◌, ◌++◌, ◌∷◌, [], IfOk, OnOk, OnErr};
 ghost use Rattle.office.specs.Decided.{HasRoom, IsLawfulChange, changed};
@@ -15,7 +15,7 @@ use std::alloc::Global;
 use text::{NoMemory, Text};
 
 impl PlainStore {
-    /// Makes one change. A refusal changes nothing.
+    /// Makes one change. A refused allocation changes nothing.
     fn make(&mut self, alloc: Global, change: Change) -> Result<(), NoMemory>
         requires room { HasRoom change (state_of self.old) }
         requires lawful { IsLawfulChange change }
@@ -40,7 +40,7 @@ impl PlainStore {
         Ok(())
     }
 
-    /// Makes one change, and keeps a row. A refusal changes nothing.
+    /// Makes one change, and keeps a row. A refused allocation changes nothing.
     fn keep(&mut self, alloc: Global, row: Kept, change: Change) -> Result<(), NoMemory>
         requires room { HasRoom change (state_of self.old) }
         requires lawful { IsLawfulChange change }
@@ -59,7 +59,7 @@ impl PlainStore {
         made
     }
 
-    /// Writes what was decided, and a row for the arrival. A refusal changes nothing.
+    /// Writes a decision, and a row for the arrival. A refused allocation changes nothing.
     fn write(&mut self, alloc: Global, arrival: Arrival, decision: Decision) -> Result<(), NoMemory>
         requires room { HasRoom decision.change (state_of self.old) }
         requires lawful { IsLawfulChange decision.change }
@@ -79,7 +79,7 @@ impl PlainStore {
         Ok(())
     }
 
-    /// Writes what was decided, and gives the reply. A refusal changes nothing.
+    /// Writes a decision, and returns the reply. A refused allocation changes nothing.
     pub(crate) fn accept(
         &mut self,
         alloc: Global,
@@ -106,7 +106,7 @@ impl PlainStore {
     }
 }
 
-/// The row that is kept of an arrival with its reply.
+/// The row that is kept for an arrival with its reply.
 fn row_of(arrival: Arrival, reply: Text) -> Kept
     ensures { result ≡ row_of arrival reply }
 {

@@ -1,10 +1,10 @@
--- Steps that may fail, as what a function returned: where one fails, the whole fails so.
+-- Sequences of steps that may fail: if one fails, so does the whole, with the same fault.
 use Rattle.message.proofs.Words.{Err, Ok, Result, ap, both, made, refl, subst, sym, ℕ, ◌>>=◌, ◌≡◌}
 use Rattle.message.specs.Reading.{Gives}
 use Rattle.message.specs.declared.message_fault.MessageFault.{MessageFault}
 use Rattle.message.specs.declared.message_fault.MessageFault.TheVariants as fault
 
--- a step that gave a value, and then one that failed
+-- a step that succeeded, followed by one that failed
 pub past : {A B X : Type 0} {x : A} (r : Result A ℕ) (f : A → Result B ℕ) (of : B → X) (e : MessageFault)
     → r ≡ Ok x → Gives {X = X} (Err e) (made of (f x)) → Gives {X = X} (Err e) (made of (r >>= f))
 past {A} {X = X} r f of e is given =
@@ -16,7 +16,7 @@ pub failed : {A B X : Type 0} (r : Result A ℕ) (f : A → Result B ℕ) (of : 
 failed {A} r f of (fault.BadLine n) is = ap (λ (r : Result A ℕ). made of (r >>= f)) is
 failed r f of fault.NoMemory is = tt
 
--- two steps, and the fault of the first that failed
+-- two steps, with the fault of the first that failed
 pub both_give : {A B : Type 0} (result : Result (A × B) MessageFault) (one : Result A MessageFault)
     (other : Result B MessageFault) (a : Result A ℕ) (b : Result B ℕ) → result ≡ both one other → Gives one a
     → Gives other b → Gives result (both a b)

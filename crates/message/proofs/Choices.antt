@@ -1,4 +1,4 @@
--- Readings that go one way where a line is of one kind, and another way otherwise; a line, and then the rest.
+-- Readings that branch on whether a line can be read; readings of a line, and then of the rest.
 use Rattle.message.proofs.Words.{AllByRecursion, Err, List, None, Ok, Option, Result, Some, ap, arith, drop, inl, inr}
 use Rattle.message.proofs.Words.{length, length-drop, line_of, none-some, or_fault, refl, same_Some, subst, suc, sym, ℕ}
 use Rattle.message.proofs.Words.{◌<◌, ◌>>=◌, ◌∙◌, ◌∷◌, ◌≡◌, ◌⊎◌}
@@ -6,7 +6,7 @@ use Rattle.message.proofs.Lines.{ended, line_is, more_than_none, Shares, shares_
 use Rattle.message.proofs.Readings.{IsField, IsLine, AreBytes, FirstFault, IsReading, error_at, fault_as, line_read}
 use Rattle.message.proofs.Readings.{line_read_is_ended, none_shared, one_further}
 
--- ---- a line that goes on, or whatever is read otherwise
+-- ---- a line that continues a message, or else any outcome
 
 module _ {M X : Type 0} (k : ℕ) (read : List ℕ → Option X) (text : X → List ℕ) (IsLawful : X → Type 0)
     (step : Option X → List (List ℕ) → Result M ℕ) (IsStop : M → Type 0) (IsMore : X → M → Type 0)
@@ -49,7 +49,7 @@ module _ {M X : Type 0} (k : ℕ) (read : List ℕ → Option X) (text : X → L
         ∙ (more_reads x going.1).again ps m going.2 at.1
   ]
 
-  -- where the first line goes on, what another text shares
+  -- if the first line continues a message, and no continuation shares the lines after it, no message shares all of them
   goes_on : (ps : List (List ℕ)) (j : ℕ) (m : M) (x : X) → read (line_of (suc k) ps) ≡ Some x
       → ((m : M) → IsMore x m → Shares (suc j) (drop (suc k) ps) (ended (more_lines x m)) → ⊥)
       → Is m → Shares (suc (suc j)) (drop k ps) (ended (lines m)) → ⊥
@@ -99,7 +99,7 @@ module _ {M X : Type 0} (k : ℕ) (read : List ℕ → Option X) (text : X → L
     are_lines = lines_all;
   }
 
--- ---- a line that goes on, or another reading
+-- ---- a line that continues a message, or else another reading
 
 module _ {M X : Type 0} (k : ℕ) (read : List ℕ → Option X) (text : X → List ℕ) (IsLawful : X → Type 0)
     (step : Option X → List (List ℕ) → Result M ℕ) (IsStop : M → Type 0) (IsMore : X → M → Type 0)
@@ -112,7 +112,7 @@ module _ {M X : Type 0} (k : ℕ) (read : List ℕ → Option X) (text : X → L
     (cases : (m : M) → Is m → IsStop m ⊎ ((x : X) × IsLawful x × IsMore x m))
     (stops : (m : M) → IsStop m → (l : List ℕ) × (ls : List (List ℕ)) × (stop_lines m ≡ l ∷ ls) × (read l ≡ None))
   where
-    -- a message that goes on shares no line that does not
+    -- a message that shares a line which can't be read is one that stops there
     stopped_or : (ps : List (List ℕ)) (j : ℕ) (m : M) → read (line_of (suc k) ps) ≡ None
         → IsStop m ⊎ ((x : X) × IsLawful x × IsMore x m) → Shares (suc j) (drop k ps) (ended (lines m))
         → (m' : M) × IsStop m' × (lines m ≡ stop_lines m')
@@ -162,7 +162,7 @@ module _ {M X : Type 0} (k : ℕ) (read : List ℕ → Option X) (text : X → L
   not_read : (ps : List (List ℕ)) (m : M) → step None ps ≡ Ok m → ⊥
   not_read ps m e = cc
 
-  -- a line that is not read is the first that fits no text
+  -- a line that can't be read is the first that fits no text
   fault_here : (ps : List (List ℕ)) (i : ℕ) → k < length ps → read (line_of (suc k) ps) ≡ None → step None ps ≡ Err i
       → FirstFault k Whole all_lines ps i
   fault_here ps i inside is e =

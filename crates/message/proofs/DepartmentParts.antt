@@ -1,4 +1,4 @@
--- Reading a department is reading its parts.
+-- Reading a department is the same as reading its parts.
 use Rattle.message.proofs.Words.{Bool, Err, List, Ok, Result, are_administrators, are_extension_names, are_namespaces}
 use Rattle.message.proofs.Words.{are_option_names, are_rules, both, codes, cond, ends_after, false, is_longest_life}
 use Rattle.message.proofs.Words.{line_of, number_after, or_fault, refl, true, ℕ, ◌&&◌, ◌>>=◌, ◌≡◌}
@@ -8,12 +8,12 @@ use Rattle.message.specs.Values.{fits_kind}
 use Rattle.message.specs.Reading.{department_in, kind_of, list_after, name_after}
 use Rattle.message.specs.Parts.{Profile, department_of, namespaces_in, profile_in}
 
--- lists in turn
+-- a list, or the number of its bad line
 abbrev Lists : Type 0
 Lists = Result (List (List ℕ)) ℕ
 
 module _ (name : List ℕ) (kind : Kind) where
-  -- the department of lists in turn
+  -- the department from the outcomes of its lines, in order
   abbrev in_turn : Lists → Lists → Lists → Lists → Result ℕ ℕ → Lists → Bool → Result Department ℕ
   in_turn a b c d e f ends = do
     administrators ← a
@@ -50,7 +50,7 @@ module _ (name : List ℕ) (kind : Kind) where
   by_parts (Ok a) (Ok b) (Ok c) (Ok d) (Ok e) (Ok f) false = refl
   by_parts (Ok a) (Ok b) (Ok c) (Ok d) (Ok e) (Ok f) true = refl
 
--- the same after the lines of the name and of the kind
+-- the same, preceded by the lines of the name and of the kind
 of_kind : (name : Result (List ℕ) ℕ) (kind : Result Kind ℕ) (turn : List ℕ → Kind → Result Department ℕ)
     (profile : Kind → Result Profile ℕ)
     → ((n : List ℕ) (k : Kind) → turn n k

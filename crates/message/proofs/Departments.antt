@@ -1,4 +1,4 @@
--- Departments: what is read is a department's text, its text is read, and the first fault.
+-- Departments: a text is read exactly when it is a department's, and a fault is at the first bad line.
 use Rattle.message.proofs.Words.{List, Some, User, [], and_from, and_parts, ap, are_administrators, are_extension_names}
 use Rattle.message.proofs.Words.{are_namespaces, are_option_names, are_rules, bytes_eq, bytes_eq-Decides, codes}
 use Rattle.message.proofs.Words.{cond_some, department_lines, inl, inr, is_department, is_longest_life, is_name}
@@ -17,7 +17,7 @@ use Rattle.message.proofs.Elements.{name_lacks, administrators_lack, rules_lack,
 use Rattle.message.proofs.Elements.{extension_names_lack, namespaces_lack}
 use Rattle.message.proofs.Numbers.{number_field, longest_life_small}
 
--- the line of a kind
+-- the line of the kind
 kind_field : IsField kind_of (λ k. codes "kind " ++ kind_text k) (λ _. Unit {0})
 kind_field = record {
   found = λ l k fits e. (tt, kind_found l k e);
@@ -43,7 +43,7 @@ kind_field = record {
     line User = lacks_by 10 (codes "kind user") refl
     line Host = lacks_by 10 (codes "kind host") refl
 
--- The values of a department's lines in turn are lawful, and they are all.
+-- The values of a department's lines, in order, are valid, and there are no others.
 abbrev IsWhole : Department → Type 0
 IsWhole d = (is_name d.name ≡ true)
     × (Unit {0} × ((are_administrators d.administrators ≡ true) × ((are_rules d.rules ≡ true)
@@ -95,7 +95,7 @@ whole_lines =
     none_fits User = refl
     none_fits Host = refl
 
--- a department is read from its text alone, its text is read, and the fault is at the first line of no department
+-- a text is read as a department exactly when it is its text, and a fault is at the first line that fits no department
 pub department_reads : IsReading 0 department_in (λ d. is_department d ≡ true) department_lines
 department_reads =
     same_values whole_lines

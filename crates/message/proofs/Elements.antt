@@ -1,5 +1,5 @@
--- What may stand in a line: no name, rule, principal, key id, namespace, option or number has a line feed or, in
--- lists, a comma.
+-- The elements of lines: no name, rule, principal, key ID, namespace, option or number has a line feed or, in lists,
+-- a comma.
 use Rattle.message.proofs.Words.{All-append, All-cons, Bool, CriticalOptions, Lacks, List, [], and_parts, ap}
 use Rattle.message.proofs.Words.{are_administrators, are_extension_names, are_namespaces, are_option_names}
 use Rattle.message.proofs.Words.{are_principals, are_rules, bytes_eq, bytes_eq-Decides, drop, eqb, eqb-true, false, inl}
@@ -56,7 +56,7 @@ key_id_line t is =
     (All-append (λ b. eqb b 10 ≡ false) department (drop (length department) t)
     (name_lacks 10 refl department both.0) (key_id_end_lacks 10 refl refl (drop (length department) t) both.1))
 
--- one of these texts, where none has the byte
+-- one of these texts lacks the byte if all of them do
 among_lacks : (byte : ℕ) (names : List (List ℕ)) → list_all (λ n. list_all (λ b. not (eqb b byte)) n) names ≡ true
     → (t : List ℕ) → list_any (λ n. bytes_eq n t) names ≡ true → Lacks byte t
 among_lacks byte [] all t is = absurd cc

@@ -1,4 +1,4 @@
--- The end behind the last line.
+-- The end after the last line.
 use Rattle.message.proofs.Words.{Bool, Err, List, Ok, Option, Result, [], and_parts, ap, arith, cond, drop, ends_after}
 use Rattle.message.proofs.Words.{eq-eqb, eqb, eqb-true, false, length, length-drop, list_any, refl, suc, sym, true, ℕ}
 use Rattle.message.proofs.Words.{◌+◌, ◌-◌, ◌<◌, ◌∙◌, ◌∷◌, ◌≡◌}
@@ -8,14 +8,14 @@ use Rattle.message.proofs.Lines.{shares_none}
 use Rattle.message.proofs.Readings.{IsField, FirstFault, IsReading, error_at, same_values}
 use Rattle.message.proofs.Choices.{line_then}
 
--- one text, of no bytes
+-- a list of length 1 with an empty text
 one_empty : (ls : List (List ℕ)) → length ls ≡ 1 → list_any (λ p. eqb (length p) 0) ls ≡ true → ls ≡ [] ∷ []
 one_empty [] n e = absurd (omega (arith, n))
 one_empty ([] ∷ []) n e = refl
 one_empty ((b ∷ bs) ∷ []) n e = absurd (omega (arith, eqb-true _ 0 (sym (or-false (eqb (length (b ∷ bs)) 0)) ∙ e)))
 one_empty (l ∷ m ∷ ls) n e = absurd (omega (arith, n))
 
--- one piece is left, and it has no bytes
+-- after the last line, one piece is left, and it is empty
 is_ended_after : (n : ℕ) (ps : List (List ℕ)) → ends_after n ps ≡ true → drop n ps ≡ [] ∷ []
 is_ended_after n ps e =
     let both = and_parts _ _ e in
@@ -23,7 +23,7 @@ is_ended_after n ps e =
     let left : length (drop n ps) ≡ 1 = rw (length-drop n ps) (omega arith) in
     one_empty (drop n ps) left both.1
 
--- where it is so, the text ends there
+-- if one empty piece is left, the text ends there
 ends_there : (n : ℕ) (ps : List (List ℕ)) → drop n ps ≡ [] ∷ [] → ends_after n ps ≡ true
 ends_there n ps e =
     let count : length ps - n ≡ 1 = sym (length-drop n ps) ∙ ap length e in
@@ -50,7 +50,7 @@ module _ {M : Type 0} (k : ℕ) (whole : M) where
         none = λ m is shared. absurd (omega (arith, shared.1));
       }
 
-  -- the end behind the last line
+  -- reading the end after the last line
   pub then_end : IsReading k (λ ps. cond (ends_after k ps) (Ok whole) (Err (suc k))) (λ m. m ≡ whole) (λ _. [])
   then_end = record {
     some = (whole, refl);
@@ -60,7 +60,7 @@ module _ {M : Type 0} (k : ℕ) (whole : M) where
     are_lines = λ m is. tt;
   }
 
--- ---- one line, and no more
+-- ---- a single line
 
 module _ {X : Type 0} (read : List ℕ → Option X) (text : X → List ℕ) (IsLawful : X → Type 0)
     (field : IsField read text IsLawful) (some : X) (some_is : IsLawful some) where
@@ -69,6 +69,6 @@ module _ {X : Type 0} (read : List ℕ → Option X) (text : X → List ℕ) (Is
   first_alone = line_then 0 read text IsLawful (λ x. x) _ (λ x y. y ≡ x) (λ _. []) field some some_is
       (λ x _. then_end 1 x) (λ x y e. e)
 
-  -- the value of a line that is all
+  -- reading a message of a single line
   pub one_line : IsReading 0 (one_line_in read) IsLawful (λ x. text x ∷ [])
   one_line = same_values first_alone (λ x is. is.0) (λ x is. (is, refl))

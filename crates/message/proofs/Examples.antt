@@ -1,4 +1,4 @@
--- Worked messages, computed by the definitions.
+-- Worked examples of messages, computed by the definitions.
 use Rattle.message.proofs.Words.{None, Some, User, [], codes, message_text, refl, replicate, ◌++◌, ◌∷◌, ◌≡◌}
 use Rattle.std.specs.Fmt.{digits}
 use Rattle.base64.proofs.OnLiterals.{base64_on_literals}

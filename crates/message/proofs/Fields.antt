@@ -1,4 +1,4 @@
--- Values behind a word: what is read is the value's text, and the text is read.
+-- Values after a word: a text is read as a value exactly when it is the value's text.
 use Rattle.message.proofs.Words.{All-append, All-cons, All-nil, AllByRecursion, Bool, IsBytes, IsBytes-drop, Lacks}
 use Rattle.message.proofs.Words.{List, None, Option, Some, [], after, and_parts, ap, append-nil, arith}
 use Rattle.message.proofs.Words.{bytes_eq-Decides, cond-true, cond_some, drop, drop-append_seam, eqb, eqb-true, false}
@@ -14,11 +14,11 @@ use Rattle.message.proofs.Readings.{IsField, IsLine}
 
 -- ---- texts that lack a byte
 
--- a text of which this can be computed
+-- a text for which the test computes to true
 pub lacks_by : (byte : ℕ) (t : List ℕ) → list_all (λ b. not (eqb b byte)) t ≡ true → Lacks byte t
 lacks_by byte t all = λ k d inside. not-true _ (AllPass-from_list_all (λ b. not (eqb b byte)) t all k d inside)
 
--- A word that stands at the head of a line has no line feed.
+-- A word at the start of a line has no line feed.
 abbrev pub IsHead : List ℕ → Type 0
 IsHead head = list_all (λ b. not (eqb b 10)) head ≡ true
 
@@ -26,13 +26,13 @@ IsHead head = list_all (λ b. not (eqb b 10)) head ≡ true
 abbrev pub AllLack : ℕ → List (List ℕ) → Type 0
 AllLack byte ts = AllByRecursion (Lacks byte) ts
 
--- texts that all pass a test
+-- texts that all pass a test lack the byte, if each text that passes it does
 pub all_lack : (test : List ℕ → Bool) (byte : ℕ) → ((t : List ℕ) → test t ≡ true → Lacks byte t)
     → (ts : List (List ℕ)) → list_all test ts ≡ true → AllLack byte ts
 all_lack test byte lacks [] e = tt
 all_lack test byte lacks (t ∷ ts) e = let both = and_parts _ _ e in (lacks t both.0, all_lack test byte lacks ts both.1)
 
--- texts joined by another byte
+-- texts that lack the byte, joined by a different one, lack it too
 pub lacks_joined : (byte by : ℕ) (ts : List (List ℕ)) → eqb by byte ≡ false → AllLack byte ts
     → Lacks byte (join_with_byte by ts)
 lacks_joined byte by [] other h = All-nil (λ b. eqb b byte ≡ false)
@@ -42,7 +42,7 @@ lacks_joined byte by (t ∷ u ∷ ts) other h =
     (All-cons (λ b. eqb b byte ≡ false) by (join_with_byte by (u ∷ ts)) other
     (lacks_joined byte by (u ∷ ts) other h.1))
 
--- ---- what follows a word
+-- ---- values after a word
 
 pub after_found : (head l t : List ℕ) → after head l ≡ Some t → (l ≡ head ++ t) × (t ≡ drop (length head) l)
 after_found head l t e =
@@ -58,7 +58,7 @@ after_again head t =
     cond-true _ (Some (drop (length head) (head ++ t))) None ((bytes_eq-Decides _ _).1 (take-append_seam head t))
     ∙ ap (λ (x : List ℕ). Some x) (drop-append_seam head t)
 
--- A text read as a value.
+-- Reading a text as a value.
 pub record IsValue {X : Type 0} (read : List ℕ → Option X) (text : X → List ℕ) (IsLawful : X → Type 0) : Type 0 where
   pub found : (t : List ℕ) (x : X) → IsBytes t → read t ≡ Some x → IsLawful x × (t ≡ text x)
   pub again : (x : X) → IsLawful x → read (text x) ≡ Some x
@@ -81,7 +81,7 @@ value_passing read text test found again is_line = record {
   is_line = is_line;
 }
 
--- a value behind a word that can be computed with
+-- a value after a word that `after` can compute with
 pub value_after : {X : Type 0} (head : List ℕ) (read : List ℕ → Option X) (text : X → List ℕ) (IsLawful : X → Type 0)
     → IsHead head → after head [] ≡ None → IsValue read text IsLawful
     → IsField (λ l. option_and_then read (after head l)) (λ x. head ++ text x) IsLawful
@@ -98,7 +98,7 @@ value_after head read text IsLawful line empty value = record {
       All-append (λ b. eqb b 10 ≡ false) head (text x) (lacks_by 10 head line) (value.is_line x lawful);
 }
 
--- a field by another way of reading
+-- a field with another function that reads it
 pub same_field : {X : Type 0} (read again : List ℕ → Option X) (text : X → List ℕ) (IsLawful : X → Type 0)
     → ((l : List ℕ) → again l ≡ read l) → IsField read text IsLawful → IsField again text IsLawful
 same_field {X} read again text IsLawful same field =
@@ -109,7 +109,7 @@ and_then_assoc : {A B C : Type 0} (f : A → Option B) (g : B → Option C) (o :
 and_then_assoc f g None = refl
 and_then_assoc f g (Some x) = refl
 
--- a value behind a word that passes a test
+-- a value after a word, if it passes a test
 pub field_passing : {X : Type 0} (head : List ℕ) (read : List ℕ → Option X) (text : X → List ℕ) (test : X → Bool)
     → IsHead head → after head [] ≡ None
     → ((t : List ℕ) (x : X) → IsBytes t → read t ≡ Some x → t ≡ text x)
@@ -124,7 +124,7 @@ field_passing head read text test line empty found again is_line =
     (value_after head (λ t. option_and_then (passing test) (read t)) text (λ x. test x ≡ true) line empty
     (value_passing read text test found again is_line))
 
--- a text behind a word that passes a test
+-- a text after a word, if it passes a test
 pub text_field : (head : List ℕ) (test : List ℕ → Bool) → IsHead head → after head [] ≡ None
     → ((t : List ℕ) → test t ≡ true → IsLine t)
     → IsField (λ l. option_and_then (passing test) (after head l)) (λ t. head ++ t) (λ t. test t ≡ true)
@@ -137,7 +137,7 @@ text_field head test line empty is_line =
 
 -- ---- lists
 
--- what follows the word of a list
+-- the text after the word of a list
 abbrev pub listed_text : List (List ℕ) → List ℕ
 listed_text [] = []
 listed_text (t ∷ ts) = 32 ∷ join_with_byte 44 (t ∷ ts)
@@ -146,13 +146,13 @@ list_text : (word : List ℕ) (ts : List (List ℕ)) → word ++ listed_text ts 
 list_text word [] = append-nil word
 list_text word (t ∷ ts) = refl
 
--- a field with the same texts
+-- a field with another definition of the same texts
 pub same_text : {X : Type 0} (read : List ℕ → Option X) (text texts : X → List ℕ) (IsLawful : X → Type 0)
     → ((x : X) → text x ≡ texts x) → IsField read text IsLawful → IsField read texts IsLawful
 same_text {X} read text texts IsLawful same field =
     subst (λ (t : X → List ℕ). IsField read t IsLawful) (λ i x. same x i) field
 
--- texts joined by commas are cut at the commas
+-- texts joined by commas are split at the commas
 pub split_joined : (t : List ℕ) (ts : List (List ℕ)) → AllLack 44 (t ∷ ts)
     → slice_split (λ c. eqb c 44) (join_with_byte 44 (t ∷ ts)) ≡ t ∷ ts
 split_joined = slice_split-join_with_byte 44
@@ -178,7 +178,7 @@ listed_line [] h = All-nil (λ b. eqb b 10 ≡ false)
 listed_line (t ∷ ts) h =
     All-cons (λ b. eqb b 10 ≡ false) 32 (join_with_byte 44 (t ∷ ts)) refl (lacks_joined 10 44 (t ∷ ts) refl h)
 
--- a list behind its word that passes a test
+-- a list after its word, if it passes a test
 pub list_field : (word : List ℕ) (test : List (List ℕ) → Bool) → IsHead word → after word [] ≡ None
     → ((ts : List (List ℕ)) → test ts ≡ true → AllLack 44 ts × AllLack 10 ts)
     → IsField (λ l. option_and_then (passing test) (option_and_then listed (after word l))) (list_line word)

@@ -14,7 +14,7 @@ use Rattle.message.proofs.Elements.{extension_names_lack}
 use Rattle.message.proofs.Options.{AreNew, option_field}
 
 module _ (department key_id : List ℕ) (key : KeyLine) (principals : List (List ℕ)) (after before : ℕ) where
-  -- the issue of these options and extensions
+  -- the issue with these options and extensions
   abbrev whole : List Pair → List (List ℕ) → Issue
   whole options extensions = record {
     department = department;
@@ -27,7 +27,7 @@ module _ (department key_id : List ℕ) (key : KeyLine) (principals : List (List
     extensions = extensions;
   }
 
-  -- the reading of the line of extensions, as line n, and of the end
+  -- reading the line of extensions, as line n, and then the end; m is the number of the line after it
   abbrev tail_at : ℕ → ℕ → List Pair → List (List ℕ) → Result Issue ℕ
   tail_at n m options ps =
       or_fault n (list_after are_extension_names (codes "extensions") (line_of n ps)) >>=
@@ -36,7 +36,7 @@ module _ (department key_id : List ℕ) (key : KeyLine) (principals : List (List
   abbrev tail : List Pair → List (List ℕ) → Result Issue ℕ
   tail options ps = tail_at (7 + length options) (8 + length options) options ps
 
-  -- An issue of these options.
+  -- An issue with exactly these options.
   abbrev IsStop : List Pair → Issue → Type 0
   IsStop options i = (are_extension_names i.extensions ≡ true) × (i ≡ whole options i.extensions)
 
@@ -59,7 +59,7 @@ module _ (department key_id : List ℕ) (key : KeyLine) (principals : List (List
       (subst (λ (n : ℕ). IsReading k (tail_at n (suc (suc k)) options) (IsStop options) last_lines) here
       (stop_from k options))
 
-  -- An issue whose options are these and then up to so many more.
+  -- An issue whose options are these, followed by at most `most` more.
   abbrev pub IsAfter : ℕ → List Pair → Issue → Type 0
   IsAfter most options i =
       (more : List Pair) × (i.options ≡ options ++ more) × (length more ≤ most) × AreNew options more
@@ -104,7 +104,7 @@ module _ (department key_id : List ℕ) (key : KeyLine) (principals : List (List
   cases most options i (p ∷ more, same, few, new, lawful, all) =
       inr (p, new.0, (more, same ∙ sym (append_assoc options (p ∷ []) more), omega arith, new.1, lawful, all))
 
-  -- the line of extensions is no option line
+  -- the line of extensions isn't an option line
   stops : (options : List Pair) (i : Issue) → IsStop options i
       → (l : List ℕ) × (ls : List (List ℕ)) × (last_lines i ≡ l ∷ ls) × (option_after options l ≡ None)
   stops options i is = (list_line (codes "extensions") i.extensions, [], refl, no_option i.extensions)

@@ -1,4 +1,4 @@
--- Reading an issue is reading its parts.
+-- Reading an issue is the same as reading its parts.
 use Rattle.message.proofs.Words.{Bool, Err, Issue, KeyLine, List, Ok, Pair, Result, [], are_extension_names, codes}
 use Rattle.message.proofs.Words.{are_principals, both, cond, ends_after, false, is_end, key_id_after, key_line_after, length}
 use Rattle.message.proofs.Words.{line_of, number_after, or_fault, refl, true, ℕ, ◌+◌, ◌>>=◌, ◌≡◌}
@@ -6,7 +6,7 @@ use Rattle.message.specs.Reading.{issue_in, list_after, name_after, options_from
 use Rattle.message.specs.Parts.{Subject, Terms, extras_in, issue_of}
 
 module _ (options : List Pair) (m : ℕ) where
-  -- the issue of lines in turn
+  -- the issue from the outcomes of its lines, in order
   abbrev in_turn : Result (List ℕ) ℕ → Result (List ℕ) ℕ → Result KeyLine ℕ → Result (List (List ℕ)) ℕ → Result ℕ ℕ
       → Result ℕ ℕ → Result (List (List ℕ)) ℕ → Bool → Result Issue ℕ
   in_turn a b c d e f x ends = do

@@ -1,4 +1,4 @@
--- Issues: what is read is an issue's text, its text is read, and the first fault.
+-- Issues: a text is read exactly when it is an issue's, and a fault is at the first bad line.
 use Rattle.message.proofs.Words.{Issue, List, Pair, [], and_from, and_parts, ap, are_principals, codes, is_end}
 use Rattle.message.proofs.Words.{is_issue, is_key_id, is_key_line, is_name, issue_lines, leb-true, refl, subst, sym}
 use Rattle.message.proofs.Words.{true, ◌∷◌, ◌≡◌}
@@ -14,7 +14,7 @@ use Rattle.message.proofs.Options.{options_are_new, new_are_options}
 use Rattle.message.proofs.Keys.{key_field, some_key}
 use Rattle.message.proofs.IssueEnds.{IsAfter, options_read}
 
--- The values of an issue's lines in turn are lawful, and they are all.
+-- The values of an issue's lines, in order, are valid, and there are no others.
 abbrev IsWhole : Issue → Type 0
 IsWhole i = (is_name i.department ≡ true) × ((is_key_id i.key_id ≡ true) × ((is_key_line i.key ≡ true)
     × ((are_principals i.principals ≡ true) × ((is_end i.after ≡ true) × ((is_end i.before ≡ true)
@@ -40,7 +40,7 @@ whole_lines =
     (λ x i p. ap (λ (i : Issue). i.key_id) p.1.1.1.1.5))
     (λ x i p. ap (λ (i : Issue). i.department) p.1.1.1.1.1.5)
 
--- an issue is read from its text alone, its text is read, and the fault is at the first line of no issue
+-- a text is read as an issue exactly when it is its text, and a fault is at the first line that fits no issue
 pub issue_reads : IsReading 0 issue_in (λ i. is_issue i ≡ true) issue_lines
 issue_reads = same_values whole_lines to from
   where

@@ -1,4 +1,4 @@
--- Key lines in lines: none has a line feed, and each is read from its text alone.
+-- The public-key lines in messages: none has a line feed, and each is read from its text alone.
 use Rattle.message.proofs.Words.{All-append, All-cons, All-nil, AllByRecursion, KeyLine, List, None, Ok, Option, Some}
 use Rattle.message.proofs.Words.{[], after, and_parts, ap, comment_text, encode_of, eqb, false, is_key_line}
 use Rattle.message.proofs.Words.{key_line_after, key_line_text, lacks_from, length, ok_of, refl, replicate, result_ok}
@@ -43,7 +43,7 @@ comment_line None is = All-nil (λ x. eqb x 10 ≡ false)
 comment_line (Some c) is =
     All-cons (λ x. eqb x 10 ≡ false) 32 c refl (lacks_from is_comment_byte 10 c refl (and_parts _ _ is).1)
 
--- a lawful key line is a line
+-- a valid public-key line has no line feed
 pub key_is_line : (k : KeyLine) → is_key_line k ≡ true → IsLine (key_line_text k)
 key_is_line k is =
     All-append (λ x. eqb x 10 ≡ false) key_line_head (encode_of standard (key_blob k.key) ++ comment_text k.comment)
@@ -51,7 +51,7 @@ key_is_line k is =
     (All-append (λ x. eqb x 10 ≡ false) (encode_of standard (key_blob k.key)) (comment_text k.comment)
     (base64_line (key_blob k.key)) (comment_line k.comment (and_parts _ _ is).1))
 
--- a key line behind a word
+-- a public-key line after a word
 pub key_field : (head : List ℕ) → IsHead head → after head [] ≡ None
     → IsField (key_line_after head) (λ k. head ++ key_line_text k) (λ k. is_key_line k ≡ true)
 key_field head line empty =
@@ -61,6 +61,6 @@ key_field head line empty =
       is_line = key_is_line;
     })
 
--- a lawful key line
+-- a valid public-key line
 abbrev pub some_key : KeyLine
 some_key = record { key = replicate 32 0; comment = None }

@@ -1,4 +1,4 @@
--- Messages of several kinds, of which the first line says the kind.
+-- Messages of several kinds, with the kind given by the first line.
 use Rattle.message.proofs.Words.{Bool, Err, List, None, Result, Some, [], after, and_parts, ap, bytes_eq}
 use Rattle.message.proofs.Words.{bytes_eq-Decides, cases_Bool, cond, cond-false, drop, eq-eqb, eqb, false, inl, inr}
 use Rattle.message.proofs.Words.{is_some, length, line_of, list_all, made, not, not-true, or_cases, refl, subst, suc}
@@ -7,21 +7,21 @@ use Rattle.message.proofs.Fields.{after_again}
 use Rattle.message.proofs.Lines.{ended, line_is, Shares, shares_less}
 use Rattle.message.proofs.Readings.{IsReading, fault_as, read_as, same_reading}
 
--- ---- what a line begins with
+-- ---- the start of a line
 
 -- whether a line begins with these bytes
 abbrev pub has_head : List ℕ → List ℕ → Bool
 has_head head line = is_some (after head line)
 
--- Line 1 of a text begins with these bytes, or does not.
+-- The answer is whether line 1 of a text begins with these bytes.
 abbrev pub Heads : List ℕ → Bool → List (List ℕ) → Type 0
 Heads head answer lines = (l : List ℕ) × (ls : List (List ℕ)) × (lines ≡ l ∷ ls) × (has_head head l ≡ answer)
 
--- Line 1 of a text is these bytes and more.
+-- Line 1 of a text is these bytes, followed by others.
 abbrev pub Begins : List ℕ → List (List ℕ) → Type 0
 Begins head lines = (t : List ℕ) × (ls : List (List ℕ)) × (lines ≡ (head ++ t) ∷ ls)
 
--- two beginnings that differ within the shorter one
+-- two prefixes differ within the length of the shorter one
 abbrev pub are_apart : List ℕ → List ℕ → Bool
 are_apart [] g = false
 are_apart (a ∷ h) [] = false
@@ -37,7 +37,7 @@ not_front (a ∷ h) (b ∷ g) t e same = elim (or_cases (not (eqb a b)) (are_apa
   | inr later ↦ let rest : take (length h) (g ++ t) ≡ h = cc in not_front h g t later rest
 ]
 
--- a line that begins with the one does not begin with the other
+-- a line that begins with one of them does not begin with the other
 pub other_head : (head begun : List ℕ) → are_apart head begun ≡ true → (lines : List (List ℕ)) → Begins begun lines
     → Heads head false lines
 other_head head begun apart lines first = (begun ++ first.0, first.1, first.2, not_begun first.0)
@@ -48,7 +48,7 @@ other_head head begun apart lines first = (begun ++ first.0, first.1, first.2, n
       | inr other ↦ ap is_some (cond-false _ (Some (drop (length head) (begun ++ t))) None other)
     ]
 
--- a line that begins so
+-- a line that consists of a prefix and more begins with the prefix
 pub same_head : (head : List ℕ) (lines : List (List ℕ)) → Begins head lines → Heads head true lines
 same_head head lines first = (head ++ first.0, first.1, first.2, ap is_some (after_again head first.0))
 
@@ -58,7 +58,7 @@ same_head head lines first = (head ++ first.0, first.1, first.2, ap is_some (aft
 abbrev pub IsOf : {A M : Type 0} → (A → M) → (A → Type 0) → M → Type 0
 IsOf {A} of Is m = (a : A) × (m ≡ of a) × Is a
 
--- the reading of one kind's values reads that kind's messages
+-- reading the values of one kind is reading the messages of that kind
 pub of_kind : {A M : Type 0} (all : M → List (List ℕ)) (of : A → M) (read : List (List ℕ) → Result A ℕ)
     (Is : A → Type 0) (lines : A → List (List ℕ)) → ((a : A) → all (of a) ≡ lines a) → IsReading 0 read Is lines
     → IsReading 0 (λ ps. made of (read ps)) (IsOf of Is) all
@@ -87,7 +87,7 @@ module _ {M : Type 0} (lines : M → List (List ℕ)) (head : List ℕ) (this ot
   heads_by true = heads
   heads_by false = differs
 
-  -- a text that shares line 1 begins with the head if the other does
+  -- two texts that share line 1 both begin with the head, or neither does
   one_head : (ps : List (List ℕ)) (j : ℕ) (m : M) (b : Bool) → Heads head b (lines m)
       → Shares (suc j) ps (ended (lines m)) → b ≡ has_head head (line_of 1 ps)
   one_head ps j m b first shared =
@@ -119,7 +119,7 @@ module _ {M : Type 0} (lines : M → List (List ℕ)) (head : List ℕ) (this ot
 
 -- ---- kinds in turn
 
--- A reading of messages, each of which begins with one of these heads.
+-- A reading of messages that each begin with one of these heads.
 pub record IsChoice {M : Type 0} (heads : List (List ℕ)) (read : List (List ℕ) → Result M ℕ) (Is : M → Type 0)
     (lines : M → List (List ℕ)) : Type 0 where
   pub reads : IsReading 0 read Is lines
@@ -137,7 +137,7 @@ module _ {A M : Type 0} (all : M → List (List ℕ)) (head : List ℕ) (of : A 
   begun : (m : M) → IsThis m → Begins head (all m)
   begun m is = subst (Begins head) (sym (same is.0) ∙ ap all (sym is.1)) (begins is.0)
 
-  -- this kind and no other, where each of its values begins so
+  -- this kind alone, if each of its values begins with the head
   pub kind_alone : ((ps : List (List ℕ)) → has_head head (line_of 1 ps) ≡ false → read ps ≡ Err 1)
       → IsChoice (head ∷ []) (λ ps. cond (has_head head (line_of 1 ps)) (this ps) (Err 1)) IsThis all
   kind_alone unread = record {

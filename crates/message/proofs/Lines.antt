@@ -1,16 +1,16 @@
--- Lines among the pieces of a text, and how many of them two texts share.
+-- Lines among the pieces of a text, and the number of lines that two texts share.
 use Rattle.message.proofs.Words.{Bool, List, [], ap, arith, cond, cond-true, drop, false, get_or, inl, inr, length}
 use Rattle.message.proofs.Words.{length-append, length-drop, line_of, ltb, refl, subst, suc, sym, take, true, ℕ, ◌++◌}
 use Rattle.message.proofs.Words.{◌-◌, ◌<◌, ◌∙◌, ◌∷◌, ◌≡◌, ◌⊎◌}
 use Rattle.std.proofs.Common.{drop-cons}
 use Rattle.std.proofs.lemmas.Bool.{ltb-true, lt-ltb}
 
--- what a choice is, by its test
+-- the value of a choice, depending on its test
 pub chosen : {A : Type 0} (b : Bool) (x y z : A) → cond b x y ≡ z → ((b ≡ true) × (x ≡ z)) ⊎ ((b ≡ false) × (y ≡ z))
 chosen true x y z e = inl (refl, e)
 chosen false x y z e = inr (refl, e)
 
--- the line after k lines, where it is ended, comes first among the pieces from there on
+-- the line after k lines, if it is terminated, comes first among the pieces from there on
 pub line_there : (k : ℕ) (ps : List (List ℕ)) → suc k < length ps → drop k ps ≡ line_of (suc k) ps ∷ drop (suc k) ps
 line_there k ps h =
     let is_there : ltb (suc k) (length ps) ≡ true = lt-ltb _ _ h in
@@ -20,7 +20,7 @@ line_there k ps h =
     let below : k < length ps = omega arith in
     drop-cons ps k [] below ∙ ap (λ (l : List ℕ). l ∷ drop (suc k) ps) (sym is)
 
--- a line that has bytes is ended
+-- a line that isn't empty is terminated
 pub line_is_ended : (k : ℕ) (ps : List (List ℕ)) → (line_of (suc k) ps ≡ [] → ⊥) → suc k < length ps
 line_is_ended k ps some =
     elim (chosen (ltb (suc k) (length ps)) (get_or ps (suc k - 1) []) [] (line_of (suc k) ps) refl) [
@@ -28,14 +28,14 @@ line_is_ended k ps some =
       | inr none ↦ absurd (some (sym none.1))
     ]
 
--- lines, and the last piece of a text of them, which has no bytes
+-- lines, followed by the last piece of their text, which is empty
 abbrev pub ended : List (List ℕ) → List (List ℕ)
 ended ls = ls ++ [] ∷ []
 
 pub more_than_none : (ls : List (List ℕ)) → 0 < length (ended ls)
 more_than_none ls = rw (length-append ls ([] ∷ [])) (omega arith)
 
--- pieces that are lines and then the end have the first line, and then the others
+-- pieces that are lines and then the end start with the first line, followed by the other lines and the end
 pub line_is : (k : ℕ) (ps : List (List ℕ)) (l : List ℕ) (ls lines : List (List ℕ)) → lines ≡ l ∷ ls
     → drop k ps ≡ ended lines → (line_of (suc k) ps ≡ l) × (drop (suc k) ps ≡ ended ls)
 line_is k ps l ls lines is e =
@@ -45,11 +45,11 @@ line_is k ps l ls lines is e =
     let both : line_of (suc k) ps ∷ drop (suc k) ps ≡ l ∷ ended ls = sym (line_there k ps (omega arith)) ∙ whole in
     (cc, cc)
 
--- the first j lines of one text, all ended, are those of the other
+-- the first j lines of two texts exist, each terminated, and are the same
 abbrev pub Shares : ℕ → List (List ℕ) → List (List ℕ) → Type 0
 Shares j xs ys = (j < length xs) × (j < length ys) × (take j xs ≡ take j ys)
 
--- no line is shared by all texts
+-- all texts share zero lines
 pub shares_none : (xs ys : List (List ℕ)) → 0 < length xs → 0 < length ys → Shares 0 xs ys
 shares_none xs ys some one = (some, one, refl)
 
@@ -62,7 +62,7 @@ shares_more k j ps l ls lines is there s =
     subst (λ (xs : List (List ℕ)). Shares (suc j) xs (ended lines)) (sym there)
     (subst (λ (xs : List (List ℕ)). Shares (suc j) (l ∷ drop (suc k) ps) (ended xs)) (sym is) both)
 
--- one line less in front
+-- one line fewer in front
 pub shares_less : (k j : ℕ) (ps : List (List ℕ)) (l : List ℕ) (ls lines : List (List ℕ)) → lines ≡ l ∷ ls
     → Shares (suc j) (drop k ps) (ended lines) → (line_of (suc k) ps ≡ l) × Shares j (drop (suc k) ps) (ended ls)
 shares_less k j ps l ls lines is shared =

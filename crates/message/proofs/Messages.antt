@@ -1,4 +1,4 @@
--- Messages of all kinds: what is read is a message's text, its text is read, and the first fault.
+-- Messages of all kinds: a text is read exactly when it is a message's, and a fault is at the first bad line.
 use Rattle.message.proofs.Words.{Message, [], ap, codes, decimal, delivery_lines, department_lines, false, is_delivery}
 use Rattle.message.proofs.Words.{is_department, is_issue, is_key_id, is_key_line, is_message, is_range, is_renewal}
 use Rattle.message.proofs.Words.{is_serial, issue_lines, key_id_after, key_line_after, key_line_text, line, message_in}
@@ -13,7 +13,7 @@ use Rattle.message.proofs.Issues.{issue_reads}
 use Rattle.message.proofs.ThreeLines.{delivery_reads, renewal_reads}
 use Rattle.message.proofs.OneLines.{key_id_reads, no_rollover, range_reads, rollover_reads, serial_reads}
 
--- A message of one of the kinds, in turn.
+-- A message of one of the kinds, in the order in which they are tried.
 abbrev IsOfSome : Message → Type 0
 IsOfSome =
     Either (IsOf (λ d. message.Department d) (λ d. is_department d ≡ true))
@@ -53,7 +53,7 @@ some_read = (
     (λ k. is_key_line k ≡ true) (λ k. line (codes "rollover") (key_line_text k) ∷ []) (λ k. refl) rollover_reads
     (λ k. (_, _, refl)) no_rollover) refl) refl) refl) refl) refl) refl) refl).reads
 
--- a message is read from its text alone, its text is read, and the fault is at the first line of no message
+-- a text is read as a message exactly when it is its text, and a fault is at the first line that fits no message
 pub messages_read : IsReading 0 message_in (λ m. is_message m ≡ true) message_lines
 messages_read = same_values some_read to from
   where

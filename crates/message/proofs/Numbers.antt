@@ -13,7 +13,7 @@ use Rattle.message.specs.declared.serial_range.SerialRange.{SerialRange}
 use Rattle.message.proofs.Readings.{IsField, IsLine}
 use Rattle.message.proofs.Fields.{IsHead, field_passing}
 
--- a number behind a word that passes a test
+-- a number after a word, if it passes a test
 pub number_field : (test : ℕ → Bool) (head : List ℕ) → IsHead head → after head [] ≡ None
     → ((n : ℕ) → test n ≡ true → n < 2 ^ 64)
     → IsField (number_after test head) (λ n. head ++ decimal n) (λ n. test n ≡ true)
@@ -30,7 +30,7 @@ end_small n is = let most : n ≤ 253402300799 = leb-true n 253402300799 is in o
 
 -- ---- ranges
 
--- two numbers that make a range
+-- the two numbers of a range
 between_found : (lo hi : Option ℕ) (r : SerialRange) → range_between lo hi ≡ Some r
     → (lo ≡ Some r.lo) × (hi ≡ Some r.hi)
 between_found None hi r e = absurd cc
@@ -49,7 +49,7 @@ range_found t r fits e =
     ∙ ap (λ (w : List ℕ). w ++ 32 ∷ last) (number_spelled (word_of t) r.lo is.0)
     ∙ ap (λ (w : List ℕ). decimal r.lo ++ 32 ∷ w) (number_spelled last r.hi is.1))
 
--- a lawful range is read again
+-- a valid range is read back from its text
 range_again : (r : SerialRange) → is_range r ≡ true → range_of (range_text r) ≡ Some r
 range_again r is =
     let lo : r.lo < 2 ^ 64 = serial_small r.lo (and_parts _ _ is).0 in
@@ -69,7 +69,7 @@ range_is_line r is =
     All-append (λ b. eqb b 10 ≡ false) (decimal r.lo) (32 ∷ decimal r.hi) (decimal_lacks 10 r.lo refl lo)
     (All-cons (λ b. eqb b 10 ≡ false) 32 (decimal r.hi) refl (decimal_lacks 10 r.hi refl hi))
 
--- a range behind a word
+-- a range after a word
 pub range_field : (head : List ℕ) → IsHead head → after head [] ≡ None
     → IsField (range_after head) (λ r. head ++ range_text r) (λ r. is_range r ≡ true)
 range_field head line empty =

@@ -34,7 +34,7 @@ none_after : {A B : Type 0} (f : List ℕ → Option A) (g : A → Result B ℕ)
 none_after f g None e = refl
 none_after f g (Some t) e = absurd cc
 
--- where line 1 does not begin so, there is no rollover
+-- if line 1 does not begin with `rollover `, there is no rollover
 pub no_rollover : (ps : List (List ℕ)) → has_head (codes "rollover ") (line_of 1 ps) ≡ false
     → one_line_in (key_line_after (codes "rollover ")) ps ≡ Err 1
 unfolding one_line_in

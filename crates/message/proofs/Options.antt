@@ -1,4 +1,4 @@
--- Option lines: which options may follow which, and how their lines are read.
+-- Option lines: the options that may follow earlier ones, and reading their lines.
 use Rattle.message.proofs.Words.{All, All-append, All-cons, Bool, CriticalOptions, Lacks, List, None, Option, Pair}
 use Rattle.message.proofs.Words.{Some, [], and_from, and_parts, ap, append-nil, arith, bytes_eq, codes, comment_of}
 use Rattle.message.proofs.Words.{comment_of-text, comment_text, cond, cond-false, cond-true, cond_some, eqb, eqb-true}
@@ -28,7 +28,7 @@ use Rattle.message.proofs.Elements.{known_lacks_space, known_line}
 flag_text : (p : Pair) → is_flag p.name ≡ true → option_text p ≡ p.name
 flag_text p is = cond-true _ p.name (p.name ++ 32 ∷ p.value) is
 
--- the text of another option has its value
+-- the text of any other option has its value
 value_text : (p : Pair) → is_flag p.name ≡ false → option_text p ≡ p.name ++ 32 ∷ p.value
 value_text p is = cond-false _ p.name (p.name ++ 32 ∷ p.value) is
 
@@ -56,7 +56,7 @@ pair_by_found name (Some value) p e = elim (chosen (is_flag name) None (Some (va
 pair_found : (text : List ℕ) (p : Pair) → pair_of text ≡ Some p → text ≡ option_text p
 pair_found text p e = text_is text ∙ pair_by_found (word_of text) (comment_of text) p e
 
--- the text of a name without space, alone or with a value
+-- reading a name without spaces, alone or with a value
 pair_behind : (name : List ℕ) (o : Option (List ℕ)) → Lacks 32 name
     → pair_of (name ++ comment_text o) ≡ pair_by name o
 pair_behind name o lacks =
@@ -64,23 +64,23 @@ pair_behind name o lacks =
     ap (λ (n : List ℕ). pair_by n (comment_of (name ++ comment_text o))) (word_of-text name o free)
     ∙ ap (pair_by name) (comment_of-text name o free)
 
--- an option with a value is read again
+-- an option with a value is read back from its text
 valued_again : (p : Pair) → is_flag p.name ≡ false → Lacks 32 p.name → pair_of (option_text p) ≡ Some p
 valued_again p other lacks =
     ap pair_of (value_text p other) ∙ pair_behind p.name (Some p.value) lacks
     ∙ cond-false _ None (Some (valued p.name p.value)) other
 
--- a flag is read again
+-- a flag is read back from its text
 flag_again : (p : Pair) → is_flag p.name ≡ true → p.value ≡ [] → Lacks 32 p.name → pair_of (option_text p) ≡ Some p
 flag_again p is none lacks =
     ap pair_of (flag_text p is ∙ sym (append-nil p.name)) ∙ pair_behind p.name None lacks
     ∙ cond-true _ (Some (flag p.name)) None is ∙ ap (λ (v : List ℕ). Some (valued p.name v)) (sym none)
 
--- the value of an option, where its name is this one
+-- the value of an option with this name is valid for the name
 value_at : (name : List ℕ) (p : Pair) → p.name ≡ name → is_option p ≡ true → is_option_value name p.value ≡ true
 value_at name p same is = ap (λ (n : List ℕ). is_option_value n p.value) (sym same) ∙ (and_parts _ _ is).1
 
--- a lawful option is read again
+-- a valid option is read back from its text
 pair_again : (p : Pair) → is_option p ≡ true → pair_of (option_text p) ≡ Some p
 pair_again p is =
     let known = (and_parts _ _ is).0 in
@@ -113,7 +113,7 @@ networks_line t is =
 command_line : (t : List ℕ) → is_command t ≡ true → IsLine t
 command_line t is = lacks_from _ 10 t refl (and_parts _ _ is).1
 
--- the text of a lawful option has no line feed
+-- the text of a valid option has no line feed
 option_is_line : (p : Pair) → is_option p ≡ true → IsLine (option_text p)
 option_is_line p is =
     let name : IsLine p.name = known_line CriticalOptions p.name (and_parts _ _ is).0 in
@@ -132,16 +132,16 @@ option_is_line p is =
         subst IsLine (sym (value_text p other)) (All-append (λ b. eqb b 10 ≡ false) p.name (32 ∷ p.value) name
         (All-cons (λ b. eqb b 10 ≡ false) 32 p.value refl value))
 
--- the line of an option that may follow those before it
+-- the line of an option that may follow earlier ones
 pub option_field : (before : List Pair) → IsField (option_after before) option_line (λ p. is_new_option before p ≡ true)
 option_field before =
     field_passing (codes "option ") pair_of option_text (is_new_option before) refl refl
     (λ t p fits e. pair_found t p e) (λ p is. pair_again p (and_parts _ _ is).0)
     (λ p is. option_is_line p (and_parts _ _ is).0)
 
--- ---- options one after the other
+-- ---- successive options
 
--- each option may follow those before it
+-- each option may follow the earlier ones
 abbrev pub AreNew : List Pair → List Pair → Type 0
 AreNew before [] = Unit {0}
 AreNew before (p ∷ ps) = (is_new_option before p ≡ true) × AreNew (before ++ p ∷ []) ps
@@ -153,7 +153,7 @@ has_name ps name = list_any (λ q. bytes_eq q.name name) ps
 abbrev names : List Pair → List (List ℕ)
 names ps = map (λ p. p.name) ps
 
--- none of the names stands before
+-- none of the names occurs earlier
 abbrev none_before : List Pair → List Pair → Bool
 none_before before ps = list_all (λ p. not (has_name before p.name)) ps
 
@@ -161,7 +161,7 @@ one_more : (before : List Pair) (p : Pair) (name : List ℕ) → has_name (befor
     ≡ (has_name before name || (bytes_eq p.name name || false))
 one_more before p name = list_any-append (λ q. bytes_eq q.name name) before (p ∷ [])
 
--- no name stands before or is the first's
+-- no name occurs earlier, nor is any of them the first option's
 apart : (before : List Pair) (p : Pair) (ps : List Pair) → none_before (before ++ p ∷ []) ps ≡ true
     → (none_before before ps ≡ true) × (list_any (λ u. bytes_eq u p.name) (names ps) ≡ false)
 apart before p [] e = (refl, refl)
@@ -186,7 +186,7 @@ together before p (q ∷ ps) none other =
     ∙ or_from _ _ (not-true _ both.0) (or_from _ false (nat_list_eq_equiv.symm p.name q.name ∙ parts.0) refl) in
     and_from _ _ (not_from_false _ other) (together before p ps both.1 parts.1)
 
--- options that follow one another are lawful and of distinct names
+-- options that may follow one another are valid and have distinct names
 new_found : (before ps : List Pair) → AreNew before ps → (list_all is_option ps ≡ true)
     × ((are_distinct (names ps) ≡ true) × (none_before before ps ≡ true))
 new_found before [] is = (refl, (refl, refl))
@@ -211,7 +211,7 @@ none_first : (ps : List Pair) → none_before [] ps ≡ true
 none_first [] = refl
 none_first (p ∷ ps) = none_first ps
 
--- lawful options of distinct names may follow one another, and no others
+-- valid options with distinct names may follow one another
 pub options_are_new : (ps : List Pair) → (list_all is_option ps && are_distinct (map (λ p. p.name) ps)) ≡ true
     → AreNew [] ps
 options_are_new ps is = let both = and_parts _ _ is in new_from [] ps both.0 both.1 (none_first ps)

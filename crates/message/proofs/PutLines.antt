@@ -1,22 +1,22 @@
--- Lines as they are put.
+-- Lines as they are written.
 use Rattle.std.proofs.Common.{add-one, drop-cons}
 use Rattle.message.proofs.Words.{List, [], ap, append-nil, append_assoc, join_with_byte, lines_text, list_line, refl}
 use Rattle.message.proofs.Words.{drop, get_or, length, ◌+◌, ◌<◌, suc, subst, sym, ℕ, ◌++◌, ◌∙◌, ◌∷◌, ◌≡◌}
 
--- the text of lines and more lines
+-- the text of lines followed by more lines
 pub text_append : (ls ms : List (List ℕ)) → lines_text (ls ++ ms) ≡ lines_text ls ++ lines_text ms
 text_append [] ms = refl
 text_append (l ∷ ls) ms =
     ap (λ (t : List ℕ). l ++ 10 ∷ t) (text_append ls ms) ∙ sym (append_assoc l (10 ∷ lines_text ls) (lines_text ms))
 
--- These lines are what was put behind the start.
+-- The output is the start, followed by these lines.
 pub record IsPut (start : List ℕ) (ls : List (List ℕ)) (out : List ℕ) : Type 0 where
   pub is : out ≡ start ++ lines_text ls
 
 pub none_put : (start : List ℕ) → IsPut start [] start
 none_put start = record { is = sym (append-nil start) }
 
--- lines behind lines that were put
+-- more lines after lines that were written
 pub then_lines : {start before after : List ℕ} {ls : List (List ℕ)} → IsPut start ls before → (ms : List (List ℕ))
     → after ≡ before ++ lines_text ms → IsPut start (ls ++ ms) after
 then_lines {start} {ls = ls} put ms next = record {
@@ -24,13 +24,13 @@ then_lines {start} {ls = ls} put ms next = record {
       ∙ ap (λ (t : List ℕ). start ++ t) (sym (text_append ls ms));
 }
 
--- one line behind them, said otherwise
+-- one more line after them, with another form of the same line
 pub then_line : {start before after l : List ℕ} {ls : List (List ℕ)} → IsPut start ls before → (line : List ℕ)
     → l ≡ line → after ≡ before ++ lines_text (l ∷ []) → IsPut start (ls ++ line ∷ []) after
 then_line {start} {after = after} {l = l} {ls = ls} put line same next =
     subst (λ (x : List ℕ). IsPut start (ls ++ x ∷ []) after) same (then_lines put (l ∷ []) next)
 
--- texts, each after a byte, the first after this one
+-- texts, each preceded by a byte: the first by this one, the others by a comma
 abbrev pub each_after : ℕ → List (List ℕ) → List ℕ
 each_after before [] = []
 each_after before (t ∷ ts) = before ∷ t ++ each_after 44 ts
@@ -40,12 +40,12 @@ after_joined : (before : ℕ) (t : List ℕ) (ts : List (List ℕ)) → each_aft
 after_joined before t [] = ap (λ (x : List ℕ). before ∷ x) (append-nil t)
 after_joined before t (u ∷ ts) = ap (λ (x : List ℕ). before ∷ t ++ x) (after_joined 44 u ts)
 
--- a word and its list as they are put
+-- a word and its list as they are written
 pub list_put : (word : List ℕ) (ts : List (List ℕ)) → word ++ each_after 32 ts ≡ list_line word ts
 list_put word [] = append-nil word
 list_put word (t ∷ ts) = ap (λ (x : List ℕ). word ++ x) (after_joined 32 t ts)
 
--- one more text of a list, behind its byte
+-- one more text of a list, after its byte
 pub text_put : (out : List ℕ) (before : ℕ) (ts : List (List ℕ)) (n : ℕ) (t : List ℕ) → t ≡ get_or ts n t → n < length ts
     → out ++ each_after before (drop n ts) ≡ ((out ++ before ∷ []) ++ t) ++ each_after 44 (drop (n + 1) ts)
 text_put out before ts n t is lt =
@@ -55,7 +55,7 @@ text_put out before ts n t is lt =
     ∙ sym (append_assoc out (before ∷ []) (t ++ each_after 44 (drop (n + 1) ts)))
     ∙ sym (append_assoc (out ++ before ∷ []) t (each_after 44 (drop (n + 1) ts)))
 
--- three texts put one behind the other
+-- three texts written one after the other
 pub in_turn : (start one two three a b c : List ℕ) → one ≡ start ++ a → two ≡ one ++ b → three ≡ two ++ c
     → three ≡ start ++ (a ++ (b ++ c))
 in_turn start one two three a b c first second third =

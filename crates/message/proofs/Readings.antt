@@ -1,4 +1,4 @@
--- Readings of the lines of a text from some line on: what is read, what is read again, and the first fault.
+-- Readings of the lines of a text from some line on: which texts are read, and the first fault.
 use Rattle.message.proofs.Words.{All, AllByRecursion, Bool, Err, IsBytes, List, None, Ok, Option, Result, Some, []}
 use Rattle.message.proofs.Words.{and_parts, ap, arith, drop, eqb, false, length, line_of, made, none-some, refl, subst}
 use Rattle.message.proofs.Words.{suc, sym, true, ℕ, ◌&&◌, ◌+◌, ◌<◌, ◌∙◌, ◌∷◌, ◌≡◌}
@@ -12,14 +12,14 @@ IsLine l = All (λ b. eqb b 10 ≡ false) l
 abbrev pub AreBytes : List (List ℕ) → Type 0
 AreBytes ps = (n : ℕ) → IsBytes (line_of n ps)
 
--- A line read as a value: what is read is the value's text, what is lawful is read, and no bytes are none.
+-- Reading a line as a value: it is read as a valid value exactly when it is its text, and the empty line isn't read.
 pub record IsField {X : Type 0} (read : List ℕ → Option X) (text : X → List ℕ) (IsLawful : X → Type 0) : Type 0 where
   pub found : (l : List ℕ) (x : X) → IsBytes l → read l ≡ Some x → IsLawful x × (l ≡ text x)
   pub again : (x : X) → IsLawful x → read (text x) ≡ Some x
   pub empty : read [] ≡ None
   pub is_line : (x : X) → IsLawful x → IsLine (text x)
 
--- A fault is at the first line that is no line of a text: all before it begin some text, and with it they begin none.
+-- A fault is at the first bad line: the lines before it begin some message's text, and with it they begin none.
 pub record FirstFault {M : Type 0} (k : ℕ) (Is : M → Type 0) (lines : M → List (List ℕ)) (ps : List (List ℕ))
     (i : ℕ) : Type 0 where
   pub count : ℕ
@@ -27,7 +27,7 @@ pub record FirstFault {M : Type 0} (k : ℕ) (Is : M → Type 0) (lines : M → 
   pub some : (m : M) × Is m × Shares count (drop k ps) (ended (lines m))
   pub none : (m : M) → Is m → Shares (suc count) (drop k ps) (ended (lines m)) → ⊥
 
--- The lines from k lines on, read as a message of which these are the lines.
+-- Reading the lines after the first k as the rest of a message, which has these lines.
 pub record IsReading {M : Type 0} (k : ℕ) (read : List (List ℕ) → Result M ℕ) (Is : M → Type 0)
     (lines : M → List (List ℕ)) : Type 0 where
   pub some : (m : M) × Is m
@@ -36,7 +36,7 @@ pub record IsReading {M : Type 0} (k : ℕ) (read : List (List ℕ) → Result M
   pub fault : (ps : List (List ℕ)) (i : ℕ) → AreBytes ps → k < length ps → read ps ≡ Err i → FirstFault k Is lines ps i
   pub are_lines : (m : M) → Is m → AllByRecursion IsLine (lines m)
 
--- a fault of other messages, where those that share a line are these
+-- a fault carries over to other messages, if those that share the line are the same
 pub fault_as : {A M : Type 0} {k i : ℕ} {Is : A → Type 0} {lines : A → List (List ℕ)} {Are : M → Type 0}
     {all : M → List (List ℕ)} {ps : List (List ℕ)} → FirstFault k Is lines ps i
     → ((a : A) → Is a → (m : M) × Are m × (all m ≡ lines a))
@@ -54,22 +54,22 @@ fault_as {k = k} {ps = ps} first to from =
           first.none a.0 a.1 (subst (λ (ls : List (List ℕ)). Shares (suc n) (drop k ps) (ended ls)) a.2 shared);
     }
 
--- the number of a line behind another one
+-- the number of a line after another one
 pub one_further : (k i j : ℕ) → i ≡ suc (suc k + j) → i ≡ suc (k + suc j)
 one_further k i j e = omega arith
 
--- a fault's number
+-- the line number of a fault
 pub error_at : {M : Type 0} (k i : ℕ) → ◌≡◌ {A = Result M ℕ} (Err (suc k)) (Err i) → i ≡ suc (k + 0)
 error_at k i e = let same : suc k ≡ i = cc in omega arith
 
--- a line that is read is ended
+-- a line that is read is terminated
 pub line_read_is_ended : {X : Type 0} (k : ℕ) (read : List ℕ → Option X) (text : X → List ℕ) (IsLawful : X → Type 0)
     → IsField read text IsLawful
     → (ps : List (List ℕ)) (x : X) → read (line_of (suc k) ps) ≡ Some x → suc k < length ps
 line_read_is_ended {X} k read text IsLawful field ps x e =
     line_is_ended k ps (λ none. none-some x (sym field.empty ∙ ap read (sym none) ∙ e))
 
--- the pieces from a line on that is read
+-- the pieces from a line on, if that line is read
 pub line_read : {X : Type 0} (k : ℕ) (read : List ℕ → Option X) (text : X → List ℕ) (IsLawful : X → Type 0)
     → IsField read text IsLawful
     → (ps : List (List ℕ)) (x : X) → AreBytes ps → read (line_of (suc k) ps) ≡ Some x → drop k ps ≡ text x
@@ -78,7 +78,7 @@ line_read k read text IsLawful field ps x fits e =
     line_there k ps (line_read_is_ended k read text IsLawful field ps x e)
     ∙ ap (λ (l : List ℕ). l ∷ drop (suc k) ps) (field.found _ x (fits (suc k)) e).1
 
--- where a line is not read, no text shares it that begins with a line that is read
+-- a line that can't be read isn't shared by any text that begins with a valid line
 pub none_shared : {X : Type 0} (k : ℕ) (read : List ℕ → Option X) (text : X → List ℕ) (IsLawful : X → Type 0)
     → IsField read text IsLawful
     → (j : ℕ) (ps : List (List ℕ)) (x : X) (ls lines : List (List ℕ)) → read (line_of (suc k) ps) ≡ None → IsLawful x
@@ -87,7 +87,7 @@ none_shared k read text IsLawful field j ps x ls lines none lawful is shared =
     let same = (shares_less k j ps (text x) ls lines is shared).0 in
     none-some x (sym none ∙ ap read same ∙ field.again x lawful)
 
--- ---- other words for a reading
+-- ---- other forms of a reading
 
 made_ok : {A B : Type 0} (f : A → B) (r : Result A ℕ) (b : B) → made f r ≡ Ok b → (a : A) × (r ≡ Ok a) × (b ≡ f a)
 made_ok f (Ok a) b e = (a, refl, cc)
@@ -97,7 +97,7 @@ made_err : {A B : Type 0} (f : A → B) (r : Result A ℕ) (i : ℕ) → made f 
 made_err f (Ok a) i e = absurd cc
 made_err f (Err n) i e = cc
 
--- values read as messages that are made of them
+-- values, read as the messages made from them
 pub read_as : {A M : Type 0} (k : ℕ) (of : A → M) (read : List (List ℕ) → Result A ℕ) (Is : A → Type 0)
     (lines : A → List (List ℕ)) (Are : M → Type 0) (all : M → List (List ℕ))
     → ((a : A) → Is a → Are (of a) × (all (of a) ≡ lines a)) → ((m : M) → Are m → (a : A) × (m ≡ of a) × Is a)
@@ -121,14 +121,14 @@ read_as {A} {M} k of read Is lines Are all to from reading = record {
     same : (m : M) (is : Are m) → all m ≡ lines (from m is).0
     same m is = let a = from m is in ap all a.1 ∙ (to a.0 a.2).1
 
--- the same reading, said otherwise
+-- another form of the same reading
 pub same_reading : {M : Type 0} (k : ℕ) (read also : List (List ℕ) → Result M ℕ) (Is : M → Type 0)
     (lines : M → List (List ℕ))
     → ((ps : List (List ℕ)) → read ps ≡ also ps) → IsReading k read Is lines → IsReading k also Is lines
 same_reading {M} k read also Is lines same reading =
     subst (λ (r : List (List ℕ) → Result M ℕ). IsReading k r Is lines) (λ i ps. same ps i) reading
 
--- the same messages and lines, said otherwise
+-- other forms of the same messages and lines
 pub same_messages : {M : Type 0} (k : ℕ) (read : List (List ℕ) → Result M ℕ) (Is Are : M → Type 0)
     (lines all : M → List (List ℕ))
     → ((m : M) → Is m → Are m × (all m ≡ lines m)) → ((m : M) → Are m → Is m) → IsReading k read Is lines
@@ -141,13 +141,13 @@ same_messages {M} k read Is Are lines all to from reading =
     itself (Ok m) = refl
     itself (Err n) = refl
 
--- the same lines, of values said otherwise
+-- another form of the same values, with the same lines
 pub same_values : {M : Type 0} {k : ℕ} {read : List (List ℕ) → Result M ℕ} {Is Are : M → Type 0}
     {lines : M → List (List ℕ)} → IsReading k read Is lines → ((m : M) → Is m → Are m) → ((m : M) → Are m → Is m)
     → IsReading k read Are lines
 same_values {k = k} {read = read} {Is = Is} {Are = Are} {lines = lines} reading to from =
     same_messages k read Is Are lines lines (λ m is. (to m is, refl)) from reading
 
--- tests in turn
+-- two tests, one after the other
 pub and_then : {P : Type 0} (a b : Bool) → (b ≡ true → P) → (a && b) ≡ true → (a ≡ true) × P
 and_then a b more e = let both = and_parts a b e in (both.0, more both.1)

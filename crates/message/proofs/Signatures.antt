@@ -1,4 +1,4 @@
--- Signatures in lines.
+-- Signatures within lines.
 use Rattle.message.proofs.Words.{IsBytes, IsBytes-drop, IsBytes_from, List, None, Option, Signature, Some, [], after}
 use Rattle.message.proofs.Words.{all_bytes, and_from, and_parts, ap, arith, bytes_eq-Decides, cases_Bool, cond-false}
 use Rattle.message.proofs.Words.{cond-true, cond_some, drop, encode_of, eq-eqb, eqb, eqb-true, inl, inr, is_signature}
@@ -16,7 +16,7 @@ use Rattle.message.proofs.Keys.{base64_line}
 
 -- ---- blobs
 
--- the signature that is found in a blob
+-- a signature found in a blob has that blob
 blob_found : (blob bytes : List ℕ) → signature_of blob ≡ Some bytes → (blob ≡ signature_blob bytes)
     × (length bytes ≡ 64) × (bytes ≡ drop 19 blob)
 blob_found blob bytes e =
@@ -27,7 +27,7 @@ blob_found blob bytes e =
       sym both.1,
     )
 
--- the signature of its blob
+-- a signature is found in its blob
 blob_again : (bytes : List ℕ) → length bytes ≡ 64 → signature_of (signature_blob bytes) ≡ Some bytes
 blob_again bytes size =
     let same = (bytes_eq-Decides (signature_blob bytes) (signature_blob bytes)).1 refl in
@@ -71,7 +71,7 @@ signature_found t s fits e = elim (cases_Bool (eqb (length t) 112)) [
   | inr other ↦ absurd (cc (sym (cond-false _ (option_map of (bytes_in t)) None other) ∙ e))
 ]
 
--- a signature is read again
+-- a signature is read back from its text
 signature_again : (s : Signature) → is_signature s ≡ true → signature_at (signature_text s) ≡ Some s
 signature_again s is =
     let size : length s.bytes ≡ 64 = eqb-true _ _ (and_parts _ _ is).0 in
@@ -82,7 +82,7 @@ signature_again s is =
     cond-true _ _ None (eq-eqb _ _ long)
     ∙ rw (base64_again blob (blob_is_bytes s.bytes size fits)) (rw (blob_again s.bytes size) refl)
 
--- a signature behind a word
+-- a signature after a word
 pub signature_field : (head : List ℕ) → IsHead head → after head [] ≡ None
     → IsField (signature_after head) (λ s. head ++ signature_text s) (λ s. is_signature s ≡ true)
 signature_field head line empty =

@@ -1,4 +1,4 @@
--- Option lines, read one after the other.
+-- Option lines, read one after another.
 use Rattle.message.proofs.Words.{Bool, List, None, Option, Pair, Some, [], ap, arith, false, length, length-append}
 use Rattle.message.proofs.Words.{line_of, option_after, refl, suc, sym, true, zero, ℕ, ◌&&◌, ◌++◌, ◌+◌, ◌-◌, ◌<◌, ◌∙◌}
 use Rattle.message.proofs.Words.{◌∷◌, ◌≡◌, ◌≤◌}
@@ -40,7 +40,7 @@ few : (most n : ℕ) (before : List Pair) (ps : List (List ℕ)) (rest : Pair �
 few most n before ps rest None each = omega arith
 few most n before ps rest (Some p) each = omega (arith, each p, length-append before (p ∷ []))
 
--- no more options than lines are left
+-- at most as many more options as lines are left
 pub few_options : (left n : ℕ) (before : List Pair) (ps : List (List ℕ))
     → length (options_from left n before ps) ≤ left + length before
 unfolding options_from
@@ -49,7 +49,7 @@ few_options (suc k) n before ps =
     few k n before ps (λ p. options_from k (suc n) (before ++ p ∷ []) ps) (option_after before (line_of n ps))
     (λ p. few_options k (suc n) (before ++ p ∷ []) ps)
 
--- options that go on as those from line 7 on are these, where no line is left or the next one is none
+-- the options read so far are all, if the rest is read as from line 7 on and gives none
 pub are_options : (n : ℕ) (before : List Pair) (ps : List (List ℕ))
     → options_from (10 - n) n before ps ≡ options_from 3 7 [] ps → options_from (10 - n) n before ps ≡ before
     → (before ≡ options_from 3 7 [] ps) × (length before ≤ 3)
@@ -63,7 +63,7 @@ pub all_options : (n : ℕ) (before : List Pair) (ps : List (List ℕ)) → 10 -
 unfolding options_from
 all_options n before ps none = rw none refl
 
--- two tests in turn
+-- the second of two tests, if the first is true
 pub and_second : (a b c : Bool) → a ≡ true → c ≡ b → c ≡ (a && b)
 and_second true b c is e = e
 and_second false b c is e = absurd cc

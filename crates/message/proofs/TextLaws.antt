@@ -1,4 +1,4 @@
--- Messages as texts: a text is read as the message that it belongs to, and the fault is at the first line of none.
+-- Messages as texts: a text is read as the message that it belongs to, and a fault is at the first bad line.
 use Rattle.message.proofs.Words.{AllByRecursion, Bool, Err, IsBytes, IsBytes_from, List, Message, Ok, Result, Some, []}
 use Rattle.message.proofs.Words.{all_bytes, and_from, and_parts, ap, arith, cond, eqb, false, get_or, inl, inr}
 use Rattle.message.proofs.Words.{is_message, join_with_byte, join_with_byte-slice_split, length, length-slice_split}
@@ -22,14 +22,14 @@ use Rattle.message.proofs.Messages.{messages_read}
 
 -- ---- lines and texts
 
--- the pieces of lines are the lines, and a last piece of no bytes
+-- the pieces of the text of lines are the lines, and an empty last piece
 pieces_of : (ls : List (List ℕ)) → AllByRecursion IsLine ls → pieces (lines_text ls) ≡ ls ++ [] ∷ []
 pieces_of [] h = refl
 pieces_of (l ∷ ls) h =
     slice_split_at (λ b. eqb b 10) l 10 (lines_text ls) h.0 refl
     ∙ ap (λ (xs : List (List ℕ)). l ∷ xs) (pieces_of ls h.1)
 
--- lines and a last piece of no bytes, joined by line feeds, are the text of the lines
+-- lines and an empty last piece, joined by line feeds, are the text of the lines
 join_lines : (ls : List (List ℕ)) → join_with_byte 10 (ls ++ [] ∷ []) ≡ lines_text ls
 join_lines [] = refl
 join_lines (l ∷ []) = refl
@@ -79,25 +79,25 @@ reads = messages_read
 pieces_of_message : (m : Message) → is_message m ≡ true → pieces (message_text m) ≡ message_lines m ++ [] ∷ []
 pieces_of_message m is = pieces_of (message_lines m) (reads.are_lines m is)
 
--- what is read is a lawful message, and the text is its text
+-- a message that is read is valid, and the bytes are its text
 pub message_found : (bytes : List ℕ) (m : Message) → IsBytes bytes → message_at bytes ≡ Ok m → (is_message m ≡ true)
     × (bytes ≡ message_text m)
 message_found bytes m fits e =
     let is = reads.found (pieces bytes) m (lines_fit bytes fits) e in
     (is.0, text_of bytes (message_lines m) is.1)
 
--- the text of a lawful message is read as it
+-- the text of a valid message is read as that message
 pub message_again : (m : Message) → is_message m ≡ true → message_at (message_text m) ≡ Ok m
 message_again m is = reads.again (pieces (message_text m)) m is (pieces_of_message m is)
 
--- a message is found exactly where the bytes are its text
+-- a message is found exactly when it is valid and the bytes are its text
 pub found_exactly : (bytes : List ℕ) (m : Message) → IsBytes bytes → (message_of bytes ≡ Some m) ↔ BelongsTo bytes m
 found_exactly bytes m fits = (
   λ e. message_found bytes m fits (ok_of (message_at bytes) m e),
   λ belongs. ap message_of belongs.1 ∙ ap result_ok (message_again m belongs.0),
 )
 
--- what a function that reads returned
+-- the result of a function that reads
 pub found_from : (bytes : List ℕ) (r : Result Message MessageFault) → IsBytes bytes → Gives r (message_at bytes)
     → IfOk r (λ m. IsTrue (is_message m) × (bytes ≡ message_text m))
 found_from bytes (Ok m) fits given = message_found bytes m fits given
@@ -108,7 +108,7 @@ pub only_from : (bytes : List ℕ) (r : Result Message MessageFault) (m : Messag
     → Gives r (message_at bytes) → Gives r (Ok m)
 only_from bytes r m is text given = subst (Gives r) (ap message_at text ∙ message_again m is) given
 
--- a text belongs to one message
+-- a text belongs to at most one message
 pub one_message : (a b : Message) → IsTrue (is_message a) → IsTrue (is_message b) → message_text a ≡ message_text b
     → a ≡ b
 one_message a b is_a is_b same =
@@ -121,7 +121,7 @@ one_message a b is_a is_b same =
 some_pieces : (bytes : List ℕ) → 0 < length (pieces bytes)
 some_pieces bytes = omega (arith, length-slice_split (λ b. eqb b 10) bytes)
 
--- the line that is answered is the first bad one
+-- the line that is reported is the first bad one
 pub first_bad : (bytes : List ℕ) (n : ℕ) → IsBytes bytes → message_at bytes ≡ Err n → IsFirstBad bytes n
 first_bad bytes n fits e =
     let first = reads.fault (pieces bytes) n (lines_fit bytes fits) (some_pieces bytes) e in
@@ -147,7 +147,7 @@ first_bad bytes n fits e =
           (subst (λ (k : ℕ). SharesLines k bytes (message_text a)) at shared));
     }
 
--- fewer lines are shared too
+-- texts that share lines also share fewer lines
 fewer : (j n : ℕ) (a b : List ℕ) → j ≤ n → SharesLines n a b → SharesLines j a b
 fewer j n a b le s = (
   omega (arith, s.0),
@@ -155,14 +155,14 @@ fewer j n a b le s = (
   sym (take-take j n (pieces a) le) ∙ ap (take j) s.2 ∙ take-take j n (pieces b) le,
 )
 
--- there is one first bad line
+-- there is only one first bad line
 one_first : (bytes : List ℕ) (i n : ℕ) → IsFirstBad bytes i → IsFirstBad bytes n → i < n → ⊥
 one_first bytes i n first then less =
     let some = then.some in
     let le : i ≤ n - 1 = omega arith in
     first.none some.0 some.1.0 (fewer i (n - 1) bytes (message_text some.0) le some.1.1)
 
--- the first bad line is answered
+-- the first bad line is reported
 pub bad_answered : (bytes : List ℕ) (n : ℕ) → IsBytes bytes → IsFirstBad bytes n → message_at bytes ≡ Err n
 bad_answered bytes n fits bad = by (message_at bytes) refl
   where
@@ -179,11 +179,11 @@ bad_answered bytes n fits bad = by (message_at bytes) refl
           ]
         ]
 
--- a line is answered exactly where it is the first bad one
+-- a line is reported exactly when it is the first bad one
 pub bad_exactly : (bytes : List ℕ) (n : ℕ) → IsBytes bytes → (message_at bytes ≡ Err n) ↔ IsFirstBad bytes n
 bad_exactly bytes n fits = ((λ e. first_bad bytes n fits e), λ bad. bad_answered bytes n fits bad)
 
--- the line that a function that reads answered
+-- the line that a reading function reports
 pub fault_from : (bytes : List ℕ) (r : Result Message MessageFault) (n : ℕ) → IsBytes bytes → r
     ≡ Err (fault.BadLine n) → Gives r (message_at bytes) → IsFirstBad bytes n
 fault_from bytes r n fits is given =

@@ -15,7 +15,7 @@ use Rattle.message.proofs.Ends.{then_end}
 
 -- ---- renewals
 
--- The values of a renewal's lines in turn are lawful, and they are all.
+-- The values of a renewal's lines, in order, are valid, and there are no others.
 abbrev IsWholeRenewal : Renewal → Type 0
 IsWholeRenewal r = (is_serial r.serial ≡ true) × ((is_end r.after ≡ true) × ((is_end r.before ≡ true) × (r ≡ r)))
 
@@ -32,7 +32,7 @@ renewal_whole =
     (λ x r e. ap (λ (r : Renewal). r.before) e)) (λ x r p. ap (λ (r : Renewal). r.after) p.1))
     (λ x r p. ap (λ (r : Renewal). r.serial) p.1.1)
 
--- a renewal is read from its text alone, its text is read, and the fault is at the first line of no renewal
+-- a text is read as a renewal exactly when it is its text, and a fault is at the first line that fits no renewal
 pub renewal_reads : IsReading 0 renewal_in (λ r. is_renewal r ≡ true) renewal_lines
 renewal_reads =
     same_values renewal_whole (λ r is. and_from _ _ is.0 (and_from _ _ is.1.0 is.1.1.0))
@@ -43,11 +43,11 @@ renewal_reads =
 digest_line : (t : List ℕ) → is_digest t ≡ true → Lacks 10 t
 digest_line t is = lacks_from is_lower_hex 10 t refl (and_parts _ _ is).1
 
--- a lawful signature
+-- a valid signature
 abbrev some_signature : Signature
 some_signature = record { bytes = replicate 64 0 }
 
--- The values of a delivery's lines in turn are lawful, and they are all.
+-- The values of a delivery's lines, in order, are valid, and there are no others.
 abbrev IsWholeDelivery : Delivery → Type 0
 IsWholeDelivery d =
     (is_serial d.serial ≡ true) × ((is_digest d.digest ≡ true) × ((is_signature d.signature ≡ true) × (d ≡ d)))
@@ -65,7 +65,7 @@ delivery_whole =
     (λ x d e. ap (λ (d : Delivery). d.signature) e)) (λ x d p. ap (λ (d : Delivery). d.digest) p.1))
     (λ x d p. ap (λ (d : Delivery). d.serial) p.1.1)
 
--- a delivery is read from its text alone, its text is read, and the fault is at the first line of no delivery
+-- a text is read as a delivery exactly when it is its text, and a fault is at the first line that fits no delivery
 pub delivery_reads : IsReading 0 delivery_in (λ d. is_delivery d ≡ true) delivery_lines
 delivery_reads =
     same_values delivery_whole (λ d is. and_from _ _ is.0 (and_from _ _ is.1.0 is.1.1.0))

@@ -1,4 +1,4 @@
--- The words of the libraries and of the definitions that several proof files speak.
+-- The names from the libraries and the definitions that several proof files use.
 pub use Rattle.base64.specs.Engines.{standard}
 pub use Rattle.base64.specs.GeneralPurpose.{IsBytes, encode_of}
 pub use Rattle.lines.proofs.Base64.{IsBytes-drop}

@@ -1,4 +1,4 @@
--- The kinds of texts and of lists that readers tell apart.
+-- The kinds of texts and of lists that readers distinguish.
 use Rattle.std.specs.Prelude.{ℕ, List, Bool, ◌&&◌, codes}
 use Rattle.values.specs.declared.option_field.OptionField.TheVariants as field
 use Rattle.values.specs.Names.{is_name, is_rule, is_principal, is_key_id, is_namespace}
@@ -17,7 +17,7 @@ use Rattle.message.specs.Values.{
   fits_kind,
 }
 
--- what a text of this kind has to pass
+-- the test for texts of this kind
 abbrev pub is_text : TextKind → List ℕ → Bool
 is_text text.Name = is_name
 is_text text.KeyId = is_key_id
@@ -27,7 +27,7 @@ is_text text.OptionName = is_known field.CriticalOptions
 is_text text.ExtensionName = is_known field.Extensions
 is_text text.Namespace = is_namespace
 
--- the word before a list
+-- the word before a list of this kind
 abbrev pub list_word : ListKind → List ℕ
 list_word list.Administrators = codes "admins"
 list_word list.Rules = codes "principals"
@@ -37,7 +37,7 @@ list_word (list.OptionsOf kind) = codes "options"
 list_word (list.ExtensionsOf kind) = codes "extensions"
 list_word (list.NamespacesOf kind) = codes "namespaces"
 
--- what a list has to pass
+-- the test for lists of this kind
 abbrev pub is_list : ListKind → List (List ℕ) → Bool
 is_list list.Administrators = are_administrators
 is_list list.Rules = are_rules

@@ -1,4 +1,4 @@
--- Readings in turn, as parts of one.
+-- Reading a department or an issue, in successive parts.
 use Rattle.std.specs.Prelude.{ℕ, ◌+◌, List, [], length, ◌&&◌, codes, if◌then◌else◌, Result, Ok, Err}
 use Rattle.text.specs.Results.{◌>>=◌, both, or_fault}
 use Rattle.text.specs.declared.pair.Pair.{Pair}
@@ -10,7 +10,7 @@ use Rattle.message.specs.Reading.{ends_after, kind_of, line_of, list_after, numb
 use Rattle.message.specs.Values.{are_administrators, are_extension_names, are_namespaces, are_option_names}
 use Rattle.message.specs.Values.{are_rules, fits_kind, is_longest_life}
 
--- a department's kind, its administrators, rules, options and extensions, its longest life and its namespaces
+-- a department's kind, its administrators, rules, options and extensions, its longest lifetime and its namespaces
 abbrev pub Profile : Type 0
 Profile =
     Kind × (((List (List ℕ) × List (List ℕ)) × (List (List ℕ) × List (List ℕ))) × (ℕ × List (List ℕ)))
@@ -24,7 +24,7 @@ namespaces_in kind ps = do
       then Ok namespaces
       else Err 9
 
--- what the lines of a department from 2 on say
+-- the profile in the lines of a department from line 2 on
 abbrev pub profile_in : List (List ℕ) → Result Profile ℕ
 profile_in ps =
     or_fault 2 (kind_of (line_of 2 ps)) >>= (λ kind. both (Ok kind)
@@ -47,7 +47,7 @@ department_of name profile = record {
   namespaces = profile.1.1.1;
 }
 
--- the options and the extensions of an issue, its lines from 7 on
+-- the options and the extensions of an issue, in its lines from line 7 on
 unfoldable pub extras_in : List (List ℕ) → Result (List Pair × List (List ℕ)) ℕ
 extras_in ps = do
   let options = options_from 3 7 [] ps
@@ -57,7 +57,7 @@ extras_in ps = do
       then Ok (options, extensions)
       else Err (8 + length options)
 
--- an issue's department and key id, its key and its principals
+-- an issue's department and key ID, its key and its principals
 abbrev pub Subject : Type 0
 Subject = (List ℕ × List ℕ) × (KeyLine × List (List ℕ))
 

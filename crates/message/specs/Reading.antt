@@ -1,4 +1,4 @@
--- Messages read line by line, with the number of the first line that does not fit.
+-- Reading messages line by line, with the number of the first line that does not fit.
 use Rattle.std.specs.Prelude.{◌≡◌, ℕ, suc, zero, ◌+◌, ◌-◌, List, [], ◌∷◌, ◌++◌, length, take, drop, codes}
 use Rattle.std.specs.Prelude.{Bool, not, ◌&&◌, ◌==◌, nat_lt, if◌then◌else◌, Option, Some, None, Result, Ok, Err}
 use Rattle.std.specs.List.{list_any, slice_split, slice_index_or}
@@ -43,33 +43,33 @@ use Rattle.message.specs.Values.{
   is_range,
 }
 
--- What a function returned is what reading gives, unless memory was refused.
+-- The result of a function is that of reading by the definitions, unless memory was refused.
 abbrev pub Gives : {X : Type 0} → Result X MessageFault → Result X ℕ → Type 0
 Gives (Ok x) read = read ≡ Ok x
 Gives (Err (fault.BadLine n)) read = read ≡ Err n
 Gives (Err fault.NoMemory) read = Unit {0}
 
--- a value, where it passes a test
+-- a value, if it passes a test
 abbrev pub passing : {A : Type 0} → (A → Bool) → A → Option A
 passing test x = if test x then Some x else None
 
 -- ---- lines
 
--- the pieces between line feeds; what stands behind the last of them is no line
+-- the pieces between line feeds; the one after the last line feed is no line
 abbrev pub pieces : List ℕ → List (List ℕ)
 pieces bytes = slice_split (λ b. b == 10) bytes
 
--- the nth line from 1, or no bytes, which fit nothing, where it is missing or not ended
+-- line n, counted from 1; if it is missing or not terminated, the empty line, which fits nothing
 abbrev pub line_of : ℕ → List (List ℕ) → List ℕ
 line_of n ps = if nat_lt n (length ps) then slice_index_or ps (n - 1) [] else []
 
--- whether n lines are all: one piece stands behind them, and it has no bytes
+-- whether there are exactly n lines: one piece follows them, and it is empty
 abbrev pub ends_after : ℕ → List (List ℕ) → Bool
 ends_after n ps = length ps == n + 1 && list_any (λ p. length p == 0) (drop n ps)
 
--- ---- what a line says
+-- ---- the contents of a line
 
--- what follows these bytes
+-- the rest of the line after these bytes
 abbrev pub after : List ℕ → List ℕ → Option (List ℕ)
 after head line = if bytes_eq (take (length head) line) head then Some (drop (length head) line) else None
 
@@ -82,16 +82,16 @@ key_id_after head line = option_and_then (passing is_key_id) (after head line)
 abbrev pub key_line_after : List ℕ → List ℕ → Option KeyLine
 key_line_after head line = option_and_then (λ text. result_ok (key_line_at text)) (after head line)
 
--- a number that passes a test
+-- a number after these bytes that passes a test
 abbrev pub number_after : (ℕ → Bool) → List ℕ → List ℕ → Option ℕ
 number_after test head line = option_and_then (passing test) (option_and_then number_of (after head line))
 
--- nothing, or a space and texts between commas
+-- nothing, or a space and texts separated by commas
 abbrev pub listed : List ℕ → Option (List (List ℕ))
 listed [] = Some []
 listed (b ∷ text) = if b == 32 then Some (slice_split (λ c. c == 44) text) else None
 
--- a list that passes a test
+-- a list after these bytes that passes a test
 abbrev pub list_after : (List (List ℕ) → Bool) → List ℕ → List ℕ → Option (List (List ℕ))
 list_after test head line = option_and_then (passing test) (option_and_then listed (after head line))
 
@@ -99,23 +99,23 @@ abbrev pub kind_of : List ℕ → Option Kind
 kind_of line = if bytes_eq line (codes "kind user") then Some User else
     (if bytes_eq line (codes "kind host") then Some Host else None)
 
--- an option: the name of a flag alone, or another name, a space and a value
+-- an option: the name of a flag alone, or any other name, a space and a value
 abbrev pub pair_of : List ℕ → Option Pair
 pair_of text = elim (comment_of text) [
   | None ↦ if is_flag (word_of text) then Some (record { name = word_of text; value = [] }) else None
   | Some value ↦ if is_flag (word_of text) then None else Some (record { name = word_of text; value = value })
 ]
 
--- whether an option may follow those before it
+-- whether an option may follow the earlier ones
 abbrev pub is_new_option : List Pair → Pair → Bool
 is_new_option before p = is_option p && not (list_any (λ q. bytes_eq q.name p.name) before)
 
--- an option that may follow those before it
+-- the option in a line, if it may follow the earlier ones
 abbrev pub option_after : List Pair → List ℕ → Option Pair
 option_after before line =
     option_and_then (passing (is_new_option before)) (option_and_then pair_of (after (codes "option ") line))
 
--- the options before line n, with those of up to k lines from there on
+-- these options from before line n, followed by those in at most k lines from line n on
 unfoldable pub options_from : ℕ → ℕ → List Pair → List (List ℕ) → List Pair
 options_from zero n before ps = before
 options_from (suc k) n before ps = elim (option_after before (line_of n ps)) [
@@ -126,7 +126,7 @@ options_from (suc k) n before ps = elim (option_after before (line_of n ps)) [
 abbrev pub digest_after : List ℕ → List ℕ → Option (List ℕ)
 digest_after head line = option_and_then (passing is_digest) (after head line)
 
--- the signature whose blob the 112 characters of base64 stand for
+-- the signature whose blob the 112 base64 characters encode
 abbrev pub signature_at : List ℕ → Option Signature
 signature_at text =
     if length text == 112
@@ -141,7 +141,7 @@ signature_after head line = option_and_then signature_at (after head line)
 abbrev pub range_between : Option ℕ → Option ℕ → Option SerialRange
 range_between lo hi = option_and_then (λ l. option_map (λ h. record { lo = l; hi = h }) hi) lo
 
--- two numbers, and a space between them
+-- two numbers with a space between them
 abbrev pub range_of : List ℕ → Option SerialRange
 range_of text =
     option_and_then (λ last. range_between (number_of (word_of text)) (number_of last)) (comment_of text)
@@ -232,7 +232,7 @@ one_line_in read ps = do
 abbrev pub begins : List ℕ → List (List ℕ) → Bool
 begins head ps = is_some (after head (line_of 1 ps))
 
--- the message of a value
+-- the message made from a value
 abbrev pub made : {A B : Type 0} → (A → B) → Result A ℕ → Result B ℕ
 made f (Ok x) = Ok (f x)
 made f (Err n) = Err n
@@ -250,7 +250,7 @@ one_line_message_in ps =
     then made (λ k. message.Rollover k) (one_line_in (key_line_after (codes "rollover ")) ps)
     else Err 1)))
 
--- a message, from the pieces of its text: line 1 says the kind
+-- a message, from the pieces of its text: line 1 gives the kind
 abbrev pub message_in : List (List ℕ) → Result Message ℕ
 message_in ps =
     if begins (codes "department ") ps then made (λ d. message.Department d) (department_in ps)
@@ -259,10 +259,10 @@ message_in ps =
     else (if begins (codes "deliver ") ps then made (λ d. message.Deliver d) (delivery_in ps)
     else one_line_message_in ps)))
 
--- the message that a text is, or the first line that does not fit
+-- the message with this text, or the first line that does not fit
 abbrev pub message_at : List ℕ → Result Message ℕ
 message_at bytes = message_in (pieces bytes)
 
--- the message that a text is, if it is one
+-- the message with this text, if there is one
 abbrev pub message_of : List ℕ → Option Message
 message_of bytes = result_ok (message_at bytes)

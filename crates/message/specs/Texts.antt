@@ -1,4 +1,4 @@
--- The texts of messages: lines, each ended by a line feed.
+-- The texts of messages: lines, each terminated by a line feed.
 use Rattle.std.specs.Prelude.{ℕ, List, [], ◌∷◌, ◌++◌, map, codes, if◌then◌else◌}
 use Rattle.std.specs.List.{join_with_byte}
 use Rattle.std.specs.Fmt.{decimal}
@@ -28,17 +28,17 @@ lines_text (line ∷ lines) = line ++ 10 ∷ lines_text lines
 abbrev pub line : List ℕ → List ℕ → List ℕ
 line word value = word ++ 32 ∷ value
 
--- a word, a space and a list joined by commas; of an empty list the word alone
+-- a word, a space and a list joined by commas; for an empty list the word alone
 abbrev pub list_line : List ℕ → List (List ℕ) → List ℕ
 list_line word [] = word
 list_line word (t ∷ ts) = line word (join_with_byte 44 (t ∷ ts))
 
--- the word of a kind
+-- the word for a kind
 abbrev pub kind_text : Kind → List ℕ
 kind_text User = codes "user"
 kind_text Host = codes "host"
 
--- the name of an option, and where it is no flag a space and the value
+-- the name of an option and, unless it is a flag, a space and the value
 abbrev pub option_text : Pair → List ℕ
 option_text p = if is_flag p.name then p.name else line p.name p.value
 

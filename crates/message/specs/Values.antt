@@ -1,4 +1,4 @@
--- Which values a message may hold.
+-- The values that a message may hold.
 use Rattle.std.specs.Prelude.{ℕ, List, length, map, Bool, true, ◌&&◌, ◌||◌, ◌==◌, nat_le, nat_lt}
 use Rattle.std.specs.List.{list_all}
 use Rattle.text.specs.declared.pair.Pair.{Pair}
@@ -47,7 +47,7 @@ are_extension_names ts = are_distinct_and (is_known Extensions) ts
 abbrev pub are_namespaces : List (List ℕ) → Bool
 are_namespaces ts = nat_le (length ts) 8 && are_distinct_and is_namespace ts
 
--- a department for hosts has none of these
+-- the list is empty in a department for hosts
 abbrev pub fits_kind : Kind → List (List ℕ) → Bool
 fits_kind User ts = true
 fits_kind Host ts = length ts == 0
@@ -56,19 +56,19 @@ fits_kind Host ts = length ts == 0
 abbrev pub is_longest_life : ℕ → Bool
 is_longest_life n = nat_le 1 n && nat_le n 253402300799
 
--- an end of a validity: up to 9999-12-31 23:59:59 UTC, in seconds since 1970-01-01 00:00:00 UTC
+-- a start or end of a validity: up to 9999-12-31 23:59:59 UTC, in seconds since 1970-01-01 00:00:00 UTC
 abbrev pub is_end : ℕ → Bool
 is_end n = nat_le n 253402300799
 
--- a critical option that a certificate may have, with a value that it may have
+-- a known critical option with a valid value
 abbrev pub is_option : Pair → Bool
 is_option p = is_known CriticalOptions p.name && is_option_value p.name p.value
 
--- 0 to 3 critical options of distinct names
+-- 0 to 3 critical options with distinct names
 abbrev pub are_options : List Pair → Bool
 are_options ps = nat_le (length ps) 3 && (list_all is_option ps && are_distinct (map (λ p. p.name) ps))
 
--- a department with a lawful profile
+-- a department with a valid name and a valid profile
 abbrev pub is_department : Department → Bool
 is_department d =
     is_name d.name && (are_administrators d.administrators && (are_rules d.rules
@@ -76,13 +76,13 @@ is_department d =
     && ((are_extension_names d.extensions && fits_kind d.kind d.extensions)
     && (is_longest_life d.longest_life && (are_namespaces d.namespaces && fits_kind d.kind d.namespaces))))))
 
--- a certificate that may be asked for
+-- a certificate that may be requested
 abbrev pub is_issue : Issue → Bool
 is_issue i =
     is_name i.department && (is_key_id i.key_id && (is_key_line i.key && (are_principals i.principals
     && (is_end i.after && (is_end i.before && (are_options i.options && are_extension_names i.extensions))))))
 
--- a certificate that may be asked for once more
+-- a renewal that may be requested
 abbrev pub is_renewal : Renewal → Bool
 is_renewal r = is_serial r.serial && (is_end r.after && is_end r.before)
 
@@ -102,7 +102,7 @@ is_signature s = length s.bytes == 64 && list_all (λ b. nat_lt b 256) s.bytes
 abbrev pub is_delivery : Delivery → Bool
 is_delivery d = is_serial d.serial && (is_digest d.digest && is_signature d.signature)
 
--- serials from the first to the last, both included
+-- a first and a last serial, in order
 abbrev pub is_range : SerialRange → Bool
 is_range r = is_serial r.lo && (is_serial r.hi && nat_le r.lo r.hi)
 

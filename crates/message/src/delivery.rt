@@ -10,7 +10,7 @@ use crate::message_fault::MessageFault;
 use crate::value::{digest_after, serial_after, signature_after};
 use lines::Signature;
 
-/// The signature of a certificate's body.
+/// The signature of a certificate's body (the unsigned certificate).
 #[derive(Clone, Copy)]
 pub struct Delivery {
     /// The serial of the certificate, 1 to 9223372036854775806.
@@ -21,7 +21,7 @@ pub struct Delivery {
     pub signature: Signature,
 }
 
-/// The delivery whose lines these are.
+/// The delivery with these lines.
 #[tactic(auto, unfolding(crate::specs::Reading::delivery_in))]
 pub(crate) fn delivery_in(pieces: &[&[u8]]) -> Result<Message, MessageFault>
     ensures { Gives result (made (λ x. message.Deliver x) (delivery_in (map (λ x. x.now) pieces.now))) }

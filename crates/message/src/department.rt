@@ -1,4 +1,4 @@
-//! What a department is.
+//! Departments.
 
 ghost use Rattle.std.specs.Prelude.{◌≡◌, IfOk, codes, map};
 ghost use Rattle.text.specs.Results.{or_fault};
@@ -16,36 +16,36 @@ use std::alloc::Global;
 use text::{NoMemory, Text, Texts, both};
 use values::{Kind, LONGEST_LIFE};
 
-/// A department with its profile of what may be issued.
+/// A department: an issuance policy. Its profile restricts the certificates that may be issued.
 #[derive(Drop)]
 pub struct Department {
     /// 1 to 32 bytes of `a-z 0-9 -`.
     pub name: Text,
-    /// Fixed for good once the department is there.
+    /// Fixed permanently once the department exists.
     pub kind: Kind,
     /// 0 to 16 distinct names of callers.
     pub administrators: Texts,
     /// 1 to 16 distinct rules.
     pub rules: Texts,
-    /// The names of the critical options that may be issued. None for hosts.
+    /// The names of the permitted critical options. None for hosts.
     pub options: Texts,
-    /// The names of the extensions that may be issued. None for hosts.
+    /// The names of the permitted extensions. None for hosts.
     pub extensions: Texts,
-    /// The longest life of a certificate in seconds, 1 to 253402300799.
+    /// The longest lifetime of a certificate in seconds, 1 to 253402300799.
     pub longest_life: u64,
     /// 0 to 8 distinct namespaces of signatures. None for hosts.
     pub namespaces: Texts,
 }
 
-/// The kind, the four lists of people and of names, the longest life and the namespaces.
+/// The kind, the lists of administrators, rules, options and extensions, the longest lifetime and the namespaces.
 type Profile = (Kind, (((Texts, Texts), (Texts, Texts)), (u64, Texts)));
 
 impl Department {
-    /// A copy of its own.
+    /// A copy, in new memory.
     ///
     /// # Errors
     ///
-    /// `NoMemory`, where a growth was refused.
+    /// `NoMemory`, if an allocation was refused.
     pub fn copied(&self, alloc: Global) -> Result<Department, NoMemory>
         ensures { IfOk result (λ d. d ≡ self.now) }
     {
@@ -61,7 +61,7 @@ impl Department {
     }
 }
 
-/// The kind of line 2.
+/// The kind on line 2.
 fn kind_in(pieces: &[&[u8]]) -> Result<Kind, MessageFault>
     ensures { Gives result (or_fault 2 (kind_of (line_of 2 (map (λ x. x.now) pieces.now)))) }
 {
@@ -75,7 +75,7 @@ fn kind_in(pieces: &[&[u8]]) -> Result<Kind, MessageFault>
     }
 }
 
-/// Whether a department of this kind may have the list: one for hosts has none.
+/// Whether a department of this kind may have the list: for hosts, only an empty one.
 pub fn fits_kind(kind: Kind, texts: &[Text]) -> bool
     ensures { result ≡ fits_kind kind texts.now }
 {
@@ -85,7 +85,7 @@ pub fn fits_kind(kind: Kind, texts: &[Text]) -> bool
     }
 }
 
-/// The longest life of line 7.
+/// The longest lifetime on line 7.
 fn longest_life_in(pieces: &[&[u8]]) -> Result<u64, MessageFault>
     ensures { Gives result
         (or_fault 7 (number_after is_longest_life (codes "maxlife ") (line_of 7 (map (λ x. x.now) pieces.now)))) }
@@ -96,7 +96,7 @@ fn longest_life_in(pieces: &[&[u8]]) -> Result<u64, MessageFault>
     }
 }
 
-/// The namespaces of line 8, the last.
+/// The namespaces on line 8, the last.
 #[tactic(auto, unfolding(crate::specs::Parts::namespaces_in))]
 fn namespaces_in(alloc: Global, pieces: &[&[u8]], kind: Kind) -> Result<Texts, MessageFault>
     ensures { Gives result (namespaces_in kind (map (λ x. x.now) pieces.now)) }
@@ -108,7 +108,7 @@ fn namespaces_in(alloc: Global, pieces: &[&[u8]], kind: Kind) -> Result<Texts, M
     Ok(namespaces)
 }
 
-/// What the lines from 2 on say.
+/// The profile in the lines from line 2 on.
 fn profile_in(alloc: Global, pieces: &[&[u8]]) -> Result<Profile, MessageFault>
     ensures { Gives result (profile_in (map (λ x. x.now) pieces.now)) }
 {
@@ -127,7 +127,7 @@ fn profile_in(alloc: Global, pieces: &[&[u8]]) -> Result<Profile, MessageFault>
     both(Ok(kind), profile)
 }
 
-/// The department of this name with this profile.
+/// The department with this name and this profile.
 fn department_of(name: Text, profile: Profile) -> Department
     ensures { result ≡ department_of name profile }
 {
@@ -145,7 +145,7 @@ fn department_of(name: Text, profile: Profile) -> Department
     }
 }
 
-/// The department whose lines these are.
+/// The department with these lines.
 pub(crate) fn department_in(alloc: Global, pieces: &[&[u8]]) -> Result<Message, MessageFault>
     ensures { Gives result (made (λ x. message.Department x) (department_in (map (λ x. x.now) pieces.now))) }
 {

@@ -1,4 +1,4 @@
-//! What is asked for in an issue.
+//! Issues: requests for a certificate.
 
 ghost use Rattle.std.specs.Prelude.{◌≡◌, ◌≤◌, IfOk, length, map, []};
 ghost use Rattle.message.specs.Reading.{Gives, issue_in, made, options_from};
@@ -15,14 +15,14 @@ use lines::KeyLine;
 use std::alloc::Global;
 use text::{NoMemory, Pairs, Text, Texts, both};
 
-/// A certificate that is asked for.
+/// A requested certificate.
 #[derive(Drop)]
 pub struct Issue {
     /// The name of the department.
     pub department: Text,
     /// A department's name, `/` and 1 to 64 bytes from 0x21 to 0x7e.
     pub key_id: Text,
-    /// The subject's key, with the comment of its line.
+    /// The subject's public key, with the comment on its line.
     pub key: KeyLine,
     /// 1 to 16 distinct principals.
     pub principals: Texts,
@@ -30,19 +30,19 @@ pub struct Issue {
     pub after: u64,
     /// The first second after the validity.
     pub before: u64,
-    /// 0 to 3 critical options of distinct names, in the order given.
+    /// 0 to 3 critical options with distinct names, in the order given.
     pub options: Pairs,
     /// Distinct names of extensions, in the order given.
     pub extensions: Texts,
 }
 
-/// The department and the key id, the key and the principals.
+/// The department and the key ID, the key and the principals.
 type Subject = ((Text, Text), (KeyLine, Texts));
 
 /// The validity, the options and the extensions.
 type Terms = ((u64, u64), (Pairs, Texts));
 
-/// The options of up to three lines from line 7 on.
+/// The options on up to three lines from line 7 on.
 fn options_in(alloc: Global, pieces: &[&[u8]]) -> Result<Pairs, NoMemory>
     ensures read { IfOk result (λ o. o ≡ options_from 3 7 [] (map (λ x. x.now) pieces.now)) }
     ensures few { IfOk result (λ o. length o ≤ 3) }
@@ -57,7 +57,7 @@ fn options_in(alloc: Global, pieces: &[&[u8]]) -> Result<Pairs, NoMemory>
     Ok(options)
 }
 
-/// The options and the extensions of the lines from 7 on.
+/// The options and the extensions on the lines from line 7 on.
 #[tactic(auto, unfolding(crate::specs::Parts::extras_in))]
 fn extras_in(alloc: Global, pieces: &[&[u8]]) -> Result<(Pairs, Texts), MessageFault>
     ensures { Gives result (extras_in (map (λ x. x.now) pieces.now)) }
@@ -71,7 +71,7 @@ fn extras_in(alloc: Global, pieces: &[&[u8]]) -> Result<(Pairs, Texts), MessageF
     Ok((options, extensions))
 }
 
-/// The issue of the lines 1 to 4 and of those from 5 on.
+/// The issue from the values of lines 1 to 4 and of the lines from line 5 on.
 fn issue_of(subject: Subject, terms: Terms) -> Issue
     ensures { result ≡ issue_of subject terms }
 {
@@ -89,7 +89,7 @@ fn issue_of(subject: Subject, terms: Terms) -> Issue
     }
 }
 
-/// The issue whose lines these are.
+/// The issue with these lines.
 pub(crate) fn issue_in(alloc: Global, pieces: &[&[u8]]) -> Result<Message, MessageFault>
     ensures { Gives result (made (λ x. message.Issue x) (issue_in (map (λ x. x.now) pieces.now))) }
 {

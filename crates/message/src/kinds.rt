@@ -8,23 +8,23 @@ use crate::serial_range::SerialRange;
 use lines::KeyLine;
 use text::Text;
 
-/// What a message asks for. Lists and option lines are kept in the order given, so a text belongs to one message.
+/// A message. Lists and option lines keep the order given, so a text belongs to at most one message.
 #[derive(Drop)]
 pub enum Message {
-    /// A department, new or with another profile.
+    /// A department, new or with a new profile.
     Department(Department),
-    /// A certificate.
+    /// A request for a certificate.
     Issue(Issue),
-    /// A certificate once more, with another validity.
+    /// The renewal of a certificate, with a new validity.
     Renew(Renewal),
     /// The signature of a certificate.
     Deliver(Delivery),
-    /// The revocation of the certificate of a serial, 1 to 9223372036854775806.
+    /// The revocation of the certificate with a serial, 1 to 9223372036854775806.
     RevokeSerial(u64),
-    /// The revocation of the certificates of these serials.
+    /// The revocation of the certificates with these serials.
     RevokeRange(SerialRange),
-    /// The revocation of all certificates with a key id.
+    /// The revocation of all certificates with a key ID.
     RevokeKeyId(Text),
-    /// Another key of the authority, with the comment of its line.
+    /// A new CA key, with the comment on its line.
     Rollover(KeyLine),
 }

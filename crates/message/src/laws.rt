@@ -1,4 +1,4 @@
-//! Laws of the texts of messages. The functions do nothing: their clauses are what is proved.
+//! Theorems about the texts of messages. The functions do nothing: their contracts are the theorems.
 
 ghost use Rattle.std.specs.Prelude.{◌≡◌, ◌↔◌, ℕ, List, IsTrue, Err, Some};
 ghost use Rattle.base64.specs.GeneralPurpose.{IsBytes};
@@ -9,19 +9,19 @@ ghost use Rattle.message.specs.Texts.{message_text};
 ghost use Rattle.message.specs.Values.{is_message};
 ghost use Rattle.message.specs.declared.kinds.Message.{Message};
 
-/// Reading finds a message exactly where the message is lawful and the bytes, numbers below 256, are its text.
+/// Reading finds a message exactly when the message is valid and the bytes, numbers below 256, are its text.
 pub fn reading_finds_the_message_of_a_text()
     ensures { (bytes : List ℕ) (m : Message) → IsBytes bytes → (message_of bytes ≡ Some m) ↔ BelongsTo bytes m }
 {}
 
-/// A text belongs to one message.
+/// A text belongs to at most one message.
 pub fn a_text_belongs_to_one_message()
     ensures { (a b : Message) → IsTrue (is_message a) → IsTrue (is_message b)
         → message_text a ≡ message_text b → a ≡ b }
 {}
 
-/// The line that reading names is the first that fits no message: the bytes are no message's text, the lines before it
-/// begin one, and with it they begin none.
+/// The line that reading reports is the first that fits no message: the bytes are no message's text, the lines before
+/// it begin one, and with it they begin none.
 pub fn the_first_bad_line_is_named()
     ensures { (bytes : List ℕ) (n : ℕ) → IsBytes bytes → (message_at bytes ≡ Err n) ↔ IsFirstBad bytes n }
 {}

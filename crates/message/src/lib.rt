@@ -1,7 +1,7 @@
-//! What an administrator or the signing station sends, line by line.
+//! Messages, the bodies of POST requests that an administrator or the signing station sends, line by line.
 //!
-//! A message is read from its text alone, its text is read, and a text belongs to one message. A text that is none is
-//! answered with the number of the first line that no message has in that place after the lines before it.
+//! A text is read as a message exactly when it is the message's text, and it belongs to at most one. For a text that is
+//! no message, the answer is the number of the first line that no message has in that place after the lines before it.
 #![tactic(auto)]
 
 mod delivery;

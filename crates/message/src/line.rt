@@ -9,7 +9,7 @@ use std::alloc::Global;
 use text::{NoMemory, Text, Texts, cut};
 use values::read_decimal;
 
-/// Line `n` from 1. A line that is missing, or whose line feed is, is no bytes, which fit nothing.
+/// Line `n`, counted from 1. If the line or its line feed is missing, the result is empty, which fits nothing.
 pub(crate) fn line<'a>(pieces: &[&'a [u8]], n: usize) -> &'a [u8]
     requires { 1 ≤ n }
     ensures { result.now ≡ line_of n (map (λ x. x.now) pieces.now) }
@@ -21,7 +21,7 @@ pub(crate) fn line<'a>(pieces: &[&'a [u8]], n: usize) -> &'a [u8]
     }
 }
 
-/// Whether the text ends behind line `n`.
+/// Whether the text ends after line `n`.
 pub(crate) fn ends_after(pieces: &[&[u8]], n: usize) -> bool
     requires { n ≤ 64 }
     ensures { result ≡ ends_after n (map (λ x. x.now) pieces.now) }
@@ -29,14 +29,14 @@ pub(crate) fn ends_after(pieces: &[&[u8]], n: usize) -> bool
     pieces.len() == n + 1 && pieces[n].is_empty()
 }
 
-/// What follows these bytes.
+/// The rest of the line after these bytes.
 pub(crate) fn after<'a>(line: &'a [u8], head: &[u8]) -> Option<&'a [u8]>
     ensures { option_copied result ≡ after head.now line.now }
 {
     line.strip_prefix(head)
 }
 
-/// A number behind these bytes.
+/// A number after these bytes.
 pub(crate) fn number_after(line: &[u8], head: &[u8]) -> Option<u64>
     ensures { result ≡ option_and_then number_of (after head.now line.now) }
 {
@@ -66,7 +66,7 @@ fn listed(alloc: Global, text: &[u8]) -> Result<Option<Texts>, NoMemory>
     }
 }
 
-/// The texts behind this word: none where the word stands alone, else those between commas behind a space.
+/// The texts after this word: none if the word is alone, else those after a space, separated by commas.
 pub(crate) fn list_after(alloc: Global, line: &[u8], word: &[u8]) -> Result<Option<Texts>, NoMemory>
     ensures { IfOk result (λ o. o ≡ option_and_then listed (after word.now line.now)) }
 {

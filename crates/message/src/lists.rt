@@ -25,7 +25,7 @@ use values::{
     are_distinct, is_key_id, is_known, is_name, is_namespace, is_principal, is_rule,
 };
 
-/// What the texts of a message are, each of its kind.
+/// The kinds of texts in a message.
 #[derive(Clone, Copy)]
 pub(crate) enum TextKind {
     Name,
@@ -37,7 +37,7 @@ pub(crate) enum TextKind {
     Namespace,
 }
 
-/// Whether the text is lawful as one of this kind.
+/// Whether the text is a valid one of this kind.
 pub(crate) fn is_text(kind: TextKind, text: &[u8]) -> bool
     ensures { result ≡ is_text kind text.now }
 {
@@ -108,7 +108,7 @@ pub fn are_namespaces(texts: &[Text]) -> bool
     texts.len() <= MOST_NAMESPACES && are_distinct_texts(TextKind::Namespace, texts)
 }
 
-/// Which list a line has. A department's lists say its kind, where one for hosts has none.
+/// The kinds of lists in a line. Lists that must be empty in a department for hosts carry the department's kind.
 #[derive(Clone, Copy)]
 pub(crate) enum ListKind {
     Administrators,
@@ -120,7 +120,7 @@ pub(crate) enum ListKind {
     NamespacesOf(Kind),
 }
 
-/// The word before the list.
+/// The word before a list of this kind.
 fn word(kind: ListKind) -> &'static [u8]
     ensures { result.now ≡ list_word kind }
 {
@@ -133,7 +133,7 @@ fn word(kind: ListKind) -> &'static [u8]
     }
 }
 
-/// Whether the texts are such a list.
+/// Whether the texts are a valid list of this kind.
 fn is_list(kind: ListKind, texts: &[Text]) -> bool
     ensures { result ≡ is_list kind texts.now }
 {
@@ -148,7 +148,7 @@ fn is_list(kind: ListKind, texts: &[Text]) -> bool
     }
 }
 
-/// The list of line `n`.
+/// The list on line `n`.
 pub(crate) fn list_in(
     alloc: Global,
     pieces: &[&[u8]],

@@ -6,9 +6,9 @@ ghost use Rattle.message.specs.declared.message_fault.MessageFault.TheVariants.{
 /// Why a message could not be read.
 #[derive(Clone, Copy, Debug, PartialEq, Eq)]
 pub enum MessageFault {
-    /// The first line that its kind doesn't allow in that place after the lines before it, from 1.
+    /// The first line, counted from 1, that no message has in that place after the lines before it.
     BadLine(u64),
-    /// A growth was refused.
+    /// An allocation was refused.
     NoMemory,
 }
 

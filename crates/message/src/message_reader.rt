@@ -1,4 +1,4 @@
-//! Messages read.
+//! Reading messages.
 
 ghost use Rattle.std.specs.Prelude.{◌≡◌, ℕ, IfOk, IsTrue, map};
 ghost use Rattle.message.specs.Belonging.{BelongsTo};
@@ -69,23 +69,23 @@ fn read(alloc: Global, bytes: &[u8]) -> Result<Message, MessageFault>
     message_in(alloc, pieces.as_slice())
 }
 
-/// Reads a message: lines that each end with a line feed. Line 1 says the kind.
+/// Reads a message: lines that each end with a line feed. Line 1 gives the kind.
 ///
 /// # Errors
 ///
-/// `BadLine(n)`: line n, from 1, is the first that its kind doesn't allow in that place after the lines before it.
-/// A line that is missing, or whose line feed is, fits nothing, nor does a line after the last.
+/// `BadLine(n)`: line n, counted from 1, is the first that no message has in that place after the lines before
+/// it. A line that is missing, or lacks its line feed, fits nothing, nor does a line after the last.
 pub fn read_message(alloc: Global, bytes: &[u8]) -> Result<Message, MessageFault>
-    // What is answered is what reading line by line gives.
+    // The result is that of reading line by line, as defined.
     ensures exact { Gives result (message_at bytes.now) }
 
-    // What is read is a lawful message, and the bytes are its text.
+    // The message is valid, and the bytes are its text.
     ensures found { IfOk result (BelongsTo bytes.now) }
 
-    // The text of a lawful message is read, or memory is refused.
+    // The text of a valid message is read, unless memory is refused.
     ensures only { (m : Message) → IsTrue (is_message m) → bytes.now ≡ message_text m → Gives result (Ok m) }
 
-    // The line that is answered is the first bad one, and the first bad one is answered, or memory is refused.
+    // The reported line is the first bad one, and a first bad line is reported, unless memory is refused.
     ensures fault { (n : ℕ) → result ≡ Err (MessageFault.BadLine n) → IsFirstBad bytes.now n }
     ensures answered { (n : ℕ) → IsFirstBad bytes.now n → Gives result (Err n) }
 {

@@ -20,7 +20,7 @@ fn copied(alloc: Global, name: &[u8], value: &[u8]) -> Result<Pair, NoMemory>
     })
 }
 
-/// The option of a text: the name of a flag alone, or another name, a space and a value.
+/// The option in a text: the name of a flag alone, or any other name, a space and a value.
 fn pair_of(alloc: Global, text: &[u8]) -> Result<Option<Pair>, NoMemory>
     ensures { IfOk result (λ o. o ≡ pair_of text.now) }
 {
@@ -41,7 +41,7 @@ fn pair_of(alloc: Global, text: &[u8]) -> Result<Option<Pair>, NoMemory>
     }
 }
 
-/// Whether this is a critical option that a certificate may have, with a value that it may have.
+/// Whether this is a known critical option with a valid value.
 pub fn is_option(option: &Pair) -> bool
     ensures { result ≡ is_option option.now }
 {
@@ -49,14 +49,14 @@ pub fn is_option(option: &Pair) -> bool
     is_known(OptionField::CriticalOptions, name) && is_option_value(name, option.value.as_slice())
 }
 
-/// Whether the option may follow those before it: it is lawful, and none of them has its name.
+/// Whether the option may follow the earlier ones: it is valid, and none of them has its name.
 fn is_new_option(before: &Pairs, option: &Pair) -> bool
     ensures { result ≡ is_new_option before.now option.now }
 {
     is_option(option) && !before.has_name(option.name.as_slice())
 }
 
-/// The option of a line that may follow those before it.
+/// The option on a line, if it may follow the earlier ones.
 pub(crate) fn option_after(
     alloc: Global,
     before: &Pairs,

@@ -1,4 +1,4 @@
-//! A certificate that is asked for once more.
+//! Renewals of a certificate.
 
 ghost use Rattle.std.specs.Prelude.{map};
 ghost use Rattle.message.specs.Reading.{Gives, made, renewal_in};
@@ -9,7 +9,7 @@ use crate::line::{ends_after, line};
 use crate::message_fault::MessageFault;
 use crate::value::{end_after, serial_after};
 
-/// A certificate once more, with another validity.
+/// The renewal of a certificate, with a new validity.
 #[derive(Clone, Copy)]
 pub struct Renewal {
     /// The serial of the certificate, 1 to 9223372036854775806.
@@ -20,7 +20,7 @@ pub struct Renewal {
     pub before: u64,
 }
 
-/// The renewal whose lines these are.
+/// The renewal with these lines.
 #[tactic(auto, unfolding(crate::specs::Reading::renewal_in))]
 pub(crate) fn renewal_in(pieces: &[&[u8]]) -> Result<Message, MessageFault>
     ensures { Gives result (made (λ x. message.Renew x) (renewal_in (map (λ x. x.now) pieces.now))) }

@@ -1,6 +1,6 @@
-//! Serials that follow one another.
+//! Ranges of consecutive serials.
 
-/// The serials from `lo` to `hi`, both included. 1 <= `lo` <= `hi` <= 9223372036854775806.
+/// The serials from `lo` to `hi`, inclusive. 1 <= `lo` <= `hi` <= 9223372036854775806.
 #[derive(Clone, Copy)]
 pub struct SerialRange {
     /// The first serial.

@@ -1,4 +1,4 @@
-//! Values in lines, each behind its word.
+//! Values in lines, each after its word.
 
 ghost use Rattle.std.specs.Prelude.{◌≡◌, ◌≤◌, map};
 ghost use Rattle.std.specs.List.{list_all};
@@ -31,7 +31,7 @@ use std::alloc::Global;
 use text::Text;
 use values::{LATEST_MOMENT, is_serial, read_decimal};
 
-/// The text of this kind behind these bytes on line `n`.
+/// The text of this kind after these bytes on line `n`.
 pub(crate) fn text_after(
     alloc: Global,
     pieces: &[&[u8]],
@@ -49,7 +49,7 @@ pub(crate) fn text_after(
     }
 }
 
-/// The key line behind these bytes on line `n`.
+/// The public-key line after these bytes on line `n`.
 pub(crate) fn key_line_after(
     alloc: Global,
     pieces: &[&[u8]],
@@ -74,7 +74,7 @@ pub(crate) fn key_line_after(
     }
 }
 
-/// The end of a validity behind these bytes on line `n`.
+/// The start or end of a validity after these bytes on line `n`.
 pub(crate) fn end_after(pieces: &[&[u8]], n: usize, head: &[u8]) -> Result<u64, MessageFault>
     requires { 1 ≤ n }
     ensures { Gives result (or_fault n (number_after is_end head.now (line_of n (map (λ x. x.now) pieces.now)))) }

@@ -1,4 +1,4 @@
-//! Messages written.
+//! Writing messages.
 
 ghost use Rattle.std.specs.Prelude.{◌≡◌, ◌++◌, [], ◌∷◌, IfOk, OnOk, codes, decimal, map};
 ghost use Rattle.lines.specs.KeyLines.{key_line_text};
@@ -29,7 +29,7 @@ use std::alloc::Global;
 use text::{NoMemory, Pair, Text};
 use values::{Kind, is_flag, put_decimal};
 
-/// Puts a line of two parts.
+/// Appends a line that consists of two parts.
 fn put_line(out: &mut Vec<u8>, head: &[u8], value: &[u8]) -> Result<(), NoMemory>
     ensures { OnOk result (out.new.items ≡ out.old.items ++ lines_text ((head.now ++ value.now) ∷ [])) }
 {
@@ -178,11 +178,11 @@ fn put_message(out: &mut Vec<u8>, message: &Message) -> Result<(), NoMemory>
     }
 }
 
-/// The text of a message. Read again, the text of a lawful message gives it.
+/// The text of a message. Reading the text of a valid message gives the message back.
 ///
 /// # Errors
 ///
-/// `NoMemory`, where a growth was refused.
+/// `NoMemory`, if an allocation was refused.
 pub fn write_message(alloc: Global, message: &Message) -> Result<Vec<u8>, NoMemory>
     ensures { IfOk result (λ text. text.items ≡ message_text message.now) }
 {

@@ -1,4 +1,4 @@
--- What a view shows, by what a message names.
+-- Lemmas for the clauses of `Agrees`, according to the names in the message.
 use Rattle.std.proofs.Common.{◌≡◌, ℕ, ◌≤◌, List, [], ◌∷◌, length, Bool, true, false, ◌&&◌, Option, Some, None}
 use Rattle.std.proofs.Common.{refl, sym, ap, subst, ◌∙◌, arith}
 use Rattle.std.specs.Prelude.{IsTrue, ◌↔◌, ◌==◌, nat_le, not}
@@ -31,7 +31,7 @@ department_of_concerned s (message.Deliver d) c is = ap (department_in s) is
 department_of_concerned s (message.RevokeSerial serial) c is = ap (department_in s) is
 department_of_concerned s m c is = absurd cc
 
--- the department that a message names, where it concerns no certificate
+-- the department that a message names, if it concerns no certificate
 pub department_of_named : (s : State) (m : Message) → certificate_concerned s m ≡ None
     → department_concerned s m ≡ option_and_then (department_named s) (named_department m)
 department_of_named s (message.Renew r) is = ap (department_in s) is
@@ -53,14 +53,14 @@ pub range_says : (flag : Bool) (s : State) (m : Message) (r : SerialRange) → n
 range_says flag s (message.RevokeRange x) r none is says = let same : x ≡ r = cc in rw same says
 range_says flag s m r none is says = absurd cc
 
--- a test for one serial is the flag of the set
+-- the test of a range of one serial is whether the set has that serial
 pub says_of_one : (flag : Bool) (set : ℕ → Bool) (n : ℕ) → (IsTrue flag ↔ HasAll set n n) → flag ≡ set n
 says_of_one flag set n says = same_from_decides flag (set n) says (
   λ is k low high. let same : n ≡ k = omega arith in subst (λ (x : ℕ). set x ≡ true) same is,
   λ all. all n (omega arith) (omega arith),
 )
 
--- ---- key ids
+-- ---- key IDs
 
 abbrev is_revoked_in : State → Option Certificate → Bool
 is_revoked_in s c = option_map_or (λ x. is_key_id_revoked s x.fields.key_id) c false
@@ -86,19 +86,19 @@ no_key_id_says s (message.Issue i) none is = absurd cc
 no_key_id_says s (message.RevokeKeyId key_id) none is = absurd cc
 no_key_id_says s m none is = tt
 
--- ---- any key id
+-- ---- any key ID
 
 pub any_says : (flag : Bool) (s : State) (m : Message) → flag ≡ has_any s.revoked_key_ids → SaysAnyKeyIdRevoked flag s m
 any_says flag s (message.Rollover k) says = says
 any_says flag s m says = tt
 
--- a list that isn't empty has one
+-- a list that isn't empty has a key ID
 pub any_is : (ks : List (List ℕ)) (len : ℕ) (empty : Bool) → empty ≡ (len == 0) → length ks ≡ len
     → not empty ≡ has_any ks
 any_is [] len empty is same = rw (is, sym same) refl
 any_is (k ∷ ks) len empty is same = rw (is, ne_eqb len 0 (omega (arith, same))) refl
 
--- ---- ranges that are lawful
+-- ---- valid ranges
 
 pub range_order : (m : Message) (r : SerialRange) → is_message m ≡ true → named_range m ≡ Some r → r.lo ≤ r.hi
 range_order (message.RevokeRange x) r lawful is =

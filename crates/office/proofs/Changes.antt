@@ -1,4 +1,4 @@
--- What accepted messages do to the state: so an invariant is one proof for each change.
+-- The changes that accepted messages make to the state: an invariant needs one proof for each change.
 use Rattle.std.proofs.Common.{◌≡◌, ℕ, ◌<◌, ◌≤◌, List, ◌++◌, Bool, true}
 use Rattle.std.proofs.Common.{false, cond, leb, ltb, Option, Some, None, refl}
 use Rattle.std.specs.Prelude.{IsSome, is_none}
@@ -27,19 +27,19 @@ use Rattle.office.proofs.Judged.{none_holds}
 use Rattle.office.proofs.Decisions.{serial_of_one}
 use Rattle.office.proofs.Histories.{IsKeptBy, after_all, after_more}
 
--- the certificate of the next serial, which is one, under the newest CA
+-- the certificate with the next serial, which is in range, under the newest CA
 pub record IsNext (s : State) (c : Certificate) : Type 0 where
   pub left : next_serial s ≤ s.opening.last
   pub serial : c.fields.serial ≡ next_serial s
   pub ca : c.fields.ca ≡ newest_key s.opening s.cas
   pub body : c.body ≡ body_text c.fields
 
--- serials that were handed out
+-- a range of serials that were handed out
 pub record IsHandedOut (s : State) (r : SerialRange) : Type 0 where
   pub low : s.opening.first ≤ r.lo
   pub high : r.hi < next_serial s
 
--- what holds after each change of a state
+-- `Q` holds after each change of a state
 pub record HoldsAfter (Q : State → Type 0) (s : State) (moment : ℕ) : Type 0 where
   pub department : (d : Department) → Q (with_department s d)
   pub certificate : (c : Certificate) → IsNext s c → Q (with_certificate s c)
@@ -72,7 +72,7 @@ module _ (Q : State → Type 0) (s : State) (moment : ℕ) (q : Q s) (h : HoldsA
   rolled key is true e = h.ca_published key is e
   rolled key is false e = h.ca key is e
 
-  -- after each lawful message that isn't refused
+  -- `Q` holds after each valid message that isn't refused
   pub holds_then : (caller : List ℕ) (m : Message) (nonce : List ℕ) → is_message m ≡ true
       → first_holding (refusals s caller m moment) ≡ None → Q (after s m moment nonce)
   holds_then caller (message.Department d) nonce lawful allowed = h.department d
@@ -99,7 +99,7 @@ module _ (Q : State → Type 0) (s : State) (moment : ℕ) (q : Q s) (h : HoldsA
       let tests = none_holds (refusals s caller (message.Rollover k) moment) allowed in
       rolled k.key tests.1.0 (has_any s.revoked_key_ids) refl
 
--- whatever each change keeps
+-- each change preserves `Q`
 abbrev pub IsKeptByEach : (State → Type 0) → Type 0
 IsKeptByEach Q = (s : State) (moment : ℕ) → moment ≤ LATEST_MOMENT → Q s → HoldsAfter Q s moment
 
@@ -108,11 +108,11 @@ by_change Q each fs s f is q =
     holds_then Q s f.arrival.moment q (each s f.arrival.moment is.in_time q) f.arrival.caller f.message f.arrival.nonce
     is.lawful is.allowed
 
--- what holds of an office in which nothing has happened yet holds after every history
+-- such a `Q` holds after every history if it holds of a newly opened office
 pub always : (Q : State → Type 0) → IsKeptByEach Q → (o : Opening) (l : List Arrival) → Q (opened o) → Q (state o l)
 always Q each = after_all (λ fs s. Q s) (by_change Q each)
 
--- what holds after a history holds after every longer one
+-- such a `Q` holds after every continuation of a history after which it holds
 pub always_more : (Q : State → Type 0) → IsKeptByEach Q → (o : Opening) (l later : List Arrival)
     → Q (state o l) → Q (state o (l ++ later))
 always_more Q each = after_more (λ fs s. Q s) (by_change Q each)

@@ -1,4 +1,4 @@
--- The date of the published list is a moment that arrivals may have.
+-- The date of the published list is a time that arrivals may have.
 use Rattle.std.proofs.Common.{◌≤◌, List, arith}
 use Rattle.values.specs.declared.limits.TheConstants.{LATEST_MOMENT}
 use Rattle.office.specs.declared.opening.Opening.{Opening}

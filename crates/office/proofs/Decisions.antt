@@ -1,4 +1,4 @@
--- A decision is the plain machine's step.
+-- A decision is the reference model's step.
 use Rattle.std.proofs.Common.{◌≡◌, ℕ, ◌+◌, ◌-◌, ◌<◌, ◌≤◌, List, [], ◌∷◌, ltb, Option, Some, None, Ok, Err}
 use Rattle.std.proofs.Common.{Result, refl, sym, ap, subst, ◌∙◌, inl, inr, arith, length-append}
 use Rattle.std.specs.Prelude.{IfOk, IsSome, slice_get}
@@ -27,7 +27,7 @@ pub step_refused : (s : State) (caller : List ℕ) (m : Message) (moment : ℕ) 
     → first_holding (refusals s caller m moment) ≡ Some r → step s caller m moment nonce ≡ Err r
 step_refused s caller m moment nonce r e = rw e refl
 
--- what holds of the decision that was made, unless memory was refused
+-- a property of the expected decision holds of the result, unless memory was refused
 pub made_so : (P : Decision → Type 0) (r : Result Decision Stop) (x : Decision) → IsMade r x → P x → IfOk r P
 made_so P (Ok d) x is so = subst P (sym is) so
 made_so P (Err (stop.Refused f)) x is so = tt
@@ -41,7 +41,7 @@ made_decides s caller m moment nonce (Ok d) x is so =
 made_decides s caller m moment nonce (Err (stop.Refused f)) x is so = absurd is
 made_decides s caller m moment nonce (Err stop.NoMemory) x is so = tt
 
--- where a serial is left over the view, one is left over the state
+-- if the view has a serial left, so does the state
 pub serial_left : (v : View) (s : State) (m : Message) → Agrees v s m → v.next ≤ v.opening.now.last
     → next_serial s ≤ s.opening.last
 serial_left v s m a left =
@@ -49,12 +49,12 @@ serial_left v s m a left =
 
 module _ (v : View) (s : State) (m : Message) (caller : List ℕ) (moment : ℕ) (nonce : List ℕ) (a : Agrees v s m)
     (allowed : first_holding (refusals s caller m moment) ≡ None) where
-  -- a message that isn't refused is decided by what it makes of the state, and its reply
+  -- for a message that isn't refused, a decision is correct if it gives the model's next state and reply
   decided : (x : Decision) → written x s ≡ after s m moment nonce → x.reply ≡ reply_to s m moment nonce
       → x.next ≡ next_serial (after s m moment nonce) → Decided (Ok x) s caller m moment nonce
   decided x state reply next = (rw (allowed, state, reply) refl, next ∙ ap next_serial (sym state))
 
-  -- the same where the published list stays as it is
+  -- the same if the published list stays as it is
   pub unpublished_decided : (ch : Change) (reply : List ℕ) (x : Decision)
       → x ≡ record { reply = reply; next = v.next; version = v.version; date = v.date; change = ch }
       → record (changed ch s) { version = s.version; date = s.date } ≡ after s m moment nonce
@@ -66,7 +66,7 @@ module _ (v : View) (s : State) (m : Message) (caller : List ℕ) (moment : ℕ)
       rw is (decided (record { reply = reply; next = v.next; version = v.version; date = v.date; change = ch })
       (rw (version, date) state) replied (a.next ∙ next))
 
-  -- the same where a certificate is made, as the machine makes it
+  -- the same if a certificate is made, the one that the model makes
   pub certified_decided : (r : Result Decision Stop) (made c : Certificate) → IsMade r (certified v made) → made ≡ c
       → after s m moment nonce ≡ with_certificate s c
       → reply_to s m moment nonce ≡ issue_reply (next_serial s) c.body → Decided r s caller m moment nonce
@@ -78,18 +78,18 @@ module _ (v : View) (s : State) (m : Message) (caller : List ℕ) (moment : ℕ)
       (rw (state, same, version, date) refl) (rw (same, next, replied) refl)
       (rw (state, next) (omega (arith, length-append s.certificates (c ∷ [])))))
 
--- what is issued over a view is what is issued over the state
+-- the certificate issued from a view is the one issued from the state
 pub issued_by_view : (v : View) (s : State) (i : Issue) (d : Department) (nonce : List ℕ)
     → Agrees v s (message.Issue i) → department_named s i.department ≡ Some d
     → certificate_for i v.next d.kind (newest_key v.opening.now v.cas.now) nonce ≡ issued s i nonce
 issued_by_view v s i d nonce a is =
     λ j. certificate_for i (a.next j) (kind_or_user ((sym is) j)) (newest_key (a.opening j) (a.cas j)) nonce
 
--- what a renewal makes of a certificate
+-- the certificate that a renewal makes from the old one
 abbrev pub renewed_by : State → Renewal → Certificate → List ℕ → Certificate
 renewed_by s r old nonce = renewed_certificate old r (next_serial s) (newest_key s.opening s.cas) nonce
 
--- what is renewed over a view is what is renewed over the state
+-- the certificate renewed from a view is the one renewed from the state
 pub renewed_by_view : (v : View) (s : State) (r : Renewal) (old : Certificate) (nonce : List ℕ)
     → Agrees v s (message.Renew r)
     → renewed_certificate old r v.next (newest_key v.opening.now v.cas.now) nonce ≡ renewed_by s r old nonce
@@ -98,7 +98,7 @@ renewed_by_view v s r old nonce a =
 
 -- ---- serials that were handed out
 
--- the certificate of a serial stands at its place
+-- the certificate with a serial is at its place in the list
 pub certificate_at : (s : State) (serial : ℕ) (c : Certificate) → certificate_of s serial ≡ Some c
     → (s.opening.first ≤ serial) × (slice_get s.certificates (serial - s.opening.first) ≡ Some c)
 certificate_at s serial c e =
@@ -112,7 +112,7 @@ some_is : (o : Option Certificate) → IsSome o → (c : Certificate) × (o ≡ 
 some_is None some = absurd cc
 some_is (Some c) some = (c, refl)
 
--- a certificate that is there has a serial that was handed out
+-- the serial of an existing certificate was handed out
 pub serial_of_one : (s : State) (serial : ℕ) → IsSome (certificate_of s serial)
     → (s.opening.first ≤ serial) × (serial < next_serial s)
 serial_of_one s serial some =

@@ -1,4 +1,4 @@
--- Worked examples of the plain machine and of histories, computed.
+-- Worked examples of the reference model and of histories, by computation.
 use Rattle.std.proofs.Common.{◌≡◌, [], ◌∷◌, map, refl, false, Some, None}
 use Rattle.std.specs.Prelude.{codes}
 use Rattle.std.specs.Option.{option_map}
@@ -96,12 +96,12 @@ repeat_gets_the_kept_reply :
     (record { caller = codes "ana"; key = codes "i1"; bytes = codes "x"; moment = 253402300800; nonce = [] }) ≡ Repeated (codes "kept")
 repeat_gets_the_kept_reply = refl
 
--- ---- what comes after an issue
+-- ---- after an issue
 
 abbrev roomy : Opening
 roomy = record office { last = 9 }
 
--- serials 1 and 2
+-- a state with serials 1 and 2
 abbrev two : State
 two = after (after (after (opened roomy) (message.Department web) 0 []) (message.Issue asked) 1000 []) (message.Issue (record asked { key_id = codes "web/bob" })) 1000 []
 
@@ -211,7 +211,7 @@ list_stays_without_key_ids = refl
 list_gains_a_section : (after bob_revoked (message.Rollover second_key) 5000 []).version ≡ 2
 list_gains_a_section = refl
 
--- a run across a rollover is cut in the list
+-- a range across a rollover is split in the list
 cut_at_a_rollover : published_parts (after (after rolled_over (message.Issue asked) 1000 []) (message.RevokeRange (record { lo = 2; hi = 3 })) 3000 [])
     ≡ record { ca = []; runs = record { lo = 2; hi = 2 } ∷ [] } ∷ record { ca = codes "2"; runs = record { lo = 3; hi = 3 } ∷ [] } ∷ []
 cut_at_a_rollover = refl

@@ -1,4 +1,4 @@
--- What an accepted message keeps, and by how much it makes more.
+-- An accepted message preserves the opening, raises the version by at most one, and uses only serials in range.
 use Rattle.std.proofs.Common.{◌≡◌, ℕ, zero, suc, ◌+◌, ◌-◌, ◌≤◌, List, [], ◌∷◌, length, true, ◌&&◌, leb, None}
 use Rattle.std.proofs.Common.{refl, ap, ◌∙◌, arith, length-append}
 use Rattle.std.proofs.lemmas.Bool.{and_parts, leb-true}
@@ -18,7 +18,7 @@ use Rattle.office.proofs.Changes.{HoldsAfter, IsKeptByEach, always, holds_then}
 
 -- ---- the opening, and the version
 
--- new has old's opening, and old's version or the one after it
+-- `new` has the opening of `old`, and its version or the next one
 pub record Grows (old new : State) : Type 0 where
   pub opening : new.opening ≡ old.opening
   pub version : old.version ≤ new.version
@@ -46,14 +46,14 @@ pub after_grows : (s : State) (caller : List ℕ) (m : Message) (moment : ℕ) (
 after_grows s caller m moment nonce =
     holds_then (Grows s) s moment (same s s refl refl) (grows_each s moment) caller m nonce
 
--- an office keeps its opening
+-- the opening of an office never changes
 pub opening_stays : (o : Opening) (l : List Arrival) → (state o l).opening ≡ o
 opening_stays o l = holds_after (λ s. s.opening ≡ o) (λ s caller m moment nonce lawful allowed e.
     (after_grows s caller m moment nonce lawful allowed).opening ∙ e) o l refl
 
 -- ---- serials
 
--- the serials that were handed out are in range
+-- the serials that were handed out are within the opening's
 abbrev pub IsInRange : State → Type 0
 IsInRange s = next_serial s ≤ s.opening.last + 1
 

@@ -1,4 +1,4 @@
--- What each first acceptance keeps holds after every history, of the first acceptances and the state.
+-- A property that each first acceptance preserves holds after every history, if it holds of a new office.
 use Rattle.std.proofs.Common.{◌≡◌, ◌≤◌, ℕ, List, [], ◌∷◌, ◌++◌, true, None, Some, Result, Ok, Err}
 use Rattle.std.proofs.Common.{refl, sym, ap, subst, ◌∙◌}
 use Rattle.std.specs.List.{fold}
@@ -19,14 +19,14 @@ use Rattle.office.specs.History.{First, kept_by, judged, add_accepted, with_arri
 use Rattle.office.specs.History.{first_accepted, state, state_after, change}
 use Rattle.office.proofs.Judged.{IsFirst, judged_is_first}
 
--- the message of a text is lawful
+-- the message with a text is valid
 pub message_lawful : (bytes : List ℕ) (m : Message) → message_with_text bytes ≡ Some m → is_message m ≡ true
 message_lawful bytes m e =
     option_and_then_some (if_text_of bytes) (message_of bytes) m e (λ n read kept.
     let is = cond_some (is_text_of bytes n) n m kept in
     subst (λ (x : Message). is_message x ≡ true) is.1 (and_parts (is_message n) _ is.0).0)
 
--- a first acceptance of a state: lawful, not refused, in time, with the machine's reply
+-- a first acceptance in a state: a valid message, not refused, at a possible time, with the model's reply
 pub record IsAccepted (s : State) (f : First) : Type 0 where
   pub lawful : is_message f.message ≡ true
   pub allowed : first_holding (refusals s f.arrival.caller f.message f.arrival.moment) ≡ None
@@ -41,7 +41,7 @@ first_is_accepted s kept a f is = record {
   reply = is.reply ∙ ap (λ (x : Arrival). reply_to s f.message x.moment x.nonce) (sym is.arrival);
 }
 
--- whatever each first acceptance keeps
+-- each first acceptance preserves `P`
 abbrev pub IsKeptBy : (List First → State → Type 0) → Type 0
 IsKeptBy P = (fs : List First) (s : State) (f : First) → IsAccepted s f → P fs s → P (fs ++ f ∷ []) (change s f)
 
@@ -59,23 +59,23 @@ module _ (P : List First → State → Type 0) (keeps : IsKeptBy P) (o : Opening
   kept_by_more fs [] p = p
   kept_by_more fs (a ∷ l) p = kept_by_more (with_arrival o fs a) l (kept_by_one fs a _ refl p)
 
-  -- what holds of an office in which nothing has happened yet holds after every history
+  -- `P` holds after every history if it holds of a newly opened office
   pub after_all : (l : List Arrival) → P [] (opened o) → P (first_accepted o l) (state o l)
   after_all l p = kept_by_more [] l p
 
-  -- what holds after a history holds after every longer one
+  -- `P` holds after every continuation of a history after which it holds
   pub after_more : (l later : List Arrival) → P (first_accepted o l) (state o l)
       → P (first_accepted o (l ++ later)) (state o (l ++ later))
   after_more l later p =
       subst (λ (fs : List First). P fs (state_after o fs)) (sym (fold-append (with_arrival o) [] l later))
       (kept_by_more (first_accepted o l) later p)
 
--- whatever each lawful message that isn't refused keeps
+-- each valid message that isn't refused preserves `P`
 abbrev pub IsKept : (State → Type 0) → Type 0
 IsKept P = (s : State) (caller : List ℕ) (m : Message) (moment : ℕ) (nonce : List ℕ)
     → is_message m ≡ true → first_holding (refusals s caller m moment) ≡ None → P s → P (after s m moment nonce)
 
--- of the state alone
+-- the same for a property of the state alone
 pub holds_after : (P : State → Type 0) → IsKept P → (o : Opening) (l : List Arrival) → P (opened o) → P (state o l)
 holds_after P keeps o l p =
     after_all (λ fs s. P s) (λ fs s f is. keeps s f.arrival.caller f.message f.arrival.moment f.arrival.nonce

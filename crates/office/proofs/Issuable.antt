@@ -1,4 +1,4 @@
--- What an allowed issue asks for makes a lawful certificate.
+-- An allowed issue makes a valid certificate.
 use Rattle.std.proofs.Common.{◌≡◌, ℕ, List, [], ◌∷◌, ◌++◌, length, map, true, false, ◌&&◌, leb, ltb}
 use Rattle.std.proofs.Common.{None, refl, ap, subst, ◌∙◌, inl, inr, arith}
 use Rattle.std.specs.List.{list_any, list_all, AllByRecursion}
@@ -34,7 +34,7 @@ use Rattle.office.specs.Certificates.{IsCertificate, certificate_for, renewed_ce
 
 -- ---- options without a fault
 
--- no pair has the name of one of the earlier ones
+-- no pair has the name of an earlier one
 abbrev pub AreApart : List Pair → List Pair → Type 0
 AreApart earlier ps = AllByRecursion (λ p. list_any (λ q. bytes_eq q.name p.name) earlier ≡ false) ps
 
@@ -62,14 +62,14 @@ first_fault-none field earlier (p ∷ ps) all distinct apart =
     let d = and_parts _ _ distinct in
     rw (lawful.0, lawful.1, apart.0) (first_fault-none field (earlier ++ p ∷ []) ps a.1 d.1 (apart_push earlier p ps apart.1 (not-true _ d.0)))
 
--- lawful pairs of distinct names have no fault
+-- valid pairs with distinct names have no fault
 pub no_fault : (field : OptionField) (kind : Kind) (ps : List Pair) → are_for_kind kind ps ≡ true → list_all (is_option field) ps ≡ true → are_distinct (map (λ p. p.name) ps) ≡ true
     → options_fault field kind ps ≡ None
 no_fault field kind ps fits all distinct = rw fits (first_fault-none field [] ps all distinct (apart_nil ps))
 
 -- ---- extensions as flags
 
--- an extension is a flag
+-- an extension is valid without a value
 flag_value : (ks : List (List ℕ)) (n : List ℕ) → AllByRecursion (λ k. is_option_value k [] ≡ true) ks → list_any (λ k. bytes_eq k n) ks ≡ true → is_option_value n [] ≡ true
 flag_value [] n all e = absurd cc
 flag_value (k ∷ ks) n all e = elim (or_cases (bytes_eq k n) (list_any (λ k. bytes_eq k n) ks) e) [
@@ -88,7 +88,7 @@ pub flags-names : (names : List (List ℕ)) → map (λ p. p.name) (flags names)
 flags-names [] = refl
 flags-names (n ∷ names) = ap (λ (ns : List (List ℕ)). n ∷ ns) (flags-names names)
 
--- ---- what a department for hosts permits
+-- ---- departments for hosts
 
 for_kind : (kind : Kind) (known : List (List ℕ)) (ps : List Pair) → fits_kind kind known ≡ true
     → list_all (λ o. is_listed known o.name) ps ≡ true → are_for_kind kind ps ≡ true
@@ -103,7 +103,7 @@ flags_listed known names e = list_all-map (λ o. is_listed known o.name) (λ n. 
 
 -- ---- an allowed issue
 
--- the parts of what is known of it
+-- the facts about it, one by one
 record IsLawful (d : Department) (i : Issue) : Type 0 where
   options_fit : fits_kind d.kind d.options ≡ true
   extensions_fit : fits_kind d.kind d.extensions ≡ true
@@ -164,7 +164,7 @@ issuable_options v d i is =
     let p = is_lawful v d i is in
     no_fault CriticalOptions d.kind i.options (for_kind d.kind d.options i.options p.options_fit p.options_listed) p.options p.options_apart
 
--- nor have its extensions
+-- its extensions have no fault
 pub issuable_extensions : (v : View) (d : Department) (i : Issue) → IsIssuable v d i → options_fault Extensions d.kind (flags i.extensions) ≡ None
 issuable_extensions v d i is =
     let p = is_lawful v d i is in
@@ -172,14 +172,14 @@ issuable_extensions v d i is =
     (for_kind d.kind d.extensions (flags i.extensions) p.extensions_fit (flags_listed d.extensions i.extensions p.extensions_listed))
     (flags_lawful i.extensions p.extensions) (rw (flags-names i.extensions) p.extensions_apart)
 
--- the next serial is one
+-- the next serial is a valid one
 serial_left : (v : View) → HasSerial v → is_serial v.next ≡ true
 serial_left v is =
     let order = opening_order v.opening.now is.opening in
     and_from _ _ (le-leb 1 v.next (omega (arith, order.0, is.next)))
     (le-leb v.next 9223372036854775806 (omega (arith, order.2, is.left)))
 
--- and with its fields there is a certificate
+-- the certificate with its fields is valid
 pub issuable_certificate : (v : View) (d : Department) (i : Issue) (ca nonce : List ℕ) → IsIssuable v d i
     → length ca ≡ 32 → length nonce ≡ 32 → IsCertificate (certificate_for i v.next d.kind ca nonce)
 issuable_certificate v d i ca nonce is ca_size nonce_size =
@@ -202,7 +202,7 @@ issuable_certificate v d i ca nonce is ca_size nonce_size =
       body = refl;
     }
 
--- a certificate for another validity is a certificate
+-- a certificate with a new validity is valid
 pub renewable_certificate : (v : View) (old : Certificate) (r : Renewal) (ca nonce : List ℕ) → IsRenewable v old r
     → length ca ≡ 32 → length nonce ≡ 32 → IsCertificate (renewed_certificate old r v.next ca nonce)
 renewable_certificate v old r ca nonce is ca_size nonce_size =

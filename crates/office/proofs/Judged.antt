@@ -1,4 +1,4 @@
--- What is known of an arrival that is judged to be a first acceptance.
+-- The facts about an arrival that is judged to be a first acceptance.
 use Rattle.std.proofs.Common.{◌≡◌, List, [], ◌∷◌, Bool, true, false, cond, Option, Some, None, Ok, refl, subst}
 use Rattle.std.specs.Prelude.{nat_lt}
 use Rattle.std.specs.List.{list_any, AllByRecursion}
@@ -21,12 +21,12 @@ pub record IsFirst (s : State) (kept : List Kept) (a : Arrival) (f : First) : Ty
   pub allowed : first_holding (refusals s a.caller f.message a.moment) ≡ None
   pub reply : f.reply ≡ reply_to s f.message a.moment a.nonce
 
--- a step that isn't refused
+-- the outcome of a step that isn't refused
 pub step_gives : (r : Option Refusal) (x y : Stepped) → refused_or r x ≡ Ok y → x ≡ y
 step_gives (Some r) x y e = absurd cc
 step_gives None x y e = cc
 
--- what a step that isn't refused gives
+-- the first acceptance from a step that isn't refused
 allowed_step : (a : Arrival) (m : Message) (r : Option Refusal) (x : Stepped) (f : First) → (refused_or r x >>= λ st. Ok (first_of_step a m st)) ≡ Ok f
     → (r ≡ None) × (first_of_step a m x ≡ f)
 allowed_step a m (Some r) x f e = absurd cc
@@ -44,11 +44,11 @@ found_through s kept a (Some m) false false f is-m is-late is-known e =
     (record { arrival = refl; message = is-m; in_time = is-late; new = is-known; allowed = g.0; reply = refl })
 found_through s kept a o late known f is-m is-late is-known e = absurd cc
 
--- a first acceptance is the arrival's message, allowed, with the machine's reply
+-- a first acceptance has the arrival's message, which is allowed, and the model's reply
 pub judged_is_first : (s : State) (kept : List Kept) (a : Arrival) (f : First) → judged s kept a ≡ Ok f → IsFirst s kept a f
 judged_is_first s kept a f = found_through s kept a (message_with_text a.bytes) _ _ f refl refl refl
 
--- where no refusal applies, each test is false
+-- if no refusal applies, each condition is false
 pub none_holds : (rs : List (Refusal × Bool)) → first_holding rs ≡ None → AllByRecursion (λ r. r.1 ≡ false) rs
 none_holds [] e = tt
 none_holds (r ∷ rs) e =

@@ -1,4 +1,4 @@
--- What is listed by what is revoked.
+-- Listing by the revocations agrees with the state.
 use Rattle.std.proofs.Common.{◌≡◌, List, ap₂}
 use Rattle.std.specs.Prelude.{◌||◌, Bool}
 use Rattle.std.specs.List.{list_any}
@@ -9,7 +9,7 @@ use Rattle.office.specs.declared.listing.Revocations.{Revocations}
 use Rattle.office.specs.Listing.{AreRevocations, is_among}
 use Rattle.office.specs.Publication.{is_certificate_revoked}
 
--- what is among the state's revocations is what the state revokes
+-- a certificate is among the state's revocations exactly when the state revokes it
 pub among_is : (r : Revocations) (s : State) (c : Certificate) → AreRevocations r s → is_among r c ≡ is_certificate_revoked s c
 among_is r s c are =
     ap₂ (λ (b : Bool) (ids : List (List _)). b || list_any (λ k. bytes_eq k c.fields.key_id) ids)

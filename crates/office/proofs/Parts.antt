@@ -1,4 +1,4 @@
--- The parts of the published list, made of the revoked serials and the CAs.
+-- The parts of the published list, made from the revoked serials and the CAs.
 use Rattle.std.proofs.Common.{◌≡◌, ℕ, suc, ◌+◌, ◌≤◌, ◌<◌, List, [], ◌∷◌, length, Bool, true, false, ◌&&◌}
 use Rattle.std.proofs.Common.{refl, sym, ap, ap₂, ◌∙◌, arith}
 use Rattle.std.specs.Prelude.{slice_index_or}
@@ -16,17 +16,17 @@ use Rattle.office.specs.Publication.{is_revoked_under, parts_from, published_par
 abbrev pub AreIssued : State → Type 0
 AreIssued s = (n : ℕ) → s.revoked n ≡ true → (s.opening.first ≤ n) × (n < next_serial s)
 
--- a set within those serials, with the CA's test first
+-- for a set within those serials, the test for the range is implied
 ordered : (a b c : Bool) → (b ≡ true → c ≡ true) → (a && b) ≡ (c && (b && a))
 ordered true true c within = rw (within refl) refl
 ordered false true c within = rw (within refl) refl
 ordered a false c within = and_right a false refl ∙ sym (and_right c false refl)
 
--- the runs of the serials that are revoked under the CA at a place
+-- the ranges of the serials that are revoked under the CA at a place
 abbrev runs_under : State → ℕ → List Run
 runs_under s k = runs_in (is_revoked_under s k) s.opening.first (length s.certificates)
 
--- the runs of a split are those of the published part
+-- the ranges in a split are those of the published part
 run_of_part : (s : State) (serials : List Run) (split : List (List Run)) (k : ℕ) → AreSplit split s.cas serials
     → ((n : ℕ) → contains serials n ≡ s.revoked n) → AreIssued s → k < length s.cas
     → AreRuns (slice_index_or split k []) → slice_index_or split k [] ≡ runs_under s k
@@ -49,7 +49,7 @@ parts_are s place (ca ∷ cas) (runs ∷ split) same each =
     (each 0 place (omega arith) (omega arith)) (parts_are s (suc place) cas split (omega (arith, same))
     (λ k p at there. each (suc k) p (omega arith) (omega arith)))
 
--- where only serials that were handed out are revoked, the parts are the published ones
+-- if only serials that were handed out are revoked, the parts are the published ones
 pub parts_are_published : (s : State) (serials : List Run) (parts : List CaPart) → AreParts parts s.cas serials
     → ((n : ℕ) → contains serials n ≡ s.revoked n) → AreIssued s → parts ≡ published_parts s
 parts_are_published s serials parts (split, are, is) of issued =

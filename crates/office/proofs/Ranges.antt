@@ -1,4 +1,4 @@
--- Ranges of serials that are revoked, and what was handed out of them.
+-- Revoked ranges of serials, and the serials that were handed out.
 use Rattle.std.proofs.Common.{◌≡◌, ℕ, zero, suc, ◌+◌, ◌-◌, ◌<◌, ◌≤◌, List, [], ◌∷◌, Bool, true, ◌&&◌, leb}
 use Rattle.std.proofs.Common.{refl, subst, inl, inr, arith, length-append}
 use Rattle.std.specs.Prelude.{◌↔◌, IsTrue}
@@ -15,7 +15,7 @@ use Rattle.office.proofs.Changes.{IsHandedOut, IsKeptByEach, always}
 use Rattle.office.proofs.Growth.{length-signed_at}
 use Rattle.office.proofs.Parts.{AreIssued}
 
--- ---- a range is revoked just where each of its serials is
+-- ---- a range is revoked exactly when each of its serials is
 
 pub has_all-each : (set : ℕ → Bool) (from count n : ℕ) → has_all set from count ≡ true → from ≤ n → n < from + count
     → set n ≡ true
@@ -34,7 +34,7 @@ each-has_all set from (suc count) each =
     let here : set from ≡ true = each from (omega arith) (omega arith) in
     rw here (each-has_all set (from + 1) count (λ n low high. each n (omega arith) (omega arith)))
 
--- a flag that says that each serial of the range is revoked
+-- a flag that is true exactly when each serial of the range is revoked is the state's
 pub range_flag : (flag : Bool) (s : State) (r : SerialRange) → r.lo ≤ r.hi
     → (IsTrue flag ↔ HasAll s.revoked r.lo r.hi) → flag ≡ is_range_revoked s r
 range_flag flag s r order says = same_from_decides flag (is_range_revoked s r) says (

@@ -1,4 +1,4 @@
--- No reply is long.
+-- The length of replies.
 use Rattle.std.proofs.Common.{◌≡◌, ℕ, ◌+◌, ◌*◌, ◌<◌, ◌≤◌, ◌^◌, List, [], ◌∷◌, length, true, false, cond, leb, All}
 use Rattle.std.proofs.Common.{IfSome, Option, Some, None, Result, Ok, Err, refl, ap, ◌∙◌, arith, lit<, length-append}
 use Rattle.std.specs.Fmt.{decimal}
@@ -43,7 +43,7 @@ use Rattle.office.proofs.Growth.{IsInRange, after_grows, in_range_each, opening_
 length-digest : (body : List ℕ) → length (digest_text body) ≡ 64
 length-digest body = length-encode_with lower_digits (sha256 body) ∙ ap (λ (n : ℕ). 2 * n) (length-sha256 body)
 
--- a number of a reply has at most 19 digits
+-- a number in a reply has at most 19 digits
 length-number-le : (n : ℕ) → n ≤ 9223372036854775807 → length (decimal n) ≤ 19
 length-number-le n h = length-decimal-le 19 n (lit< tt) (small n h) (wide n h)
   where
@@ -96,7 +96,7 @@ record HasRoom (s : State) : Type 0 where
   version : s.version < 9223372036854775807
 
 module _ (s : State) (room : HasRoom s) (caller : List ℕ) (moment : ℕ) (nonce : List ℕ) where
-  -- an allowed message's reply
+  -- the reply to an allowed message
   allowed_reply-le : (m : Message) → is_message m ≡ true → first_holding (refusals s caller m moment) ≡ None
       → length (reply_to s m moment nonce) ≤ 99
   allowed_reply-le (message.Department d) lawful allowed =
@@ -118,7 +118,7 @@ module _ (s : State) (room : HasRoom s) (caller : List ℕ) (moment : ℕ) (nonc
 pub last_of : (o : Opening) → IsOpening o → o.last ≤ 9223372036854775806
 last_of o is = (opening_order o is).2
 
--- as long as the version leaves room for the next, replies are short
+-- while the version has a successor, replies are short
 record IsShort (fs : List First) (s : State) : Type 0 where
   last : s.opening.last ≤ 9223372036854775806
   serials : IsInRange s
@@ -153,7 +153,7 @@ repeated_fits : (k : Option (List ℕ)) (other : Outcome) → IfSome k (λ r. le
 repeated_fits (Some reply) other short fits = short
 repeated_fits None other short fits = fits
 
--- what is due has at most 99 bytes
+-- the specified reply has at most 99 bytes
 pub due_short : (o : Opening) (l : List Arrival) (a : Arrival) → IsOffice o l → ReplyFits 99 (due o l a)
 due_short o l a is =
     let order = opening_order o is.opening in

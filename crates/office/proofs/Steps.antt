@@ -1,4 +1,4 @@
--- One arrival more.
+-- One more arrival.
 use Rattle.std.proofs.Common.{◌≡◌, ℕ, ◌<◌, List, [], ◌∷◌, ◌++◌, Bool, true, Option, Some, None, Result, Ok, Err}
 use Rattle.std.proofs.Common.{refl, sym, ap, subst, ◌∙◌, inl, inr}
 use Rattle.std.specs.Prelude.{nat_lt, IsErr}
@@ -20,7 +20,7 @@ use Rattle.text.specs.Results.{◌>>=◌, or_fault}
 use Rattle.office.specs.History.{First, has_key, reply_kept, kept_row, kept_by, judged, first_of_step, refuse_if, due_on, due, add_accepted, with_arrival, first_accepted, state, state_after, change}
 use Rattle.office.specs.Shows.{IsOffice, Shows}
 
--- a message that is kept has its key kept
+-- if a message is stored, so is its request key
 has_key_kept : (kept : List Kept) (a : Arrival) (r : List ℕ) → reply_kept kept a ≡ Some r → list_any (has_key a) kept ≡ true
 has_key_kept [] a r e = absurd cc
 has_key_kept (k ∷ kept) a r e = elim (cases_Bool (has_key a k)) [
@@ -34,11 +34,11 @@ known_key_is_refused : (s : State) (a : Arrival) (m : Option Message) (late : Bo
 known_key_is_refused s a (Some m) true = refl
 known_key_is_refused s a m late = refl
 
--- what is shown is an office
+-- an office that a register shows satisfies `IsOffice`
 pub shows_office : (s : State) (kept : List Kept) (o : Opening) (l : List Arrival) → Shows s kept o l → IsOffice o l
 shows_office s kept o l m = record { opening = m.lawful; version = subst (λ (t : State). t.version < 9223372036854775807) m.is_state m.version }
 
--- so it is judged to be no first acceptance
+-- so an arrival with a stored reply isn't judged to be a first acceptance
 repeat_is_refused : (s : State) (kept : List Kept) (a : Arrival) (r : List ℕ) → reply_kept kept a ≡ Some r → IsErr (judged s kept a)
 repeat_is_refused s kept a r e = rw (has_key_kept kept a r e) (known_key_is_refused s a (message_with_text a.bytes) (nat_lt LATEST_MOMENT a.moment))
 
@@ -53,26 +53,26 @@ accepted_step : (o : Opening) (l : List Arrival) (a : Arrival) (r : Result First
     → first_accepted o (l ++ a ∷ []) ≡ add_accepted (first_accepted o l) r
 accepted_step o l a r e = fold_push (with_arrival o) [] l a ∙ ap (add_accepted (first_accepted o l)) e
 
--- an arrival that is no first acceptance leaves all as it was
+-- an arrival that is no first acceptance changes nothing
 stays : (s : State) (kept : List Kept) (o : Opening) (l : List Arrival) (a : Arrival) (r : Result First Refusal) → judged s kept a ≡ r → IsErr r → Shows s kept o l → Shows s kept o (l ++ a ∷ [])
 stays s kept o l a (Ok f) e err m = absurd cc
 stays s kept o l a (Err x) e err m =
     let step = accepted_step o l a (Err x) (judged_is s kept o l a m ∙ e) in
     record { lawful = m.lawful; version = m.version; is_kept = m.is_kept ∙ ap kept_by (sym step); is_state = m.is_state ∙ ap (state_after o) (sym step) }
 
--- a repeat is due the reply that is kept
+-- the specified answer to a repeat is the stored reply
 pub shows_repeated : (s : State) (kept : List Kept) (o : Opening) (l : List Arrival) (a : Arrival) (r : List ℕ) → reply_kept kept a ≡ Some r → Shows s kept o l
     → (outcome.Repeated r ≡ due o l a) × Shows s kept o (l ++ a ∷ [])
 shows_repeated s kept o l a r e m =
     (sym (due_is s kept o l a m ∙ rw e refl), stays s kept o l a _ refl (repeat_is_refused s kept a r e) m)
 
--- a refusal is due, and changes nothing
+-- a refusal is as specified, and changes nothing
 pub shows_refused : (s : State) (kept : List Kept) (o : Opening) (l : List Arrival) (a : Arrival) (r : Refusal) → reply_kept kept a ≡ None → judged s kept a ≡ Err r → Shows s kept o l
     → (outcome.Refused r ≡ due o l a) × Shows s kept o (l ++ a ∷ [])
 shows_refused s kept o l a r new e m =
     (sym (due_is s kept o l a m ∙ rw (new, e) refl), stays s kept o l a (Err r) e refl m)
 
--- a first acceptance is due its reply, which is kept, and changes the state
+-- a first acceptance gets the specified reply, which is stored, and changes the state
 pub shows_accepted : (s : State) (kept : List Kept) (o : Opening) (l : List Arrival) (a : Arrival) (f : First) → reply_kept kept a ≡ None → judged s kept a ≡ Ok f → (change s f).version < 9223372036854775807 → Shows s kept o l
     → (outcome.Accepted f.reply ≡ due o l a) × Shows (change s f) (kept ++ kept_row f ∷ []) o (l ++ a ∷ [])
 shows_accepted s kept o l a f new e room m =

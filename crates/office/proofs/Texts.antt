@@ -1,4 +1,4 @@
--- Which message's text some bytes are.
+-- The message that has given bytes as its text.
 use Rattle.std.proofs.Common.{◌≡◌, ℕ, List, true, Ok, Err, Some, None, refl}
 use Rattle.std.specs.Str.{bytes_eq}
 use Rattle.std.proofs.lemmas.Slice.Eq.{bytes_eq-Decides}
@@ -15,6 +15,6 @@ read_is bytes m read lawful text =
     let same : bytes_eq bytes (message_text m) ≡ true = (bytes_eq-Decides bytes (message_text m)).1 text in
     rw (read, lawful, same) refl
 
--- bytes with a bad line are no message's text
+-- bytes with a bad line are the text of no message
 pub bad_is : (bytes : List ℕ) (n : ℕ) → message_at bytes ≡ Err n → message_with_text bytes ≡ None
 bad_is bytes n read = rw read refl

@@ -1,4 +1,4 @@
--- What waits among batches of certificates, one after the other, is what waits among all.
+-- The pending certificates found batch by batch are those among all certificates.
 use Rattle.std.proofs.Common.{◌≡◌, ℕ, zero, suc, ◌+◌, ◌<◌, ◌≤◌, List, [], ◌∷◌, ◌++◌, length, get_or, map, take, drop}
 use Rattle.std.proofs.Common.{filter, Bool, true, false, cond, not, ◌&&◌, refl, sym, ap, ap₂, ◌∙◌, arith}
 use Rattle.std.specs.Prelude.{is_none}
@@ -13,7 +13,7 @@ use Rattle.office.specs.Listing.{AreRevocations, batch_of, waiting_row, waiting_
 use Rattle.office.specs.Publication.{is_pending, pending_of, pending_row}
 use Rattle.office.proofs.Listed.{among_is}
 
--- ---- rows, one certificate after the other
+-- ---- the rows of successive certificates
 
 pub one_row_more : (r : Revocations) (cs : List Certificate) (i : ℕ) (c : Certificate) (before so_far now : List Pending)
     → i < length cs → c ≡ get_or cs i c → so_far ≡ before ++ waiting_rows r (take i cs) → now ≡ so_far ++ waiting_row r c
@@ -26,13 +26,13 @@ one_row_more r cs i c before so_far now lt is said more =
 
 -- ---- batches
 
--- as many as a batch has are the batch
+-- taking the length of a batch gives the batch
 short : {X : Type 0} (k : ℕ) (xs : List X) → take (length (take k xs)) xs ≡ take k xs
 short zero xs = refl
 short (suc k) [] = refl
 short (suc k) (x ∷ xs) = ap (λ (ys : List _). x ∷ ys) (short k xs)
 
--- what stands before a place, and then a batch
+-- the elements before a place, and then a batch
 pub split : {X : Type 0} (k place : ℕ) (xs : List X)
     → take (place + length (take k (drop place xs))) xs ≡ take place xs ++ take k (drop place xs)
 split {X} k zero xs =
@@ -46,7 +46,7 @@ split {X} k (suc place) (x ∷ xs) =
     let one : suc place + length rest ≡ suc (place + length rest) = omega arith in
     ap (λ (n : ℕ). take n (x ∷ xs)) one ∙ ap (λ (ys : List X). x ∷ ys) (split k place xs)
 
--- what waits before a place, and in one batch more
+-- the pending rows before a place, and with one more batch
 module _ (r : Revocations) (s : State) (place next : ℕ) (so_far now : List Pending)
     (fits : place ≤ length s.certificates)
     (said : so_far ≡ waiting_rows r (take place s.certificates))
@@ -65,14 +65,14 @@ module _ (r : Revocations) (s : State) (place next : ℕ) (so_far now : List Pen
         more ∙ ap (λ (t : List Pending). t ++ flat_map f (batch_of s place)) said ∙ sym both,
       )
 
-  -- where the batch has none, the place is behind all certificates
+  -- if the batch is empty, the place is after all certificates
   pub place_is_end : next ≡ place → place ≡ length s.certificates
   place_is_end same =
       let few = length-take 1000 (drop place s.certificates) in
       let rest = length-drop place s.certificates in
       omega (arith, fits, behind, same, few, rest)
 
-  -- and these are all
+  -- and the rows found are those of all pending certificates
   pub all_batches : next ≡ place → now ≡ waiting_rows r s.certificates
   all_batches same =
       let cs = s.certificates in
@@ -80,7 +80,7 @@ module _ (r : Revocations) (s : State) (place next : ℕ) (so_far now : List Pen
       let whole : take next cs ≡ cs = take_all next cs (omega (arith, same, ended)) in
       one_batch_more.1 ∙ ap (waiting_rows r) whole
 
--- ---- the state's
+-- ---- the state's pending certificates
 
 module _ (r : Revocations) (s : State) (are : AreRevocations r s) where
   pub rows_are : (cs : List Certificate) → waiting_rows r cs ≡ map pending_row (filter (is_pending s) cs)
@@ -94,6 +94,6 @@ module _ (r : Revocations) (s : State) (are : AreRevocations r s) where
       by_test true = refl
       by_test false = refl
 
-  -- what waits among all certificates is what waits
+  -- the pending rows among all certificates are the state's
   pub pending_is : (rows : List Pending) → rows ≡ waiting_rows r s.certificates → rows ≡ pending_of s
   pending_is rows is = is ∙ rows_are s.certificates

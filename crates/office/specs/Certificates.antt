@@ -1,4 +1,4 @@
--- The certificates that are made.
+-- The certificates that an office makes.
 use Rattle.std.specs.Prelude.{◌≡◌, ℕ, List, [], map, IsTrue, Option, Some, None}
 use Rattle.text.specs.declared.pair.Pair.{Pair}
 use Rattle.values.specs.Names.{is_name}
@@ -12,13 +12,14 @@ use Rattle.message.specs.declared.issue.Issue.{Issue}
 use Rattle.message.specs.declared.renewal.Renewal.{Renewal}
 use Rattle.office.specs.declared.certificate.Certificate.{Certificate}
 
--- what a certificate keeps: the body is that of its fields
+-- the invariant of a stored certificate: a valid department name, valid fields, and the body (the unsigned
+-- certificate) that encodes these fields
 pub record IsCertificate (c : Certificate) : Type 0 where
   pub department : IsTrue (is_name c.department)
   pub fields : IsCertFields c.fields
   pub body : c.body ≡ body_text c.fields
 
--- the certificate of these fields, which isn't signed yet
+-- the certificate with these fields and their body, not yet signed
 abbrev pub certificate_with : List ℕ → CertFields → Certificate
 certificate_with department fields =
     record { department = department; fields = fields; body = body_text fields; signature = None }
@@ -32,7 +33,7 @@ abbrev pub kind_or_user : Option Department → Kind
 kind_or_user (Some d) = d.kind
 kind_or_user None = User
 
--- the fields of a certificate that is issued as asked
+-- the fields of a certificate issued as requested
 abbrev pub fields_for : Issue → (serial : ℕ) → Kind → (ca nonce : List ℕ) → CertFields
 fields_for i serial kind ca nonce = record {
   nonce = nonce;
@@ -51,7 +52,7 @@ fields_for i serial kind ca nonce = record {
 abbrev pub certificate_for : Issue → (serial : ℕ) → Kind → (ca nonce : List ℕ) → Certificate
 certificate_for i serial kind ca nonce = certificate_with i.department (fields_for i serial kind ca nonce)
 
--- the fields of the old certificate for another validity, under another serial
+-- the fields of the old certificate with a new validity, under a new serial
 abbrev pub renewed_fields : CertFields → Renewal → (serial : ℕ) → (ca nonce : List ℕ) → CertFields
 renewed_fields old r serial ca nonce =
     record old { nonce = nonce; serial = serial; after = r.after; before = r.before; ca = ca }

@@ -1,11 +1,11 @@
--- What a message writes of departments, serials and key ids.
+-- The departments, serials and key IDs that a message names.
 use Rattle.std.specs.Prelude.{ℕ, List, Option, Some, None}
 use Rattle.values.specs.Names.{department_of}
 use Rattle.message.specs.declared.serial_range.SerialRange.{SerialRange}
 use Rattle.message.specs.declared.kinds.Message.{Message}
 use Rattle.message.specs.declared.kinds.Message.TheVariants as message
 
--- of a key id that is to be revoked, the name that it begins with
+-- the department that a message names, if any; a key ID to be revoked names the department that it begins with
 abbrev pub named_department : Message → Option (List ℕ)
 named_department (message.Department d) = Some d.name
 named_department (message.Issue i) = Some i.department

@@ -1,4 +1,4 @@
--- What a decision says of the plain office.
+-- The meaning of a decision in the reference model.
 use Rattle.std.specs.Prelude.{◌≡◌, ℕ, ◌+◌, ◌<◌, ◌≤◌, List, length, Bool, IsTrue, IsSome, Option, None, option_copied, Result}
 use Rattle.std.specs.Prelude.{Ok, Err}
 use Rattle.std.specs.Option.{option_and_then}
@@ -40,11 +40,11 @@ use Rattle.office.specs.State.{is_key_id_of_revoked}
 
 -- ---- what a view shows
 
--- the certificate of the serial that a message names
+-- the certificate with the serial that a message names
 abbrev pub certificate_concerned : State → Message → Option Certificate
 certificate_concerned s m = option_and_then (certificate_of s) (named_serial m)
 
--- the department that a message concerns: that of the certificate where it names a serial
+-- the department that a message names, or else that of the certificate whose serial it names
 abbrev pub department_concerned : State → Message → Option Department
 department_concerned s (message.Department d) = department_named s d.name
 department_concerned s (message.Issue i) = department_named s i.department
@@ -55,7 +55,7 @@ department_concerned s (message.RevokeRange r) = None
 department_concerned s (message.RevokeKeyId key_id) = department_named s (department_of key_id)
 department_concerned s (message.Rollover k) = None
 
--- the flag is the state's, for the serial or the serials that the message writes
+-- if the message names a serial or a range, the flag is whether the serial, or every serial of the range, is revoked
 abbrev pub SaysRevoked : Bool → State → Message → Type 0
 SaysRevoked flag s (message.Department d) = Unit {0}
 SaysRevoked flag s (message.Issue i) = Unit {0}
@@ -66,7 +66,8 @@ SaysRevoked flag s (message.RevokeRange r) = flag ≡ is_range_revoked s r
 SaysRevoked flag s (message.RevokeKeyId key_id) = Unit {0}
 SaysRevoked flag s (message.Rollover k) = Unit {0}
 
--- the flag is the state's, for the key id that the message writes, or that of the certificate that it names
+-- if the message depends on it, the flag is whether the key ID that it names, or that of the certificate that it
+-- names, is revoked
 abbrev pub SaysKeyIdRevoked : Bool → State → Message → Type 0
 SaysKeyIdRevoked flag s (message.Department d) = Unit {0}
 SaysKeyIdRevoked flag s (message.Issue i) = flag ≡ is_key_id_revoked s i.key_id
@@ -77,7 +78,7 @@ SaysKeyIdRevoked flag s (message.RevokeRange r) = Unit {0}
 SaysKeyIdRevoked flag s (message.RevokeKeyId key_id) = flag ≡ is_key_id_revoked s key_id
 SaysKeyIdRevoked flag s (message.Rollover k) = Unit {0}
 
--- the flag says whether any key id is revoked, where the message asks
+-- the flag is whether any key ID is revoked, if the message depends on it
 abbrev pub SaysAnyKeyIdRevoked : Bool → State → Message → Type 0
 SaysAnyKeyIdRevoked flag s (message.Department d) = Unit {0}
 SaysAnyKeyIdRevoked flag s (message.Issue i) = Unit {0}
@@ -88,7 +89,7 @@ SaysAnyKeyIdRevoked flag s (message.RevokeRange r) = Unit {0}
 SaysAnyKeyIdRevoked flag s (message.RevokeKeyId key_id) = Unit {0}
 SaysAnyKeyIdRevoked flag s (message.Rollover k) = flag ≡ has_any s.revoked_key_ids
 
--- the view shows the state's rows that the message concerns
+-- the view agrees with the state on everything that a decision on the message depends on
 pub record Agrees (v : View) (s : State) (m : Message) : Type 0 where
   pub opening : v.opening.now ≡ s.opening
   pub cas : v.cas.now ≡ s.cas
@@ -101,7 +102,7 @@ pub record Agrees (v : View) (s : State) (m : Message) : Type 0 where
   pub key_id : SaysKeyIdRevoked v.is_key_id_revoked s m
   pub key_ids : SaysAnyKeyIdRevoked v.has_revoked_key_ids s m
 
--- ---- what a decision writes
+-- ---- the effect of a decision
 
 abbrev pub changed : Change → State → State
 changed change.Nothing s = s
@@ -112,27 +113,27 @@ changed (change.Range r) s = with_range s r
 changed (change.KeyId key_id) s = with_key_id s key_id
 changed (change.Ca ca) s = with_ca s ca
 
--- the state with what the decision says is to be written
+-- the state after the decision is written
 abbrev pub written : Decision → State → State
 written d s = record (changed d.change s) { version = d.version; date = d.date }
 
 abbrev pub stepped_by : Decision → State → Stepped
 stepped_by d s = record { state = written d s; reply = d.reply }
 
--- the decision is the plain office's step, unless memory was refused
+-- the decision or refusal is that of the reference model's step, unless memory was refused
 abbrev pub Decided : Result Decision Stop → State → List ℕ → Message → ℕ → List ℕ → Type 0
 Decided (Ok d) s caller m moment nonce =
     (step s caller m moment nonce ≡ Ok (stepped_by d s)) × (d.next ≡ next_serial (written d s))
 Decided (Err (stop.Refused r)) s caller m moment nonce = step s caller m moment nonce ≡ Err r
 Decided (Err stop.NoMemory) s caller m moment nonce = Unit {0}
 
--- this decision was made, unless memory was refused
+-- the result is this decision, unless memory was refused
 abbrev pub IsMade : Result Decision Stop → Decision → Type 0
 IsMade (Ok d) x = d ≡ x
 IsMade (Err (stop.Refused r)) x = ⊥
 IsMade (Err stop.NoMemory) x = Unit {0}
 
--- the decision that a certificate is made, under the next serial
+-- the decision to make a certificate, under the next serial
 abbrev pub certified : View → Certificate → Decision
 certified v c = record {
   reply = issue_reply v.next c.body;
@@ -147,15 +148,15 @@ abbrev pub unpublished : View → List ℕ → Change → Decision
 unpublished v reply change =
     record { reply = reply; next = v.next; version = v.version; date = v.date; change = change }
 
--- the decision with which the published list has its next version, of this moment
+-- the decision that gives the published list its next version, dated at this time
 abbrev pub published : View → List ℕ → Change → ℕ → Decision
 published v reply change moment =
     record { reply = reply; next = v.next; version = v.version + 1; date = moment; change = change }
 
--- ---- what is known of a change
+-- ---- preconditions of a change
 
--- a certificate is given only to a serial in range, only certificates that are there are signed, and only serials that
--- were handed out are revoked; a CA serves from the next serial on
+-- a certificate is made only if a serial is left, only existing certificates are signed, and only serials that were
+-- handed out are revoked; a CA is added only if there are fewer than eight, and serves from the next serial on
 abbrev pub HasRoom : Change → State → Type 0
 HasRoom change.Nothing s = Unit {0}
 HasRoom (change.Department d) s = Unit {0}
@@ -165,7 +166,7 @@ HasRoom (change.Range r) s = (s.opening.first ≤ r.lo) × (r.hi < next_serial s
 HasRoom (change.KeyId key_id) s = Unit {0}
 HasRoom (change.Ca ca) s = (length s.cas < 8) × (ca.since ≡ next_serial s)
 
--- what is written is as it may be
+-- the change to be written is well-formed
 abbrev pub IsLawfulChange : Change → Type 0
 IsLawfulChange change.Nothing = Unit {0}
 IsLawfulChange (change.Department d) = IsTrue (is_department d)

@@ -1,9 +1,9 @@
--- When a register may answer which fault.
+-- The conditions under which a register may return a fault.
 use Rattle.office.specs.declared.store_fault.StoreFault.{StoreFault}
 use Rattle.office.specs.declared.store_fault.StoreFault.TheVariants.{AlreadyAnOffice, NotAnOffice, WrongSchema, Damaged}
 use Rattle.office.specs.declared.store_fault.StoreFault.TheVariants.{Device, NoMemory}
 
--- a failure of the database is answered only where there was one
+-- a failure of the database is reported only if there was one
 abbrev pub HasCause : StoreFault → Type 0 → Type 0
 HasCause Device failed = failed
 HasCause AlreadyAnOffice failed = Unit {0}
@@ -12,7 +12,7 @@ HasCause WrongSchema failed = Unit {0}
 HasCause Damaged failed = Unit {0}
 HasCause NoMemory failed = Unit {0}
 
--- a register that means a history lacks memory or meets a failure, and nothing else
+-- a register that means a history fails only for lack of memory or because the database failed
 abbrev pub IsOfARegister : StoreFault → Type 0
 IsOfARegister Device = Unit {0}
 IsOfARegister NoMemory = Unit {0}

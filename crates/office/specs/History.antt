@@ -1,4 +1,4 @@
--- Arrivals, of which each message is accepted once.
+-- Histories: lists of received requests, of which at most one for each caller and request key is accepted.
 use Rattle.std.specs.Prelude.{ℕ, List, [], ◌∷◌, ◌++◌, map, fold, find, Bool, ◌&&◌, nat_lt, if◌then◌else◌, Option, Some}
 use Rattle.std.specs.Prelude.{None, Result, Ok, Err}
 use Rattle.std.specs.List.{list_any}
@@ -16,24 +16,24 @@ use Rattle.office.specs.declared.arrival.Outcome.{Outcome}
 use Rattle.office.specs.declared.arrival.Outcome.TheVariants.{Accepted, Repeated, Refused}
 use Rattle.office.specs.Machine.{State, Stepped, opened, after, step}
 
--- an arrival that was accepted, with its message and the reply that it got
+-- a first acceptance: an arrival that was accepted, with its message and its reply
 pub record First : Type 0 where
   pub arrival : Arrival
   pub message : Message
   pub reply : List ℕ
 
--- what is kept of it
+-- its stored row
 abbrev pub kept_row : First → Kept
 kept_row f = record { caller = f.arrival.caller; key = f.arrival.key; bytes = f.arrival.bytes; reply = f.reply }
 
 abbrev pub kept_by : List First → List Kept
 kept_by fs = map kept_row fs
 
--- caller and key are the arrival's
+-- the row has the arrival's caller and request key
 abbrev pub has_key : Arrival → Kept → Bool
 has_key a k = bytes_eq k.caller a.caller && bytes_eq k.key a.key
 
--- and so are the message's bytes
+-- and the bytes of its message too
 abbrev pub is_repeat : Arrival → Kept → Bool
 is_repeat a k = has_key a k && bytes_eq k.bytes a.bytes
 
@@ -43,8 +43,8 @@ refuse_if b r = if b then Err r else Ok tt
 abbrev pub first_of_step : Arrival → Message → Stepped → First
 first_of_step a m stepped = record { arrival = a; message = m; reply = stepped.reply }
 
--- What an arrival that is no repeat gives: the refusal with the least number, or a first acceptance. The last moment is
--- that of 9999-12-31 23:59:59 UTC.
+-- The outcome of an arrival that isn't a repeat: the refusal with the least number, or a first acceptance. The latest
+-- time is 9999-12-31 23:59:59 UTC.
 abbrev pub judged : State → List Kept → Arrival → Result First Refusal
 judged s kept a = do
   m ← or_fault BadMessage (message_with_text a.bytes)
@@ -53,7 +53,7 @@ judged s kept a = do
   stepped ← step s a.caller m a.moment a.nonce
   Ok (first_of_step a m stepped)
 
--- the reply that the same message got
+-- the stored reply, if the arrival is a repeat
 abbrev pub reply_kept : List Kept → Arrival → Option (List ℕ)
 reply_kept kept a = option_map (λ k. k.reply) (find (is_repeat a) kept)
 
@@ -65,7 +65,7 @@ abbrev pub repeated_or : Option (List ℕ) → Outcome → Outcome
 repeated_or (Some reply) other = Repeated reply
 repeated_or None other = other
 
--- the kept reply, or what is judged
+-- the stored reply if the arrival is a repeat, and otherwise the judged outcome
 abbrev pub due_on : State → List Kept → Arrival → Outcome
 due_on s kept a = repeated_or (reply_kept kept a) (outcome_of (judged s kept a))
 
@@ -80,7 +80,7 @@ abbrev pub add_accepted : List First → Result First Refusal → List First
 add_accepted fs (Ok f) = fs ++ f ∷ []
 add_accepted fs (Err r) = fs
 
--- the first acceptances, and one more where the arrival is one
+-- the first acceptances, and this arrival if it is one
 abbrev pub with_arrival : Opening → List First → Arrival → List First
 with_arrival o fs a = add_accepted fs (judged (state_after o fs) (kept_by fs) a)
 
@@ -88,10 +88,10 @@ with_arrival o fs a = add_accepted fs (judged (state_after o fs) (kept_by fs) a)
 abbrev pub first_accepted : Opening → List Arrival → List First
 first_accepted o l = fold (with_arrival o) [] l
 
--- the state that a history leaves
+-- the state after a history
 abbrev pub state : Opening → List Arrival → State
 state o l = state_after o (first_accepted o l)
 
--- what is due to an arrival after a history
+-- the specified answer to an arrival after a history
 abbrev pub due : Opening → List Arrival → Arrival → Outcome
 due o l a = due_on (state o l) (kept_by (first_accepted o l)) a

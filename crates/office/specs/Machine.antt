@@ -1,4 +1,4 @@
--- The plain office: one message at a time. It knows nothing of repeats.
+-- The reference model of an office: one message at a time, without repeats.
 use Rattle.std.specs.Prelude.{ℕ, zero, suc, ◌+◌, ◌-◌, List, [], ◌∷◌, ◌++◌, length, ◌||◌, if◌then◌else◌, Option, Some}
 use Rattle.std.specs.Prelude.{None, Result, Ok, Err}
 use Rattle.std.specs.Option.{option_map, option_map_or}
@@ -34,15 +34,15 @@ pub use Rattle.office.specs.State.{
 }
 pub use Rattle.office.specs.Refusals.{refusals, first_holding}
 
--- ---- certificates that are made
+-- ---- new certificates
 
--- the certificate that an issue makes
+-- the certificate that an issue message makes
 abbrev pub issued : State → Issue → List ℕ → Certificate
 issued s i nonce =
     certificate_for i (next_serial s) (kind_or_user (department_named s i.department)) (newest_key s.opening s.cas)
     nonce
 
--- the certificate that a renewal makes of one that is there
+-- the certificate that a renewal makes from an existing one
 abbrev pub renewed : State → Renewal → List ℕ → Option Certificate
 renewed s r nonce =
     option_map (λ c. renewed_certificate c r (next_serial s) (newest_key s.opening s.cas) nonce)
@@ -56,7 +56,7 @@ with_department s d = record s { departments = put (slice_cmp nat_cmp) d.name d 
 abbrev pub with_certificate : State → Certificate → State
 with_certificate s c = record s { certificates = s.certificates ++ c ∷ [] }
 
--- with the certificate, if there is one
+-- the state with the certificate added, if there is one
 abbrev pub with_one_more : State → Option Certificate → State
 with_one_more s (Some c) = with_certificate s c
 with_one_more s None = s
@@ -64,7 +64,7 @@ with_one_more s None = s
 abbrev pub signed : Certificate → Signature → Certificate
 signed c signature = record c { signature = Some signature }
 
--- the certificate at a place is signed
+-- the certificates, with the one at a place signed
 abbrev pub signed_at : List Certificate → ℕ → Signature → List Certificate
 signed_at [] place signature = []
 signed_at (c ∷ cs) zero signature = signed c signature ∷ cs
@@ -74,11 +74,11 @@ abbrev pub with_signature : State → ℕ → Signature → State
 with_signature s serial signature =
     record s { certificates = signed_at s.certificates (serial - s.opening.first) signature }
 
--- the serials of the range are revoked too
+-- the state in which the serials of the range are revoked too
 abbrev pub with_range : State → SerialRange → State
 with_range s r = record s { revoked = λ n. is_within n (record { lo = r.lo; hi = r.hi }) || s.revoked n }
 
--- the text in its place among ascending ones, once
+-- the ascending texts with this one inserted in its place, unless it is already there
 abbrev pub put_text : List ℕ → List (List ℕ) → List (List ℕ)
 put_text t [] = t ∷ []
 put_text t (u ∷ us) = by_order (slice_cmp nat_cmp t u) (t ∷ u ∷ us) (u ∷ us) (u ∷ put_text t us)
@@ -89,17 +89,17 @@ with_key_id s key_id = record s { revoked_key_ids = put_text key_id s.revoked_ke
 abbrev pub with_ca : State → Ca → State
 with_ca s ca = record s { cas = s.cas ++ ca ∷ [] }
 
--- the published list has changed
+-- the published list gets its next version, dated at this time
 abbrev pub republished : State → ℕ → State
 republished s moment = record s { version = s.version + 1; date = moment }
 
--- the CA of a key, from the next serial on
+-- the CA with this key, from the next serial on
 abbrev pub ca_from_now : State → List ℕ → Ca
 ca_from_now s key = record { key = key; since = next_serial s }
 
--- ---- what an accepted message does
+-- ---- the effect of an accepted message
 
--- the state that is left, at this moment and with this nonce. The list is published anew just where it changes
+-- the state after a message, at this time and with this nonce. The list gets a new version exactly when it changes
 abbrev pub after : State → Message → ℕ → List ℕ → State
 after s (message.Department d) moment nonce = with_department s d
 after s (message.Issue i) moment nonce = with_certificate s (issued s i nonce)
@@ -115,7 +115,7 @@ after s (message.Rollover k) moment nonce =
     if has_any s.revoked_key_ids then republished (with_ca s (ca_from_now s k.key)) moment
     else with_ca s (ca_from_now s k.key)
 
--- the serial and the digest of the certificate that was made
+-- the reply with the serial and the digest of the new certificate
 abbrev pub reply_to_made : State → Option Certificate → List ℕ
 reply_to_made s c = option_map_or (λ c. issue_reply (next_serial s) c.body) c []
 

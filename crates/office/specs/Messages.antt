@@ -1,4 +1,4 @@
--- The message that an arrival brings.
+-- The message that an arrival contains.
 use Rattle.std.specs.Prelude.{ℕ, List, Bool, ◌&&◌, if◌then◌else◌, Option, Some, None}
 use Rattle.std.specs.Option.{option_and_then}
 use Rattle.std.specs.Str.{bytes_eq}
@@ -7,7 +7,7 @@ use Rattle.message.specs.Values.{is_message}
 use Rattle.message.specs.Texts.{message_text}
 use Rattle.message.specs.Reading.{message_of}
 
--- the bytes are the text of a lawful message
+-- the bytes are the text of this message, which is valid
 abbrev pub is_text_of : List ℕ → Message → Bool
 is_text_of bytes m = is_message m && bytes_eq bytes (message_text m)
 

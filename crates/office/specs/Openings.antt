@@ -1,4 +1,4 @@
--- What an office begins with.
+-- The initial configuration of an office.
 use Rattle.std.specs.Prelude.{◌≡◌, ℕ, List, length, Bool, false, ◌&&◌, not, nat_le, if◌then◌else◌, IsTrue, Result, Ok}
 use Rattle.std.specs.Prelude.{Err}
 use Rattle.std.specs.Str.{bytes_eq}
@@ -19,7 +19,7 @@ made_opening ca root station first last =
     else if not (are_serials first last) then Err BadSerials
     else Ok (record { ca = ca; root = root; station = station; first = first; last = last })
 
--- what every opening keeps: names of two callers, and serials in order
+-- the invariant of an opening: a key of 32 bytes, valid names of two different callers, and a valid range of serials
 pub record IsOpening (o : Opening) : Type 0 where
   pub ca : length o.ca ≡ 32
   pub root : IsTrue (is_name o.root)

@@ -13,17 +13,17 @@ numbers cas = map (λ ca. ca.since) cas
 abbrev pub part_with : Ca × List Run → CaPart
 part_with p = record { ca = p.0.key; runs = p.1 }
 
--- a part for each CA, with its runs
+-- a part for each CA, with its ranges (`Run`)
 abbrev pub zipped : List Ca → List (List Run) → List CaPart
 zipped cas split = map part_with (zip cas split)
 
--- a part for each CA, with the runs of the serials that reach its number and that of no later CA
+-- a list of ranges for each CA: those serials from its first serial on that come before every later CA's first serial
 pub record AreSplit (split : List (List Run)) (cas : List Ca) (serials : List Run) : Type 0 where
   pub size : length split ≡ length cas
   pub runs : All AreRuns split
   pub each : (k n : ℕ) → k < length cas
       → contains (slice_index_or split k []) n ≡ (is_last_reached (numbers cas) k n && contains serials n)
 
--- the parts are those of such a split
+-- the parts are zipped from such a split
 abbrev pub AreParts : List CaPart → List Ca → List Run → Type 0
 AreParts parts cas serials = (split : List (List Run)) × AreSplit split cas serials × (parts ≡ zipped cas split)

@@ -33,7 +33,7 @@ meet_rules d principals = list_all (λ p. list_any (meets p) d.rules) principals
 abbrev pub are_listed : List (List ℕ) → List Pair → Bool
 are_listed names ps = list_all (λ p. is_listed names p.name) ps
 
--- 0 < before - after <= the longest life
+-- 0 < before - after <= the longest lifetime
 abbrev pub is_life_permitted : Department → ℕ → ℕ → Bool
 is_life_permitted d after before = nat_lt after before && nat_le (before - after) d.longest_life
 
@@ -48,7 +48,7 @@ abbrev pub is_permitted_by : Option Department → Issue → Bool
 is_permitted_by (Some d) i = is_permitted d i
 is_permitted_by None i = false
 
--- what the certificate has, for another validity
+-- the department permits the certificate's principals, options and extensions, for the requested validity
 abbrev pub is_renewal_permitted : Department → Certificate → Renewal → Bool
 is_renewal_permitted d c r =
     meet_rules d c.fields.principals

@@ -1,4 +1,4 @@
--- What a register shows of its state.
+-- The data that a register returns about its state.
 use Rattle.std.specs.Prelude.{◌≡◌, ℕ, suc, List, [], ◌∷◌, length, map, filter, Bool, ◌&&◌, ◌||◌, not, if◌then◌else◌}
 use Rattle.std.specs.Prelude.{Option, is_none}
 use Rattle.std.specs.Option.{option_map}
@@ -21,7 +21,7 @@ use Rattle.office.specs.State.{State, certificate_of, is_key_id_revoked}
 
 -- ---- certificates
 
--- its serial or its key id is revoked
+-- its serial or its key ID is revoked
 abbrev pub is_certificate_revoked : State → Certificate → Bool
 is_certificate_revoked s c = s.revoked c.fields.serial || is_key_id_revoked s c.fields.key_id
 
@@ -32,7 +32,7 @@ is_pending s c = is_none c.signature && not (is_certificate_revoked s c)
 abbrev pub pending_row : Certificate → Pending
 pending_row c = record { serial = c.fields.serial; digest = digest_text c.body }
 
--- by serial
+-- the pending certificates by serial
 abbrev pub pending_of : State → List Pending
 pending_of s = map pending_row (filter (is_pending s) s.certificates)
 
@@ -45,7 +45,7 @@ issued_row c = record {
 abbrev pub issued_of : State → ℕ → Option Issued
 issued_of s serial = option_map issued_row (certificate_of s serial)
 
--- where it is revoked or not
+-- its status, given whether it is revoked
 abbrev pub standing_as : Bool → Certificate → Standing
 standing_as is_revoked c =
     if is_revoked then standing.Revoked
@@ -68,13 +68,13 @@ entry_as standing c = record {
 abbrev pub entry_of : State → Certificate → Entry
 entry_of s c = entry_as (standing_of s c) c
 
--- by serial
+-- the entries by serial
 abbrev pub entries_of : State → List Entry
 entries_of s = map (entry_of s) s.certificates
 
 -- ---- departments
 
--- by name
+-- the departments by name
 abbrev pub departments_of : State → List Department
 departments_of s = map (λ e. e.1) s.departments
 
@@ -87,7 +87,7 @@ head_of s = record { version = s.version; date = s.date }
 abbrev pub is_revoked_under : State → ℕ → ℕ → Bool
 is_revoked_under s place serial = s.revoked serial && is_last_reached (map (λ ca. ca.since) s.cas) place serial
 
--- the runs of the revoked serials that were issued under the CA at the place
+-- the part of the CA at the place: the ranges of the revoked serials that were issued under it
 abbrev pub part_of : State → ℕ → Ca → CaPart
 part_of s place ca =
     record { ca = ca.key; runs = runs_in (is_revoked_under s place) s.opening.first (length s.certificates) }
@@ -96,15 +96,15 @@ abbrev pub parts_from : State → ℕ → List Ca → List CaPart
 parts_from s place [] = []
 parts_from s place (ca ∷ cas) = part_of s place ca ∷ parts_from s (suc place) cas
 
--- by number of the CA
+-- the parts in order of the CAs' numbers
 abbrev pub published_parts : State → List CaPart
 published_parts s = parts_from s 0 s.cas
 
--- the list that is published
+-- the bytes of the published list
 abbrev pub published_list : State → List ℕ
 published_list s = published_text (head_of s) (published_parts s) s.revoked_key_ids
 
--- what is shown of the list is the state's
+-- the contents of the list are the state's
 pub record AreRevoked (r : Revoked) (s : State) : Type 0 where
   pub head : r.head ≡ head_of s
   pub parts : r.parts.items ≡ published_parts s

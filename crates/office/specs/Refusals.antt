@@ -1,4 +1,4 @@
--- What is refused: for each kind of message the refusals by their numbers, each with the test whether it applies.
+-- Refusals: for each kind of message, its refusals in order of their numbers, each with its condition.
 use Rattle.std.specs.Prelude.{ℕ, List, [], ◌∷◌, length, Bool, true, false, not, ◌||◌, nat_lt, nat_le, if◌then◌else◌}
 use Rattle.std.specs.Prelude.{Option, Some, None, is_none}
 use Rattle.std.specs.Option.{option_map_or}
@@ -43,7 +43,7 @@ same_kind User User = true
 same_kind Host Host = true
 same_kind _ _ = false
 
--- the department is there with the other kind
+-- the department exists, and has the other kind
 abbrev pub has_other_kind : Option Department → Kind → Bool
 has_other_kind (Some d) kind = not (same_kind d.kind kind)
 has_other_kind None kind = false
@@ -52,11 +52,11 @@ abbrev pub is_missing : Option Department → Bool
 is_missing (Some d) = false
 is_missing None = true
 
--- the certificate is there, and the test holds of it
+-- the certificate exists and passes the test
 abbrev pub is_one_that : (Certificate → Bool) → Option Certificate → Bool
 is_one_that test c = option_map_or test c false
 
--- a signature is kept, and it is another one
+-- a signature is stored that differs from this one
 abbrev pub is_other : Signature → Option Signature → Bool
 is_other signature (Some kept) = not (bytes_eq kept.bytes signature.bytes)
 is_other signature None = false
@@ -78,7 +78,7 @@ issue_refusals s caller i moment =
     ∷ (SerialsExhausted, nat_lt s.opening.last (next_serial s))
     ∷ []
 
--- of a serial that wasn't issued nothing is asked before that
+-- for a serial that wasn't issued, the conditions before `UnknownSerial` depend on the caller alone
 abbrev pub renewal_refusals : State → List ℕ → Renewal → ℕ → List (Refusal × Bool)
 renewal_refusals s caller r moment =
     (NotAllowed, not (may_administer s.opening caller (department_of_serial s r.serial)))
@@ -110,7 +110,7 @@ serial_refusals s caller serial =
     ∷ (UnknownSerial, is_none (certificate_of s serial))
     ∷ []
 
--- each serial of the range has to be issued
+-- each serial of the range must have been issued
 abbrev pub range_refusals : State → List ℕ → SerialRange → List (Refusal × Bool)
 range_refusals s caller r =
     (NotAllowed, not (bytes_eq caller s.opening.root))
@@ -140,7 +140,7 @@ refusals s caller (message.RevokeRange r) moment = range_refusals s caller r
 refusals s caller (message.RevokeKeyId key_id) moment = key_id_refusals s caller key_id
 refusals s caller (message.Rollover k) moment = rollover_refusals s caller k.key
 
--- the first that applies
+-- the first refusal that applies
 abbrev pub first_holding : List (Refusal × Bool) → Option Refusal
 first_holding [] = None
 first_holding (r ∷ rs) = if r.1 then Some r.0 else first_holding rs

@@ -1,25 +1,25 @@
--- What a call does to the office that a register means.
+-- The effect of a call on the office that a register means.
 use Rattle.std.specs.Prelude.{List, [], ◌∷◌, ◌++◌, IfOk, IfErr, Result}
 use Rattle.office.specs.declared.opening.Opening.{Opening}
 use Rattle.office.specs.declared.arrival.Arrival.{Arrival}
 use Rattle.office.specs.declared.store_fault.StoreFault.{StoreFault}
 use Rattle.office.specs.Faults.{IsOfARegister}
 
--- so it is of each office and history that the register means
+-- `P` holds of each office and history that the register means
 abbrev pub WhereMeant : {S : Type 0} → (means : S → Opening → List Arrival → Type 0) → S
     → (Opening → List Arrival → Type 0) → Type 0
 WhereMeant means old P = (o : Opening) (l : List Arrival) → means old o l → P o l
 
--- whatever office and history the register meant before, the answer is so of these
+-- the answer fits every office and history that the register meant before
 abbrev pub AnswersBy : {S X E : Type 0} → (means : S → Opening → List Arrival → Type 0) → S → Result X E
     → (Opening → List Arrival → X → Type 0) → Type 0
 AnswersBy means old result P = IfOk result (λ x. (o : Opening) (l : List Arrival) → means old o l → P o l x)
 
--- the register means what it meant before
+-- the register still means every history that it meant before
 abbrev pub MeansTheSame : {S : Type 0} → (means : S → Opening → List Arrival → Type 0) → (old new : S) → Type 0
 MeansTheSame means old new = (o : Opening) (l : List Arrival) → means old o l → means new o l
 
--- the register means what it meant before, and this arrival at the end
+-- the register means every history that it meant before, followed by this arrival
 abbrev pub MeansOneMore : {S : Type 0} → (means : S → Opening → List Arrival → Type 0) → Arrival → (old new : S)
     → Type 0
 MeansOneMore means arrival old new = (o : Opening) (l : List Arrival) → means old o l → means new o (l ++ arrival ∷ [])
@@ -38,13 +38,13 @@ pub record Preserves {S : Type 0} (is_honest is_open : S → Type 0) (is_as_befo
   pub same : is_honest new → MeansTheSame means old new
   pub before : is_honest new → is_open new → is_as_before old new
 
--- a register that meant a history fails for want of memory or for a failure of the database, and for nothing else
+-- a register that meant a history fails only for lack of memory or because the database failed
 abbrev pub FailsAsARegister : {S X : Type 0} → (means : S → Opening → List Arrival → Type 0) → S → Result X StoreFault
     → Type 0
 FailsAsARegister means old result =
     IfErr result (λ e. (o : Opening) (l : List Arrival) → means old o l → IsOfARegister e)
 
--- the database failed in a call on a register that meant what it had meant before
+-- the database failed in a call on a register that still meant every history that it had meant before
 pub record FailsWithin {S : Type 0} (means : S → Opening → List Arrival → Type 0) (fails : S → S → Type 0) (old new : S)
     : Type 0 where
   pub before : S

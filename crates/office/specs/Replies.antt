@@ -6,7 +6,7 @@ use Rattle.lines.specs.Digests.{digest_text}
 abbrev pub department_reply : List ℕ → List ℕ
 department_reply name = codes "department " ++ name ++ 10 ∷ []
 
--- the serial, and the digest of the body
+-- the serial and the digest of the unsigned certificate
 abbrev pub issue_reply : ℕ → List ℕ → List ℕ
 issue_reply serial body =
     (codes "issued " ++ decimal serial ++ 10 ∷ []) ++ (codes "digest " ++ digest_text body ++ 10 ∷ [])

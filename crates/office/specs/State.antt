@@ -1,4 +1,4 @@
--- The state of the plain office: whole lists.
+-- The state of the reference model, in which an office is represented by whole lists.
 use Rattle.std.specs.Prelude.{ℕ, zero, suc, ◌+◌, ◌-◌, List, [], ◌∷◌, length, Bool, true, false, ◌&&◌, ◌||◌, nat_lt}
 use Rattle.std.specs.Prelude.{if◌then◌else◌, Option, Some, None, slice_get}
 use Rattle.std.specs.List.{list_any}
@@ -15,21 +15,21 @@ use Rattle.office.specs.declared.certificate.Certificate.{Certificate}
 
 pub record State : Type 0 where
   pub opening : Opening
-  -- by number, the first of which is the opening's
+  -- by number; the first is the opening's
   pub cas : List Ca
   -- by name
   pub departments : List (List ℕ × Department)
-  -- by serial, the first of which is the opening's
+  -- by serial; the first serial is the opening's
   pub certificates : List Certificate
   -- the serials that are revoked
   pub revoked : ℕ → Bool
-  -- the key ids that are revoked, ascending
+  -- the key IDs that are revoked, ascending
   pub revoked_key_ids : List (List ℕ)
-  -- of the published list
+  -- the version and the date of the published list
   pub version : ℕ
   pub date : ℕ
 
--- the CA that an office begins with
+-- the first CA of an office
 abbrev pub first_ca : Opening → Ca
 first_ca o = record { key = o.ca; since = o.first }
 
@@ -49,7 +49,7 @@ opened o = record {
 abbrev pub next_serial : State → ℕ
 next_serial s = s.opening.first + length s.certificates
 
--- the certificate of a serial
+-- the certificate with a serial
 abbrev pub certificate_of : State → ℕ → Option Certificate
 certificate_of s serial =
     if nat_lt serial s.opening.first then None else slice_get s.certificates (serial - s.opening.first)
@@ -57,11 +57,11 @@ certificate_of s serial =
 abbrev pub body_of : State → ℕ → Option (List ℕ)
 body_of s serial = option_map (λ c. c.body) (certificate_of s serial)
 
--- the department of a name
+-- the department with a name
 abbrev pub department_named : State → List ℕ → Option Department
 department_named s name = find (slice_cmp nat_cmp) name s.departments
 
--- the department that the certificate of a serial was issued for
+-- the department that the certificate with a serial was issued for
 abbrev pub department_of_serial : State → ℕ → Option Department
 department_of_serial s serial = option_and_then (λ c. department_named s c.department) (certificate_of s serial)
 
@@ -73,13 +73,13 @@ key_or first None = first
 abbrev pub newest_key : Opening → List Ca → List ℕ
 newest_key o cas = key_or o.ca (slice_get cas (length cas - 1))
 
--- the key is that of one of the CAs
+-- one of the CAs has this key
 abbrev pub is_ca : List Ca → List ℕ → Bool
 is_ca cas key = list_any (λ ca. bytes_eq ca.key key) cas
 
--- ---- what is revoked
+-- ---- revocations
 
--- each of so many serials from a serial on is in the set
+-- each of `count` serials starting with `from` is in the set
 abbrev pub has_all : (ℕ → Bool) → (from count : ℕ) → Bool
 has_all set from zero = true
 has_all set from (suc count) = set from && has_all set (from + 1) count
@@ -91,15 +91,15 @@ is_range_revoked s r = has_all s.revoked r.lo ((r.hi + 1) - r.lo)
 abbrev pub is_key_id_revoked : State → List ℕ → Bool
 is_key_id_revoked s key_id = list_any (λ k. bytes_eq k key_id) s.revoked_key_ids
 
--- the key id of the certificate of a serial is revoked
+-- the key ID of the certificate with a serial is revoked
 abbrev pub is_key_id_of_revoked : State → ℕ → Bool
 is_key_id_of_revoked s serial = option_map_or (λ c. is_key_id_revoked s c.fields.key_id) (certificate_of s serial) false
 
--- the serial is revoked, or the key id of its certificate
+-- the serial or the key ID of its certificate is revoked
 abbrev pub is_revoked : State → ℕ → Bool
 is_revoked s serial = s.revoked serial || is_key_id_of_revoked s serial
 
--- a key id is revoked
+-- any key ID is revoked
 abbrev pub has_any : List (List ℕ) → Bool
 has_any [] = false
 has_any (k ∷ ks) = true

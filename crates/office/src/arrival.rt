@@ -1,25 +1,25 @@
-//! What comes in, and what is answered.
+//! Received requests, and their outcomes.
 
 use text::Text;
 use values::Refusal;
 
-/// A message with its caller, its request key, its moment and its nonce.
+/// A received request: a message with its caller, its request key, its time and its nonce.
 ///
-/// Caller and key are names (1 to 32 bytes of `a-z 0-9 -`, as `is_name` tests); whoever makes an arrival sees to it.
+/// Caller and key are names (1 to 32 bytes of `a-z 0-9 -`: see `is_name`); its creator ensures this.
 #[derive(Drop)]
 pub struct Arrival {
     pub caller: Text,
-    /// The request's key: with the caller it names a request for good.
+    /// The request key: together with the caller it identifies a request permanently.
     pub key: Text,
     /// The message.
     pub bytes: Text,
-    /// Seconds since 1970-01-01 00:00:00 UTC, of which nothing is asked: moments may go back.
+    /// Seconds since 1970-01-01 00:00:00 UTC. Times are unconstrained: they may go backwards.
     pub moment: u64,
-    /// Random bytes for a body, of which nothing is asked: nonces may repeat.
+    /// Random bytes for an unsigned certificate. Nonces are unconstrained: they may repeat.
     pub nonce: [u8; 32],
 }
 
-/// What an arrival is answered.
+/// The answer to an arrival.
 #[derive(Drop)]
 pub enum Outcome {
     /// It was accepted now, with this reply.
@@ -30,7 +30,7 @@ pub enum Outcome {
     Refused(Refusal),
 }
 
-/// What is kept of an arrival that was accepted.
+/// The stored row of an arrival that was accepted.
 #[derive(Drop)]
 pub struct Kept {
     pub caller: Text,

@@ -3,7 +3,7 @@
 /// The most CAs that an office may have. It has at least one.
 pub const MOST_CAS: usize = 8;
 
-/// A CA of an office. They are numbered from 1, in the order in which they came.
+/// A CA of an office. They are numbered from 1, in the order in which they were added.
 #[derive(Clone, Copy, PartialEq, Eq)]
 pub struct Ca {
     /// The Ed25519 public key.

@@ -1,4 +1,4 @@
-//! What the office keeps of each certificate.
+//! The stored form of each certificate.
 
 ghost use Rattle.std.specs.Prelude.{◌≡◌, IfOk};
 
@@ -7,16 +7,16 @@ use lines::Signature;
 use std::alloc::Global;
 use text::{NoMemory, Text, both};
 
-/// A certificate that was issued. It is kept for good.
+/// A certificate that was issued. It is kept permanently.
 #[derive(Drop)]
 pub struct Certificate {
-    /// The name of the department that it was issued for.
+    /// The name of the department (an issuance policy) that it was issued for.
     pub department: Text,
-    /// The fields of the body.
+    /// The fields of the body (the unsigned certificate).
     pub fields: CertFields,
     /// The body's bytes, over which the signature is made.
     pub body: Text,
-    /// The signature, once it was delivered.
+    /// The signature, once delivered.
     pub signature: Option<Signature>,
 }
 
@@ -48,7 +48,7 @@ pub(crate) fn copied_fields(alloc: Global, fields: &CertFields) -> Result<CertFi
 }
 
 impl Certificate {
-    /// A copy.
+    /// A copy, in new memory.
     pub fn copied(&self, alloc: Global) -> Result<Certificate, NoMemory>
         ensures { IfOk result (λ copy. copy ≡ self.now) }
     {

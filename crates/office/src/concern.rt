@@ -7,10 +7,10 @@ ghost use Rattle.office.specs.Concerns.{named_department, named_serial, named_ra
 use message::{Message, SerialRange};
 use values::department_of;
 
-/// What a message writes of departments, serials and key ids, borrowed from it.
+/// The departments, serials and key IDs that a message names, borrowed from it.
 #[derive(Drop)]
 pub struct Concern<'a> {
-    /// A department's name: in the revocation of a key id, the name that the key id begins with.
+    /// A department's name: for the revocation of a key ID, the name that the key ID begins with.
     pub department: Option<&'a [u8]>,
     /// The serial of a certificate.
     pub serial: Option<u64>,
@@ -59,7 +59,7 @@ fn named_key_id(message: &Message) -> Option<&[u8]>
     }
 }
 
-/// What the message concerns. It takes no memory.
+/// The departments, serials and key IDs that the message names. It allocates nothing.
 pub fn concerned(message: &Message) -> Concern<'_>
     ensures department { option_copied result.department ≡ named_department message.now }
     ensures serial { result.serial ≡ named_serial message.now }

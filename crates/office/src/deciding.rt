@@ -1,4 +1,4 @@
-//! What a message is answered, and what it changes.
+//! The answer to a message, and the change it makes.
 
 ghost use Rattle.std.specs.Prelude.{◌≡◌, ◌+◌, ◌≤◌, ℕ, List, IfOk, IsTrue};
 ghost use Rattle.message.specs.Values.{is_department, is_issue, is_message};
@@ -20,7 +20,7 @@ use message::{Department, Issue, Message};
 use std::alloc::Global;
 use values::Refusal;
 
-/// A department, new or with another profile.
+/// The decision on a department, new or with a new profile.
 fn decide_department(
     alloc: Global,
     view: &View,
@@ -43,7 +43,7 @@ fn decide_department(
     Ok(unpublished(view, reply, change))
 }
 
-/// A certificate.
+/// The decision on an issue.
 fn decide_issue(
     alloc: Global,
     view: &View,
@@ -69,10 +69,10 @@ fn decide_issue(
     issued(alloc, view, department, issue, nonce)
 }
 
-/// What the office answers and does: the refusal with the least number, or the reply and what is to be written.
+/// The office's decision: the refusal with the least number, or the reply and the change to be written.
 ///
-/// It reads the view's rows alone, and answers what the plain machine's step gives of every state with which the view
-/// agrees. The message is one that was read, the view's rows are of the form that an office writes, and its version is
+/// It reads the view's rows alone, and its answer is that of the reference model's step from every state with which
+/// the view agrees. The message is valid, the view's rows are of the form that an office writes, and its version is
 /// below 9223372036854775807.
 pub fn decide(
     alloc: Global,
@@ -85,18 +85,18 @@ pub fn decide(
     requires viewed { IsView view.now }
     requires lawful { IsTrue (is_message message.now) }
 
-    // The step of the plain machine, for each state that the view shows.
+    // The step of the reference model, for each state that the view shows.
     ensures decided { (s : State) → Agrees view.now s message.now
         → Decided result s caller.now message.now moment nonce.now }
 
-    // A certificate is made only where a serial is left, only certificates that are there are signed, only serials that
-    // were handed out are revoked, and a CA comes only where there are fewer than eight.
+    // A certificate is made only if a serial is left, only existing certificates are signed, only serials that were
+    // handed out are revoked, and a CA is added only if there are fewer than eight.
     ensures room { (s : State) → Agrees view.now s message.now → IfOk result (λ d. HasRoom d.change s) }
 
-    // What is written is as it may be.
+    // The change to be written is well-formed.
     ensures change { IfOk result (λ d. IsLawfulChange d.change) }
 
-    // The version grows by one at most.
+    // The version grows by at most one.
     ensures version { IfOk result (λ d. d.version ≤ view.now.version + 1) }
 {
     match message {

@@ -1,4 +1,4 @@
-//! The decisions of messages that are accepted.
+//! The decisions on accepted messages.
 
 ghost use Rattle.std.specs.Prelude.{◌≡◌, ◌+◌, ◌<◌, IfOk};
 ghost use Rattle.office.specs.Replies.{issue_reply};
@@ -26,7 +26,7 @@ pub(crate) fn unpublished(view: &View, reply: Text, change: Change) -> Decision
     }
 }
 
-/// The decision with which the published list has its next version, of this moment.
+/// The decision that gives the published list its next version, dated at this time.
 pub(crate) fn published(view: &View, reply: Text, change: Change, moment: u64) -> Decision
     requires { view.now.version < 9223372036854775807 }
     ensures { result ≡ published view.now reply change moment }
@@ -40,7 +40,7 @@ pub(crate) fn published(view: &View, reply: Text, change: Change, moment: u64) -
     }
 }
 
-/// The body of these fields, and the reply that names both serial and body.
+/// The body (the unsigned certificate) with these fields, and the reply with the serial and the body's digest.
 fn made_texts(alloc: Global, serial: u64, fields: &CertFields) -> Result<(Text, Text), NoMemory>
     requires { IsCertFields fields.now }
     ensures { IfOk result (λ made. made ≡ (body_text fields.now, issue_reply serial (body_text fields.now))) }
@@ -52,7 +52,7 @@ fn made_texts(alloc: Global, serial: u64, fields: &CertFields) -> Result<(Text, 
     }
 }
 
-/// The decision that a certificate of these fields is made, under the next serial. It isn't signed yet.
+/// The decision to make a certificate with these fields, under the next serial. It isn't signed yet.
 pub(crate) fn certified(
     alloc: Global,
     view: &View,

@@ -1,4 +1,4 @@
-//! Signatures that are delivered.
+//! Delivered signatures.
 
 ghost use Rattle.std.specs.Prelude.{◌≡◌, ℕ, List, IfOk, IsTrue};
 ghost use Rattle.std.specs.Option.{option_copied};
@@ -16,7 +16,7 @@ use message::Delivery;
 use std::alloc::Global;
 use values::Refusal;
 
-/// Whether a signature is kept, and another one.
+/// Whether a signature is stored that differs from this one.
 fn is_other(signature: &Signature, kept: Option<&Signature>) -> bool
     ensures { result ≡ is_other signature.now (option_copied kept.entry) }
 {
@@ -26,7 +26,7 @@ fn is_other(signature: &Signature, kept: Option<&Signature>) -> bool
     }
 }
 
-/// The refusal of a delivery with the least number.
+/// The refusal with the least number for a delivery.
 fn refusal_of_delivery(view: &View, caller: &[u8], delivery: &Delivery) -> Option<Refusal>
     ensures { (s : State) → Agrees view.now s (message.Deliver delivery.now)
         → result ≡ first_holding (delivery_refusals s caller.now delivery.now) }
@@ -49,7 +49,7 @@ fn refusal_of_delivery(view: &View, caller: &[u8], delivery: &Delivery) -> Optio
     None
 }
 
-/// A signature for a certificate.
+/// The decision on a signature for a certificate.
 pub(crate) fn decide_delivery(
     alloc: Global,
     view: &View,

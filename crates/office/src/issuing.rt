@@ -1,4 +1,4 @@
-//! The certificate that an issue makes.
+//! The certificate that an issue message makes.
 
 ghost use Rattle.std.specs.Prelude.{◌≡◌, [], None, IfOk, take};
 ghost use Rattle.cert.specs.Options.{listing};
@@ -17,7 +17,7 @@ use std::alloc::Global;
 use text::{NoMemory, Pair, Text, Texts, both};
 use values::{Kind, OptionField};
 
-/// Options of pairs that have no fault.
+/// Options from pairs that have no fault.
 fn options_of(
     alloc: Global,
     kind: Kind,
@@ -54,7 +54,7 @@ fn flags_of(alloc: Global, names: &[Text]) -> Result<Vec<Pair>, NoMemory>
     Ok(flags)
 }
 
-/// Names as extensions.
+/// Extensions with these names.
 fn extensions_of(alloc: Global, kind: Kind, names: &[Text]) -> Result<Options, NoMemory>
     requires { options_fault Extensions kind (flags names.now) ≡ None }
     ensures { IfOk result (λ o. o ≡ listing (flags names.now)) }
@@ -63,14 +63,14 @@ fn extensions_of(alloc: Global, kind: Kind, names: &[Text]) -> Result<Options, N
     options_of(alloc, kind, OptionField::Extensions, flags.as_slice())
 }
 
-/// The key id and the principals that an issue asks for.
+/// The key ID and the principals that an issue asks for.
 fn both_names(alloc: Global, issue: &Issue) -> Result<(Text, Texts), NoMemory>
     ensures { IfOk result (λ both. both ≡ (issue.now.key_id, issue.now.principals)) }
 {
     both(issue.key_id.copied(alloc), issue.principals.copied(alloc))
 }
 
-/// Critical options and extensions, as an issue asks for them.
+/// The critical options and the extensions that an issue asks for.
 fn both_options(alloc: Global, kind: Kind, issue: &Issue) -> Result<(Options, Options), NoMemory>
     requires options { options_fault CriticalOptions kind issue.now.options ≡ None }
     requires extensions { options_fault Extensions kind (flags issue.now.extensions) ≡ None }
@@ -94,7 +94,7 @@ pub(crate) fn newest_key(view: &View) -> [u8; 32]
     }
 }
 
-/// The certificate for an issue that is allowed, under the next serial.
+/// The certificate for an allowed issue, under the next serial.
 pub(crate) fn issued(
     alloc: Global,
     view: &View,

@@ -1,4 +1,4 @@
-//! Laws of every state and every history.
+//! Theorems about every state and every history.
 
 ghost use Rattle.std.specs.Prelude.{◌≡◌, ℕ, List, true};
 ghost use Rattle.values.specs.declared.limits.TheConstants.{LAST_SERIAL, LATEST_MOMENT};
@@ -12,19 +12,19 @@ ghost use Rattle.office.specs.History.{due};
 ghost use Rattle.office.specs.Shows.{IsOffice};
 ghost use Rattle.office.specs.Laws.{ReplyFits, ascend_from};
 
-/// Whatever the message, its refusals stand in the order of their numbers, from 10 on: so the first that applies is the
-/// one with the least number.
+/// For every message, its refusals are listed in ascending order of their numbers, from 10 on: so the first that
+/// applies is the one with the least number.
 pub fn refusals_ascend()
     ensures { (s : State) (caller : List ℕ) (m : Message) (moment : ℕ)
         → ascend_from 10 (refusals s caller m moment) ≡ true }
 {}
 
-/// Each reply that is due, a kept one too, has at most 99 bytes.
+/// Each specified reply, including a stored one, has at most 99 bytes.
 pub fn replies_are_short()
     ensures { (o : Opening) (l : List Arrival) (a : Arrival) → IsOffice o l → ReplyFits 99 (due o l a) }
 {}
 
-/// The limits of an office. The definitions have them as numbers.
+/// The limits of an office, which the definitions write as numbers.
 pub fn limits_of_offices()
     ensures moment { LATEST_MOMENT ≡ 253402300799 }
     ensures serial { LAST_SERIAL ≡ 9223372036854775806 }

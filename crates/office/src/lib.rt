@@ -1,9 +1,9 @@
-//! The office: its plain machine, its histories and its decisions.
+//! The office: its reference model, its histories and its decisions.
 //!
-//! The plain machine (`specs/Machine`) says what a message does to the whole office, and `decide` answers the same from
-//! the few rows that the message concerns. A history (`specs/History`) counts each message once, at its first
-//! acceptance; a repeat is due the reply that it got then. `Registry` is what the layers above see of a store: each of
-//! its answers is the plain machine's after a history.
+//! The reference model (`specs/Machine`) defines the effect of a message on the whole office, and `decide` computes the
+//! same answer from the few rows that the message concerns. A history (`specs/History`, the requests received so far)
+//! counts each message once, at its first acceptance; a repeat gets the reply from then. `Registry` is the interface
+//! through which the layers above use a store: each of its answers is that of the reference model after a history.
 #![tactic(auto)]
 
 mod arrival;

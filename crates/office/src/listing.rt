@@ -1,4 +1,4 @@
-//! What is listed of certificates beside what is revoked.
+//! Listing certificates with their revocation status.
 
 ghost use Rattle.std.specs.Prelude.{◌≡◌, ◌+◌, ◌++◌, IfOk, OnOk, length};
 ghost use Rattle.std.specs.List.{list_any};
@@ -10,10 +10,10 @@ use crate::publication::Pending;
 use krl::Runs;
 use text::{NoMemory, Text};
 
-/// The most certificates that a register gives at once.
+/// The most certificates that a register returns at once.
 pub const BATCH: usize = 1000;
 
-/// The serials and the key ids that are revoked.
+/// The serials and the key IDs that are revoked.
 #[derive(Drop)]
 pub struct Revocations {
     pub serials: Runs,
@@ -22,14 +22,14 @@ pub struct Revocations {
 }
 
 impl Revocations {
-    /// Whether the serial is one of these, or the key id.
+    /// Whether the serial or the key ID is among these revocations.
     pub fn names(&self, serial: u64, key_id: &[u8]) -> bool
         ensures { result ≡ is_named self.now serial key_id.now }
     {
         self.serials.has_all(serial, serial) || has_key_id(self.key_ids.as_slice(), key_id)
     }
 
-    /// Whether the certificate's serial is one of these, or its key id.
+    /// Whether the certificate's serial or its key ID is among these revocations.
     pub fn has(&self, certificate: &Certificate) -> bool
         ensures { result ≡ is_among self.now certificate.now }
     {
@@ -37,7 +37,7 @@ impl Revocations {
         self.names(fields.serial, fields.key_id.as_slice())
     }
 
-    // Puts the row of a certificate, if it is neither signed nor one of these.
+    // Appends the row of the certificate if it is neither signed nor among these revocations.
     fn push_row(&self, rows: &mut Vec<Pending>, certificate: &Certificate) -> Result<(), NoMemory>
         ensures { OnOk result (rows.new.items ≡ rows.old.items ++ waiting_row self.now certificate.now) }
     {
@@ -47,7 +47,7 @@ impl Revocations {
         Ok(())
     }
 
-    /// Puts the rows of those certificates that are neither signed nor revoked, where these are revoked.
+    /// Appends the rows of the certificates that are neither signed nor revoked by these revocations.
     pub fn push_waiting(
         &self,
         rows: &mut Vec<Pending>,
@@ -62,7 +62,7 @@ impl Revocations {
     }
 }
 
-/// The place behind so many certificates from a place on.
+/// The place after these certificates, of which the first is at the given place.
 pub fn place_behind(place: u64, certificates: &[Certificate]) -> Result<u64, NoMemory>
     ensures { IfOk result (λ next. next ≡ place + length certificates.now) }
 {
@@ -72,7 +72,7 @@ pub fn place_behind(place: u64, certificates: &[Certificate]) -> Result<u64, NoM
     }
 }
 
-/// Whether the key id is one of them.
+/// Whether the key ID is among these.
 pub fn has_key_id(key_ids: &[Text], key_id: &[u8]) -> bool
     ensures { result ≡ list_any (λ k. bytes_eq k key_id.now) key_ids.now }
 {

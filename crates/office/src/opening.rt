@@ -1,4 +1,4 @@
-//! What an office begins with.
+//! The initial configuration of an office.
 
 ghost use Rattle.std.specs.Prelude.{◌≡◌, IfOk, string_bytes};
 ghost use Rattle.office.specs.Openings.{IsOpening, made_opening};
@@ -6,14 +6,14 @@ ghost use Rattle.office.specs.Openings.{IsOpening, made_opening};
 use text::Text;
 use values::{LAST_SERIAL, is_name};
 
-/// What an office begins with and keeps for good.
+/// The initial configuration of an office, which never changes.
 #[derive(Drop)]
 pub struct Opening {
     /// The Ed25519 public key of the first CA.
     pub ca: [u8; 32],
-    /// The name of the caller who may do all but deliver signatures.
+    /// The name of the caller who may do everything except deliver signatures (not Unix root).
     pub root: Text,
-    /// The name of the caller who delivers signatures.
+    /// The name of the caller who delivers signatures: the signing station.
     pub station: Text,
     /// The first serial, from 1 on.
     pub first: u64,
@@ -21,19 +21,19 @@ pub struct Opening {
     pub last: u64,
 }
 
-/// Why an office can't begin so, in the order in which it is looked at.
+/// Why an initial configuration is invalid, in the order in which the faults are checked.
 #[derive(Clone, Copy, Debug, PartialEq, Eq)]
 pub enum OpeningFault {
-    /// Root or the station has no name of 1 to 32 bytes of `a-z 0-9 -`.
+    /// The name of root or of the station isn't 1 to 32 bytes of `a-z 0-9 -`.
     BadName,
     /// Root and the station have the same name.
     SameName,
-    /// It isn't so that 1 <= first <= last <= 9223372036854775806.
+    /// The serials violate 1 <= first <= last <= 9223372036854775806.
     BadSerials,
 }
 
 impl Opening {
-    /// An opening of these values, or the first fault in the order of `OpeningFault`. It takes no memory, and on a
+    /// An opening with these values, or the first fault in the order of `OpeningFault`. It allocates nothing, and on a
     /// fault the texts are dropped.
     pub fn new(
         ca: [u8; 32],

@@ -83,7 +83,7 @@ fn are_extensions_permitted(department: &Department, issue: &Issue) -> bool
         .all(|name| department.extensions.contains(name.as_slice()))
 }
 
-/// Whether the department's profile permits what is asked for.
+/// Whether the department's profile permits what the issue asks for.
 pub(crate) fn is_permitted(department: &Department, issue: &Issue) -> bool
     ensures { result ≡ is_permitted department.now issue.now }
 {
@@ -93,7 +93,7 @@ pub(crate) fn is_permitted(department: &Department, issue: &Issue) -> bool
         && is_life_permitted(department, issue.after, issue.before)
 }
 
-/// Whether the department's profile permits what the certificate has, for the validity asked for.
+/// Whether the department's profile permits the certificate's contents, for the requested validity.
 pub(crate) fn is_renewal_permitted(
     department: &Department,
     certificate: &Certificate,

@@ -1,48 +1,48 @@
-//! What a register shows of its office.
+//! The data that a register returns about its office.
 
 use krl::{CaPart, KrlHead};
 use text::{Text, Texts};
 use values::Kind;
 
-/// A certificate that waits for its signature.
+/// A certificate that awaits its signature.
 #[derive(Clone, Copy)]
 pub struct Pending {
     pub serial: u64,
-    /// The SHA-256 of the body, as 64 hexadecimal digits in lower case.
+    /// The SHA-256 of the body (the unsigned certificate), as 64 hexadecimal digits in lower case.
     pub digest: [u8; 64],
 }
 
-/// A certificate of a serial.
+/// The certificate for a serial.
 #[derive(Drop)]
 pub struct Issued {
     pub key_id: Text,
-    /// The body with its signature (PROTOCOL.certkeys), or none where it isn't signed.
+    /// The body with its signature (PROTOCOL.certkeys), or none if it isn't signed.
     pub certificate: Option<Text>,
 }
 
-/// What the published list is made of.
+/// The contents of the published list (the KRL).
 #[derive(Drop)]
 pub struct Revoked {
     /// The list's version and date.
     pub head: KrlHead,
-    /// The revoked serials of each CA, by number.
+    /// The revoked serials of each CA, by the CA's number.
     pub parts: Vec<CaPart>,
-    /// The revoked key ids, ascending.
+    /// The revoked key IDs, ascending.
     pub key_ids: Texts,
 }
 
-/// What became of a certificate.
+/// The status of a certificate.
 #[derive(Clone, Copy, PartialEq, Eq)]
 pub enum Standing {
     /// It is neither signed nor revoked.
     Pending,
     /// It is signed, and not revoked.
     Signed,
-    /// Its serial or its key id is revoked.
+    /// Its serial or its key ID is revoked.
     Revoked,
 }
 
-/// A certificate, as a report lists it.
+/// A certificate's entry in a report.
 #[derive(Drop)]
 pub struct Entry {
     pub serial: u64,

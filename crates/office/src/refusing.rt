@@ -1,4 +1,4 @@
-//! What is refused of departments and issues.
+//! The refusals of department and issue messages.
 
 ghost use Rattle.std.specs.Prelude.{◌≡◌, ◌≤◌, ℕ, None, IfSome, IsSome, IsTrue, option_copied};
 ghost use Rattle.values.specs.declared.kind.Kind.{Kind};
@@ -24,7 +24,7 @@ fn is_same_kind(kind: Kind, other: Kind) -> bool
     }
 }
 
-/// The refusal of a department's message with the least number.
+/// The refusal with the least number for a department message.
 pub(crate) fn refusal_of_department(
     view: &View,
     caller: &[u8],
@@ -45,7 +45,7 @@ pub(crate) fn refusal_of_department(
     None
 }
 
-/// The refusal of an issue with the least number.
+/// The refusal with the least number for an issue.
 pub(crate) fn refusal_of_issue(
     view: &View,
     caller: &[u8],

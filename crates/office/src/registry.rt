@@ -1,4 +1,4 @@
-//! What the layers above see of a store.
+//! The interface of a store to the layers above.
 
 ghost use Rattle.std.specs.Prelude.{◌≡◌, ◌++◌, [], ◌∷◌, List, OnOk, OnErr, IfErr};
 ghost use Rattle.office.specs.declared.opening.Opening.{Opening};
@@ -22,35 +22,36 @@ use message::Department;
 use std::alloc::Global;
 use text::Text;
 
-/// An office's register: what the tables, or the lists in memory, do for the layers above.
+/// An office's register: the operations that the tables, or the lists in memory, offer to the layers above.
 ///
-/// Each call's clauses are asked of an honest register alone, as the call leaves it: honesty only falls. What a call
-/// answers was asked of an open register, and the register is open after the answer. A register that a failed disk has
-/// shut stays shut, and answers faults alone. A reading call leaves what the register means as it is, and so does a
-/// fault; while the register is open, all that is kept is as before then, even where it means no history, as in damaged
-/// tables. `Device` is answered only where the database failed, or refused what was to be kept of an arrival, and a
-/// register that means a history answers no other fault but want of memory.
+/// A register is honest while its disk has been faithful; once lost, honesty doesn't return. The clauses of a call,
+/// other than `cause`, assume that the register is honest after it. A call that answers was made on an open register,
+/// and leaves it open; a register that a failed disk has shut stays shut and only returns faults. A reading call
+/// preserves what the register means, and so does a fault; while the register is open, the stored rows are then
+/// unchanged too, even if they mean no history, for example in damaged tables. `Device` is returned only if the
+/// database failed, or refused the rows of an arrival, and a register that means a history returns no other fault than
+/// lack of memory.
 pub trait Registry {
-    /// So far every answer of the disk was true.
+    /// So far every answer of the disk was faithful.
     ghost is_honest: { Self → Type 0 };
 
     /// No failed disk has shut it.
     ghost is_open: { Self → Type 0 };
 
-    /// What is kept is the same in both, whatever it means.
+    /// The stored rows are the same in both, whatever they mean.
     ghost is_as_before: { Self → Self → Type 0 };
 
-    /// Between the two the database failed, or it was shut before.
+    /// The database failed between the two, or the register was shut before.
     ghost fails: { Self → Self → Type 0 };
 
-    /// So it was, or the rules of the database refused what was to be kept of this arrival.
+    /// As `fails`, or the constraints of the database refused the rows of this arrival.
     ghost stops: { Self → Self → Arrival → Type 0 };
 
-    /// Where no failed disk has shut it, it shows the office of this lawful opening after this history.
+    /// Unless a failed disk has shut it, it shows the office with this valid opening after this history.
     ghost means: { Self → Opening → List Arrival → Type 0 };
 
-    /// One arrival after those before it: the kept reply, a first acceptance or a refusal, as is due. After a fault the
-    /// register is as before.
+    /// Handles the next arrival: the stored reply, a first acceptance or a refusal, as specified. After a fault the
+    /// register means what it meant.
     fn apply(&mut self, alloc: Global, arrival: Arrival) -> Result<Outcome, StoreFault>
         ensures failures { FailuresPersist is_honest is_open self.old self.new }
         ensures stays_open { is_honest self.new → OnOk result (is_open self.new) }
@@ -69,7 +70,7 @@ pub trait Registry {
         ensures cause { IfErr result (λ e. HasCause e (fails self.old self.new)) }
         ensures only { is_honest self.new → FailsAsARegister means self.old result };
 
-    /// The body of a serial, or `None` where it wasn't issued.
+    /// The body (the unsigned certificate) for a serial, or `None` if the serial wasn't issued.
     fn body(&mut self, alloc: Global, serial: u64) -> Result<Option<Text>, StoreFault>
         ensures preserves { Preserves is_honest is_open is_as_before means self.old self.new }
         ensures stays_open { is_honest self.new → OnOk result (is_open self.new) }
@@ -78,7 +79,7 @@ pub trait Registry {
         ensures cause { IfErr result (λ e. HasCause e (fails self.old self.new)) }
         ensures only { is_honest self.new → FailsAsARegister means self.old result };
 
-    /// The certificate of a serial, or `None` where it wasn't issued.
+    /// The certificate for a serial, or `None` if the serial wasn't issued.
     fn certificate(&mut self, alloc: Global, serial: u64) -> Result<Option<Issued>, StoreFault>
         ensures preserves { Preserves is_honest is_open is_as_before means self.old self.new }
         ensures stays_open { is_honest self.new → OnOk result (is_open self.new) }
@@ -87,7 +88,7 @@ pub trait Registry {
         ensures cause { IfErr result (λ e. HasCause e (fails self.old self.new)) }
         ensures only { is_honest self.new → FailsAsARegister means self.old result };
 
-    /// What the published list is made of.
+    /// The contents of the published list.
     fn revoked(&mut self, alloc: Global) -> Result<Revoked, StoreFault>
         ensures preserves { Preserves is_honest is_open is_as_before means self.old self.new }
         ensures stays_open { is_honest self.new → OnOk result (is_open self.new) }
@@ -105,7 +106,7 @@ pub trait Registry {
         ensures cause { IfErr result (λ e. HasCause e (fails self.old self.new)) }
         ensures only { is_honest self.new → FailsAsARegister means self.old result };
 
-    /// The serials and the key ids that are revoked.
+    /// The serials and the key IDs that are revoked.
     fn revocations(&mut self, alloc: Global) -> Result<Revocations, StoreFault>
         ensures preserves { Preserves is_honest is_open is_as_before means self.old self.new }
         ensures stays_open { is_honest self.new → OnOk result (is_open self.new) }
@@ -114,8 +115,7 @@ pub trait Registry {
         ensures cause { IfErr result (λ e. HasCause e (fails self.old self.new)) }
         ensures only { is_honest self.new → FailsAsARegister means self.old result };
 
-    /// Certificates by serial, the first of which stands at place 0: those from this place on, of many the first 1000.
-    /// At the end there is none.
+    /// Certificates by serial, the first at place 0: at most 1000 of them from this place on, and none at the end.
     fn certificates(&mut self, alloc: Global, place: u64) -> Result<Vec<Certificate>, StoreFault>
         ensures preserves { Preserves is_honest is_open is_as_before means self.old self.new }
         ensures stays_open { is_honest self.new → OnOk result (is_open self.new) }
@@ -124,8 +124,8 @@ pub trait Registry {
         ensures cause { IfErr result (λ e. HasCause e (fails self.old self.new)) }
         ensures only { is_honest self.new → FailsAsARegister means self.old result };
 
-    /// The certificates that are neither signed nor revoked, by serial. A register that has nothing better looks through
-    /// all certificates.
+    /// The certificates that are neither signed nor revoked, by serial. The default implementation looks through all
+    /// certificates.
     fn pending(&mut self, alloc: Global) -> Result<Vec<Pending>, StoreFault>
         ensures preserves { Preserves is_honest is_open is_as_before means self.old self.new }
         ensures stays_open { is_honest self.new → OnOk result (is_open self.new) }
@@ -148,12 +148,12 @@ pub trait Registry {
         }
     }
 
-    /// What is kept is the same if nothing is asked.
+    /// The stored rows are the same if no call is made.
     ghost unasked: { (s : Self) → is_as_before s s };
 
-    /// What is kept is the same after two calls, one after the other, if it is after each of them.
+    /// The stored rows are the same after two successive calls if they are after each of them.
     ghost through: { (a b c : Self) → is_as_before a b → is_as_before b c → is_as_before a c };
 
-    /// It shows no office whose opening isn't lawful, nor one whose version has none after it.
+    /// It shows no office whose opening is invalid, nor one whose version has no successor.
     ghost lawful: { (s : Self) (o : Opening) (l : List Arrival) → means s o l → IsOffice o l };
 }

@@ -19,7 +19,7 @@ use message::Renewal;
 use std::alloc::Global;
 use values::Refusal;
 
-/// The refusal of a renewal with the least number.
+/// The refusal with the least number for a renewal.
 fn refusal_of_renewal(view: &View, caller: &[u8], renewal: &Renewal, moment: u64) -> Option<Refusal>
     ensures least { (s : State) → Agrees view.now s (message.Renew renewal.now)
         → result ≡ first_holding (renewal_refusals s caller.now renewal.now moment) }
@@ -57,7 +57,7 @@ fn refusal_of_renewal(view: &View, caller: &[u8], renewal: &Renewal, moment: u64
     None
 }
 
-/// The certificate once more, under the next serial and for the validity asked for.
+/// The renewed certificate, under the next serial and with the requested validity.
 fn renewed(
     alloc: Global,
     view: &View,
@@ -81,7 +81,7 @@ fn renewed(
     certified(alloc, view, &old.department, fields)
 }
 
-/// A certificate once more.
+/// The decision on a renewal.
 pub(crate) fn decide_renewal(
     alloc: Global,
     view: &View,

@@ -8,7 +8,7 @@ use std::alloc::Global;
 use text::{NoMemory, Text};
 use values::put_decimal;
 
-/// A line of these words and this text, at the end of the reply.
+/// Appends a line with these words and this text to the reply.
 fn put_text(reply: &mut Vec<u8>, words: &[u8], text: &[u8]) -> Result<(), NoMemory>
     ensures { OnOk result (reply.new.items ≡ reply.old.items ++ words.now ++ text.now ++ 10 ∷ []) }
 {
@@ -18,7 +18,7 @@ fn put_text(reply: &mut Vec<u8>, words: &[u8], text: &[u8]) -> Result<(), NoMemo
     Ok(())
 }
 
-/// A line of these words and this number, at the end of the reply.
+/// Appends a line with these words and this number to the reply.
 fn put_number(reply: &mut Vec<u8>, words: &[u8], number: u64) -> Result<(), NoMemory>
     ensures { OnOk result (reply.new.items ≡ reply.old.items ++ words.now ++ decimal number ++ 10 ∷ []) }
 {

@@ -61,7 +61,7 @@ fn refusal_of_key_id(view: &View, caller: &[u8], key_id: &Text) -> Option<Refusa
     }
 }
 
-/// All that is to be revoked is.
+/// The decision if everything to be revoked already is.
 fn unchanged(alloc: Global, view: &View) -> Result<Decision, Stop>
     ensures { IsMade result (unpublished view.now (revocation_reply view.now.version) change.Nothing) }
 {
@@ -69,7 +69,7 @@ fn unchanged(alloc: Global, view: &View) -> Result<Decision, Stop>
     Ok(unpublished(view, reply, Change::Nothing))
 }
 
-/// More serials are revoked.
+/// The decision that revokes more serials.
 fn with_range(alloc: Global, view: &View, range: SerialRange, moment: u64) -> Result<Decision, Stop>
     requires { view.now.version < 9223372036854775807 }
     ensures { IsMade result
@@ -79,7 +79,7 @@ fn with_range(alloc: Global, view: &View, range: SerialRange, moment: u64) -> Re
     Ok(published(view, reply, Change::Range(range), moment))
 }
 
-/// One more key id is revoked.
+/// The decision that revokes one more key ID.
 fn with_key_id(alloc: Global, view: &View, key_id: &Text, moment: u64) -> Result<Decision, Stop>
     requires { view.now.version < 9223372036854775807 }
     ensures { IsMade result
@@ -90,7 +90,7 @@ fn with_key_id(alloc: Global, view: &View, key_id: &Text, moment: u64) -> Result
     Ok(published(view, reply, Change::KeyId(key_id), moment))
 }
 
-/// The revocation of a serial.
+/// The decision on revoking a serial.
 pub(crate) fn decide_serial(
     alloc: Global,
     view: &View,
@@ -120,7 +120,7 @@ pub(crate) fn decide_serial(
     with_range(alloc, view, range, moment)
 }
 
-/// The revocation of the serials of a range.
+/// The decision on revoking the serials of a range.
 pub(crate) fn decide_range(
     alloc: Global,
     view: &View,
@@ -145,7 +145,7 @@ pub(crate) fn decide_range(
     with_range(alloc, view, range, moment)
 }
 
-/// The revocation of a key id.
+/// The decision on revoking a key ID.
 pub(crate) fn decide_key_id(
     alloc: Global,
     view: &View,

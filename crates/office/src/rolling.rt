@@ -1,4 +1,4 @@
-//! CAs that come after others.
+//! Rollovers: new CAs that sign from the next serial on.
 
 ghost use Rattle.std.specs.Prelude.{◌≡◌, ◌<◌, ◌≤◌, ◌+◌, ℕ, List, None, IfOk, length};
 ghost use Rattle.message.specs.declared.kinds.Message.TheVariants as message;
@@ -21,7 +21,7 @@ fn is_ca(cas: &[Ca], key: &[u8]) -> bool
     cas.iter().any(|ca| ca.key.as_slice() == key)
 }
 
-/// The refusal of a rollover with the least number.
+/// The refusal with the least number for a rollover.
 fn refusal_of_rollover(view: &View, caller: &[u8], line: &KeyLine) -> Option<Refusal>
     ensures least { (s : State) → Agrees view.now s (message.Rollover line.now)
         → result ≡ first_holding (rollover_refusals s caller.now line.now.key) }
@@ -39,7 +39,7 @@ fn refusal_of_rollover(view: &View, caller: &[u8], line: &KeyLine) -> Option<Ref
     None
 }
 
-/// Another CA. Where key ids are revoked, the published list has a section more.
+/// The decision on a new CA. If key IDs are revoked, the published list gets one more section.
 pub(crate) fn decide_rollover(
     alloc: Global,
     view: &View,

@@ -1,4 +1,4 @@
-//! What is shown of a certificate, and of the revoked serials.
+//! The published data of a certificate, and of the revoked serials.
 
 ghost use Rattle.std.specs.Prelude.{◌≡◌, IfOk};
 ghost use Rattle.std.specs.Option.{option_map};
@@ -17,7 +17,7 @@ use std::alloc::{AllocError, Global};
 use text::{NoMemory, Text};
 
 impl Certificate {
-    /// What is shown of it while it waits for its signature.
+    /// Its row in the list of pending certificates.
     pub fn pending_row(&self) -> Pending
         ensures { result ≡ pending_row self.now }
     {
@@ -27,7 +27,7 @@ impl Certificate {
         }
     }
 
-    // The body with its signature, if there is one.
+    // The body (the unsigned certificate) with its signature, if there is one.
     fn joined(&self, alloc: Global) -> Result<Option<Text>, NoMemory>
         ensures { IfOk result (λ joined. joined ≡ option_map
             (λ signature. certificate_text self.now.body signature.bytes) self.now.signature) }
@@ -41,7 +41,7 @@ impl Certificate {
         }
     }
 
-    /// What is shown of it to who asks for its serial.
+    /// The answer to a query for its serial.
     pub fn issued_row(&self, alloc: Global) -> Result<Issued, NoMemory>
         ensures { IfOk result (λ issued. issued ≡ issued_row self.now) }
     {
@@ -63,7 +63,7 @@ impl Certificate {
         }
     }
 
-    /// What a report lists of it, where it is revoked or not.
+    /// Its entry in a report, given whether it is revoked.
     pub fn entry(&self, alloc: Global, is_revoked: bool) -> Result<Entry, NoMemory>
         ensures { IfOk result (λ entry. entry ≡ entry_as (standing_as is_revoked self.now) self.now) }
     {
@@ -94,8 +94,8 @@ fn zipped(alloc: Global, cas: &[Ca], split: Vec<Runs>) -> Result<Vec<CaPart>, Al
         .collect(alloc)
 }
 
-/// A part for each CA: those of the serials that it signs, which are the ones from its first serial to the next CA's.
-/// No CA serves from an earlier serial on than the one before it.
+/// A part for each CA: those of the serials that it signs, from its first serial up to the next CA's.
+/// No CA has an earlier first serial than the CA before it.
 pub fn parts_of(alloc: Global, cas: &[Ca], serials: &Runs) -> Result<Vec<CaPart>, NoMemory>
     requires { IsNonDecreasing (numbers cas.now) }
     ensures { IfOk result (λ parts. AreParts parts.items cas.now serials.now) }

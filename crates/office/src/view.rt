@@ -1,4 +1,4 @@
-//! What a decision reads, and what it says.
+//! The input and the output of a decision.
 
 ghost use Rattle.std.specs.Prelude.{◌≡◌};
 ghost use Rattle.office.specs.declared.view.Stop.TheVariants.{NoMemory};
@@ -11,11 +11,11 @@ use message::{Department, SerialRange};
 use text::Text;
 use values::Refusal;
 
-/// The rows that a message concerns, as `concerned` names them, and the office's own row.
+/// The rows that a message concerns, as given by `concerned`, and the office's own row.
 #[derive(Drop)]
 pub struct View<'a> {
     pub opening: &'a Opening,
-    /// The serial to be handed out next, at most the last and one.
+    /// The serial to be handed out next, at most one after the last.
     pub next: u64,
     /// The version of the published list.
     pub version: u64,
@@ -23,38 +23,38 @@ pub struct View<'a> {
     pub date: u64,
     /// The CAs by number.
     pub cas: &'a [Ca],
-    /// The department concerned, if it is there: that of the certificate concerned where the message names a serial.
+    /// The department concerned, if it exists: that of the certificate concerned if the message names a serial.
     pub department: Option<&'a Department>,
-    /// The certificate concerned, if it is there.
+    /// The certificate concerned, if it exists.
     pub certificate: Option<&'a Certificate>,
-    /// Whether the serial concerned, or each of the range concerned, is revoked.
+    /// Whether the serial concerned, or each serial of the range concerned, is revoked.
     pub is_revoked: bool,
-    /// Whether the key id concerned, or that of the certificate concerned, is revoked.
+    /// Whether the key ID concerned, or that of the certificate concerned, is revoked.
     pub is_key_id_revoked: bool,
-    /// Whether any key id is revoked.
+    /// Whether any key ID is revoked.
     pub has_revoked_key_ids: bool,
 }
 
-/// What is to be written.
+/// A change to be written.
 #[derive(Drop)]
 pub enum Change {
-    /// Nothing: all is as the message asks.
+    /// Nothing: everything already is as the message asks.
     Nothing,
-    /// A department, put in the place of the one of its name if there is one.
+    /// A department, which replaces the one with its name if there is one.
     Department(Department),
     /// A certificate, under the next serial.
     Certificate(Certificate),
-    /// A signature, which the certificate of the serial keeps.
+    /// A signature for the certificate with this serial.
     Signature { serial: u64, signature: Signature },
-    /// Serials that are to be revoked, of which some may be already.
+    /// Serials to be revoked, some of which may be already.
     Range(SerialRange),
-    /// A key id that is to be revoked.
+    /// A key ID to be revoked.
     KeyId(Text),
     /// A CA, with the next number.
     Ca(Ca),
 }
 
-/// What an accepted message is answered, and what it changes.
+/// The answer to an accepted message, and the change it makes.
 #[derive(Drop)]
 pub struct Decision {
     /// The reply's text.
@@ -73,7 +73,7 @@ pub struct Decision {
 pub enum Stop {
     /// The refusal with the least number.
     Refused(Refusal),
-    /// A growth was refused.
+    /// An allocation was refused.
     NoMemory,
 }
 

@@ -1,4 +1,4 @@
--- Bodies stay, and name the CA that signs them.
+-- Bodies (unsigned certificates) never change, and name the CA that signs them.
 use Rattle.std.proofs.Common.{◌≡◌, ℕ, zero, suc, ◌+◌, ◌-◌, ◌<◌, List, [], ◌∷◌, ◌++◌, ◌⊎◌, length, map, fold}
 use Rattle.std.proofs.Common.{cond, ltb, Bool, true, false, Option, Some, None}
 use Rattle.std.proofs.Common.{refl, sym, ap, subst, ◌∙◌, inl, inr, arith}
@@ -23,7 +23,7 @@ use Rattle.office_laws.proofs.Shape.{AreCas, Rise, cas_each, opened_cas}
 
 -- ---- lists
 
--- what stands at a place stands there with one more at the end
+-- an element stays at its place when one is added at the end
 pub there_push : {X : Type 0} (xs : List X) (y : X) (n : ℕ) (x : X) → slice_get xs n ≡ Some x
     → slice_get (xs ++ y ∷ []) n ≡ Some x
 there_push [] y n x e = absurd cc
@@ -38,7 +38,7 @@ at_push (z ∷ xs) y zero x e = inl e
 at_push (z ∷ xs) y (suc n) x e =
     elim (at_push xs y n x e) [ inl there ↦ inl there | inr last ↦ inr (ap suc last.0, last.1) ]
 
--- what a signature leaves of certificates
+-- a signature leaves everything else in the certificates as it is
 pub map-signed_at : {X : Type 0} (f : Certificate → X)
     → ((c : Certificate) (signature : Signature) → f (record c { signature = Some signature }) ≡ f c)
     → (cs : List Certificate) (place : ℕ) (signature : Signature) → map f (signed_at cs place signature) ≡ map f cs
@@ -46,7 +46,7 @@ map-signed_at f same [] place signature = refl
 map-signed_at f same (c ∷ cs) zero signature = ap (λ x. x ∷ map f cs) (same c signature)
 map-signed_at f same (c ∷ cs) (suc place) signature = ap (λ xs. f c ∷ xs) (map-signed_at f same cs place signature)
 
--- ---- a body stays
+-- ---- bodies never change
 
 -- the body of the certificate at a place
 abbrev body_at : List Certificate → ℕ → Option (List ℕ)
@@ -82,7 +82,7 @@ body_stays o l later serial body = always_more (λ s. body_of s serial ≡ Some 
 
 -- ---- the CA that a body names
 
--- the newest of CAs that had all come signs
+-- the newest CA signs if all CAs had been added by then
 newest_signs : (n from : ℕ) (key other : List ℕ) (ca : Ca) (cas : List Ca) → Rise from (ca ∷ cas) n
     → fold (key_at n) key (ca ∷ cas) ≡ key_or other (slice_get (ca ∷ cas) (length cas))
 newest_signs n from key other ca [] h = rw (le-leb ca.since n h.1) refl
@@ -98,7 +98,7 @@ newest_is_signer s are =
     (sym are.first.2) (λ rise. ap (λ k. key_or s.opening.ca (slice_get (ca ∷ rest) k)) last
     ∙ sym (newest_signs (next_serial s) s.opening.first s.opening.ca s.opening.ca ca rest rise)) are.rise
 
--- a CA that comes later doesn't sign
+-- a CA that is added later doesn't sign
 pub later_signs_not : (s : State) (key : List ℕ) (n : ℕ) → n < next_serial s
     → signer_of (with_ca s (ca_from_now s key)) n ≡ signer_of s n
 later_signs_not s key n lt =
@@ -107,7 +107,7 @@ later_signs_not s key n lt =
 abbrev unsigned : Certificate → Certificate
 unsigned c = record c { signature = None }
 
--- each certificate at a place has the body for its serial, signed or not
+-- each certificate has the body for the serial at its place, signed or not
 abbrev AreBodies : State → Type 0
 AreBodies s = (n : ℕ) (c : Certificate) → slice_get (map unsigned s.certificates) n ≡ Some c
     → IsBodyFor (s.opening.first + n) (signer_of s (s.opening.first + n)) c
@@ -132,7 +132,7 @@ under_more_cas s key bodies n c e =
     let lt : s.opening.first + n < next_serial s = omega (arith, within, length-map s.certificates unsigned) in
     rw (later_signs_not s key (s.opening.first + n) lt) old
 
--- the CAs and the bodies together
+-- both invariants, of the CAs and of the bodies
 record AreSigned (s : State) : Type 0 where
   cas : AreCas s
   bodies : AreBodies s

@@ -1,4 +1,4 @@
--- The message of an arrival's bytes.
+-- The message in an arrival's bytes.
 use Rattle.std.proofs.Common.{◌≡◌, ◌↔◌, ℕ, List, Some, ap, subst, ◌∙◌}
 use Rattle.std.proofs.lemmas.Bool.{and_parts}
 use Rattle.std.proofs.lemmas.Option.{cond_some, option_and_then_some}
@@ -19,7 +19,7 @@ belongs bytes m e =
     let both = and_parts (is_message n) _ is.0 in
     subst (BelongsTo bytes) is.1 (both.0, (bytes_eq-Decides bytes (message_text n)).0 both.1))
 
--- the message of bytes is the one to which they belong
+-- the message in bytes is the one to which they belong
 pub with_text_exactly : (bytes : List ℕ) (m : Message) → (message_with_text bytes ≡ Some m) ↔ BelongsTo bytes m
 with_text_exactly bytes m =
     (belongs bytes m, λ is. read_is bytes m (ap message_at is.1 ∙ message_again m is.0) is.0 is.1)

@@ -1,4 +1,4 @@
--- Serials count up.
+-- Serials are consecutive.
 use Rattle.std.proofs.Common.{◌≡◌, ℕ, ◌-◌, List, [], ◌∷◌, ◌++◌, length, map, Bool, true, false, cond}
 use Rattle.std.proofs.Common.{Option, Some, None, refl, sym, ap, subst, ◌∙◌, length-append, add-one}
 use Rattle.std.specs.Prelude.{is_none, filter}
@@ -46,14 +46,14 @@ counted_each s moment in_time e =
 
 -- ---- replies
 
--- the replies of these certificates are those of others, and more
+-- the replies for these certificates are those for the state's, followed by `more`
 abbrev Adds : State → List Certificate → List (List ℕ) → Type 0
 Adds s cs more = map reply_of cs ≡ map reply_of s.certificates ++ more
 
 nothing : (s : State) → Adds s s.certificates []
 nothing s = sym (append-nil (map reply_of s.certificates))
 
--- a message that makes no certificate and may change the rest
+-- a message that makes no certificate, whether it changes the state or not
 same_or : (b : Bool) (s t u : State) → t.certificates ≡ s.certificates → u.certificates ≡ s.certificates
     → Adds s (cond b t u).certificates []
 same_or true s t u p q = ap (map reply_of) p ∙ nothing s
@@ -81,7 +81,7 @@ after_adds s caller (message.RevokeKeyId key_id) moment nonce allowed =
 after_adds s caller (message.Rollover k) moment nonce allowed = same_or (has_any s.revoked_key_ids) s _ _ refl refl
 after_adds s caller m moment nonce allowed = nothing s
 
--- one more reply
+-- the issue replies with one more first acceptance
 replies_push : (fs : List First) (f : First) → issue_replies (fs ++ f ∷ []) ≡ issue_replies fs ++ cond (is_issuing f.message) (f.reply ∷ []) []
 replies_push fs f =
     ap (map (λ x. x.reply)) (filter-append (λ x. is_issuing x.message) fs (f ∷ []))
@@ -94,7 +94,7 @@ replies_kept fs s f is before =
     replies_push fs f ∙ ap (λ xs. xs ++ cond (is_issuing f.message) (f.reply ∷ []) []) before
     ∙ ap (λ (x : List ℕ). map reply_of s.certificates ++ cond (is_issuing f.message) (x ∷ []) []) is.reply ∙ sym adds
 
--- serials count up
+-- serials are consecutive
 pub serials_counted : (o : Opening) (l : List Arrival) → CountsUp o l
 serials_counted o l = record {
   replies = after_all (λ fs s. issue_replies fs ≡ map reply_of s.certificates) replies_kept o l refl;

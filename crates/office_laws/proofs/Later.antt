@@ -1,4 +1,4 @@
--- A later list revokes what an earlier one does.
+-- A later list revokes everything that an earlier one does.
 use Rattle.std.proofs.Common.{◌≡◌, ℕ, ◌-◌, ◌<◌, List, [], ◌∷◌, ◌++◌, true, ◌&&◌, Some}
 use Rattle.std.proofs.Common.{sym, ap, ◌∙◌, inl, inr, arith, length-append}
 use Rattle.std.specs.Prelude.{slice_get}

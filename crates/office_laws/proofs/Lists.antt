@@ -1,4 +1,4 @@
--- The published list revokes just what was named.
+-- The published list revokes exactly the serials and key IDs that accepted messages named.
 use Rattle.std.proofs.Common.{◌≡◌, ◌≢◌, ℕ, zero, suc, ◌+◌, ◌≤◌, ◌^◌, List, [], ◌∷◌, length, map, fold, Bool}
 use Rattle.std.proofs.Common.{true, false, ◌&&◌, ◌||◌, leb, Some, refl, sym, ap, ap₂, subst, ◌∙◌, inl, inr, arith}
 use Rattle.std.specs.Prelude.{slice_get}
@@ -49,7 +49,7 @@ parts_distinct : (s : State) (from : ℕ) (cas : List Ca) → AreDistinct cas �
 parts_distinct s from [] d = tt
 parts_distinct s from (c ∷ cas) d = (part_others s (suc from) cas c.key d.0, parts_distinct s (suc from) cas d.1)
 
--- a part is a CA's
+-- each part belongs to a CA
 part_of_ca : (s : State) (from : ℕ) (cas : List Ca) (q : CaPart) → IsCaPartOf q (parts_from s from cas) → (place : ℕ) × (ca : Ca) × (slice_get cas place ≡ Some ca) × (q.ca ≡ ca.key)
 part_of_ca s from [] q there = absurd there
 part_of_ca s from (c ∷ cas) q (inl same) = (0, c, refl, sym (ap (λ (p : CaPart). p.ca) same))
@@ -60,7 +60,7 @@ parts_runs : (s : State) (from : ℕ) (cas : List Ca) → next_serial s ≤ 2 ^ 
 parts_runs s from [] le = tt
 parts_runs s from (c ∷ cas) le = (runs_in_runs (is_revoked_under s from) s.opening.first (length s.certificates) le, parts_runs s (suc from) cas le)
 
--- ---- what they revoke
+-- ---- the serials that the parts revoke
 
 within : (a b c : Bool) → (b ≡ true → a ≡ true) → (a && (b && c)) ≡ (b && c)
 within false true c h = absurd (cc (h refl))
@@ -79,7 +79,7 @@ serials_fit o l is =
     let fits = last_of o is in
     omega arith
 
--- a revoked serial is in the part of its signer
+-- a serial belongs to the part of a CA exactly when the CA signs it
 signed_there : (o : Opening) (l : List Arrival) → IsOpening o → (place : ℕ) (ca : Ca) → slice_get (state o l).cas place ≡ Some ca → (n : ℕ) → (state o l).opening.first ≤ n
     → is_last_reached (map (λ c. c.since) (state o l).cas) place n ≡ is_signer ca (state o l) n
 signed_there o l is place ca e n low =

@@ -1,4 +1,4 @@
--- What is revoked is what messages named.
+-- Exactly the serials and key IDs that accepted messages named are revoked.
 use Rattle.std.proofs.Common.{◌≡◌, ℕ, ◌+◌, ◌-◌, List, [], ◌∷◌, ◌++◌, Bool, true, false, cond, ◌&&◌, ◌||◌, leb}
 use Rattle.std.proofs.Common.{eqb, Ordering, Less, Equal, Greater, Option, Some, None, refl, sym, ap, ◌∙◌, arith}
 use Rattle.std.specs.List.{list_any}
@@ -41,16 +41,16 @@ or_twice : (a c : Bool) → (a || c) ≡ ((a || c) || a)
 or_twice false true = refl
 or_twice a c = refl
 
--- ---- one thing that may be revoked, and a message
+-- ---- one serial or key ID, and a message
 
 module _ (get : State → Bool) (s : State) where
-  -- a message that names it, and changes the state unless all that it names is revoked
+  -- a message that may name it, and changes the state unless everything that it names is revoked
   named : (b : Bool) (t : State) (names : Bool) → (b ≡ true → names ≡ true → get s ≡ true)
       → get t ≡ (get s || names) → get (cond b s t) ≡ (get s || names)
   named true t names known e = or_known (get s) names (known refl)
   named false t names known e = e
 
-  -- a message that leaves it as it is
+  -- a message that doesn't affect it
   unnamed : (b : Bool) (t u : State) → get t ≡ get s → get u ≡ get s → get (cond b t u) ≡ (get s || false)
   unnamed true t u p q = p ∙ or_nothing (get s)
   unnamed false t u p q = q ∙ or_nothing (get s)
@@ -81,7 +81,7 @@ revoked_after n s (message.Rollover k) moment nonce =
     unnamed (λ t. t.revoked n) s (has_any s.revoked_key_ids) _ _ refl refl
 revoked_after n s m moment nonce = or_nothing (s.revoked n)
 
--- ---- key ids
+-- ---- key IDs
 
 abbrev pub has_key_id : List ℕ → List (List ℕ) → Bool
 has_key_id k ids = list_any (λ i. bytes_eq i k) ids
@@ -89,7 +89,7 @@ has_key_id k ids = list_any (λ i. bytes_eq i k) ids
 same_text : (t u : List ℕ) → slice_cmp nat_cmp t u ≡ Equal → t ≡ u
 same_text t u e = (bytes_eq-Decides t u).0 (sym (is_eq-slice_cmp t u) ∙ ap is_eq e)
 
--- the key ids with one more
+-- the key IDs with one more
 pub put_has : (t : List ℕ) (ids : List (List ℕ)) (k : List ℕ) → has_key_id k (put_text t ids) ≡ (has_key_id k ids || bytes_eq t k)
 put_has t [] k = or_swap (bytes_eq t k) false
 put_has t (u ∷ us) k = by_place (slice_cmp nat_cmp t u) refl (put_has t us k)
@@ -101,7 +101,7 @@ put_has t (u ∷ us) k = by_place (slice_cmp nat_cmp t u) refl (put_has t us k)
         or_twice (bytes_eq u k) (has_key_id k us) ∙ ap (λ (x : List ℕ). has_key_id k (u ∷ us) || bytes_eq x k) (sym (same_text t u e))
     by_place Greater e later = ap (λ b. bytes_eq u k || b) later ∙ sym (or_group (bytes_eq u k) (has_key_id k us) (bytes_eq t k))
 
--- a message revokes the key id that it names
+-- a message revokes the key ID that it names
 key_id_after : (k : List ℕ) (s : State) (m : Message) (moment : ℕ) (nonce : List ℕ)
     → is_key_id_revoked (after s m moment nonce) k ≡ (is_key_id_revoked s k || names_key_id k m)
 key_id_after k s (message.Renew r) moment nonce =

@@ -1,4 +1,4 @@
--- How the CAs of an office stand after every history.
+-- An invariant of the CAs of an office after every history.
 use Rattle.std.proofs.Common.{◌≡◌, ◌≢◌, ℕ, ◌+◌, ◌-◌, ◌≤◌, List, [], ◌∷◌, ◌++◌, length}
 use Rattle.std.proofs.Common.{false, refl, sym, ap, ◌∙◌, arith, length-append}
 use Rattle.std.specs.List.{AllByRecursion}
@@ -15,17 +15,17 @@ use Rattle.office.specs.History.{state}
 use Rattle.office.proofs.Growth.{length-signed_at}
 use Rattle.office.proofs.Changes.{IsKeptByEach, always}
 
--- no two CAs have one key
+-- no two CAs have the same key
 abbrev pub AreDistinct : List Ca → Type 0
 AreDistinct [] = Unit {0}
 AreDistinct (ca ∷ cas) = AllByRecursion (λ c. c.key ≢ ca.key) cas × AreDistinct cas
 
--- the CAs' first serials rise from one on, and up to another
+-- the CAs' first serials never decrease, and lie between `from` and `up_to`
 abbrev pub Rise : ℕ → List Ca → ℕ → Type 0
 Rise from [] up_to = from ≤ up_to
 Rise from (ca ∷ cas) up_to = (from ≤ ca.since) × Rise ca.since cas up_to
 
--- at least one CA, the first of which begins with the first serial; and no two alike
+-- there is a first CA, which serves from the first serial on; first serials never decrease, and keys are distinct
 pub record AreCas (s : State) : Type 0 where
   pub first : (ca : Ca) × (rest : List Ca) × (s.cas ≡ ca ∷ rest) × (ca.since ≡ s.opening.first)
   pub rise : Rise s.opening.first s.cas (next_serial s)
@@ -50,7 +50,7 @@ Distinct-push (c ∷ cas) ca new d =
     let other = λ (e : ca.key ≡ c.key). not_from_Decides _ (bytes_eq-Decides c.key ca.key) parts.0 (sym e) in
     (All-push (λ x. x.key ≢ c.key) cas ca d.0 other, Distinct-push cas ca parts.1 d.1)
 
--- the same CAs, while more serials are handed out
+-- the invariant holds if the CAs stay the same and more serials are handed out
 same_cas : (s t : State) → t.opening ≡ s.opening → t.cas ≡ s.cas → length s.certificates ≤ length t.certificates
     → AreCas s → AreCas t
 same_cas s t o c n are = record {

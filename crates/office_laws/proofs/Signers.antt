@@ -1,4 +1,4 @@
--- The signer of a serial is the CA that the published list has it under.
+-- The signer of a serial is the CA under which the published list has it.
 use Rattle.std.proofs.Common.{◌≡◌, ◌≢◌, ℕ, zero, suc, List, [], ◌∷◌, map, Bool, true, false}
 use Rattle.std.proofs.Common.{◌&&◌, leb, ltb, Some, refl, sym, ap, subst, ◌∙◌, inl, inr, add-one}
 use Rattle.std.specs.Prelude.{slice_get, slice_index, drop}
@@ -12,7 +12,7 @@ use Rattle.office_laws.specs.Signers.{key_at}
 use Rattle.office_laws.proofs.Shape.{AreDistinct}
 use Rattle.krl.proofs.Publishing.{bytes_other}
 
--- each CA came later
+-- each CA was added later
 abbrev pub are_later : ℕ → List Ca → Bool
 are_later n cas = list_all (λ since. ltb n since) (map (λ ca. ca.since) cas)
 
@@ -22,7 +22,7 @@ not_reached n since e = lt-leb since n (ltb-true n since e)
 reached : (n since : ℕ) → ltb n since ≡ false → leb since n ≡ true
 reached n since e = le-leb since n (ltb-false n since e)
 
--- CAs that came later sign nothing
+-- CAs that were added later sign nothing
 later_sign_nothing : (n : ℕ) (key : List ℕ) (cas : List Ca) → are_later n cas ≡ true → fold (key_at n) key cas ≡ key
 later_sign_nothing n key [] e = refl
 later_sign_nothing n key (ca ∷ cas) e =
@@ -32,12 +32,12 @@ later_sign_nothing n key (ca ∷ cas) e =
 key_not : (x key : List ℕ) (ca : Ca) (n : ℕ) → key ≢ x → ca.key ≢ x → key_at n key ca ≢ x
 key_not x key ca n p q = cond_both (leb ca.since n) ca.key key (λ k. k ≢ x) (λ _. q) (λ _. p)
 
--- other keys aren't the signer's
+-- a key that none of the CAs has isn't the signer's
 others_sign : (n : ℕ) (x key : List ℕ) (cas : List Ca) → AllByRecursion (λ ca. ca.key ≢ x) cas → key ≢ x → fold (key_at n) key cas ≢ x
 others_sign n x key [] all p = p
 others_sign n x key (ca ∷ cas) all p = others_sign n x (key_at n key ca) cas all.1 (key_not x key ca n p all.0)
 
--- once one that came by then is among the others, it or a later one signs
+-- once one of these CAs had been added, a key that none of them has is not the signer's
 one_signs : (n : ℕ) (x key : List ℕ) (cas : List Ca) → AllByRecursion (λ ca. ca.key ≢ x) cas → are_later n cas ≡ false → fold (key_at n) key cas ≢ x
 one_signs n x key [] all e = absurd cc
 one_signs n x key (ca ∷ cas) all e = elim (cases_Bool (ltb n ca.since)) [
@@ -45,7 +45,7 @@ one_signs n x key (ca ∷ cas) all e = elim (cases_Bool (ltb n ca.since)) [
   | inr is ↦ rw (reached n ca.since is) (others_sign n x ca.key cas all.1 all.0)
 ]
 
--- the first of CAs, once it came
+-- the first CA, if it had been added by then, signs exactly when all others were added later
 first_signs : (n : ℕ) (ca : Ca) (cas : List Ca) → AllByRecursion (λ c. c.key ≢ ca.key) cas → are_later n cas ≡ bytes_eq ca.key (fold (key_at n) ca.key cas)
 first_signs n ca cas all = by_test (are_later n cas) refl
   where
@@ -53,7 +53,7 @@ first_signs n ca cas all = by_test (are_later n cas) refl
     by_test true is = sym ((bytes_eq-Decides ca.key _).1 (sym (later_sign_nothing n ca.key cas is)))
     by_test false is = sym (bytes_other ca.key _ (λ e. one_signs n ca.key ca.key cas all is (sym e)))
 
--- the key of a CA among others
+-- a key that none of the CAs has differs from each of theirs
 other_there : (x : List ℕ) (cas : List Ca) (place : ℕ) (ca : Ca) → AllByRecursion (λ c. c.key ≢ x) cas → slice_get cas place ≡ Some ca → x ≢ ca.key
 other_there x [] place ca all e = absurd cc
 other_there x (c ∷ cas) zero ca all e =
@@ -65,7 +65,7 @@ last_behind first since place n =
     ap (λ k. leb (slice_index since place) n && list_all (λ later. ltb n later) (drop k (first ∷ since))) (add-one (suc place))
     ∙ ap (λ k. leb (slice_index since place) n && list_all (λ later. ltb n later) (drop k since)) (sym (add-one place))
 
--- a CA at a place among distinct ones, where the key so far is another
+-- a CA at a place among distinct ones, if the key so far is a different one
 place_signs : (n : ℕ) (key : List ℕ) (cas : List Ca) (place : ℕ) (ca : Ca) → AreDistinct cas → slice_get cas place ≡ Some ca → key ≢ ca.key
     → is_last_reached (map (λ c. c.since) cas) place n ≡ bytes_eq ca.key (fold (key_at n) key cas)
 place_signs n key [] place ca d e p = absurd cc
@@ -81,7 +81,7 @@ place_signs n key (c ∷ cas) zero ca d e p =
 place_signs n key (c ∷ cas) (suc place) ca d e p =
     last_behind c.since (map (λ x. x.since) cas) place n ∙ place_signs n (key_at n key c) cas place ca d.1 e (key_not ca.key key c n p (other_there c.key cas place ca d.0 e))
 
--- a CA at a place among distinct ones, the first of which had come
+-- a CA at a place among distinct ones, if the first had been added by then
 pub served_signs : (n : ℕ) (key : List ℕ) (first : Ca) (cas : List Ca) (place : ℕ) (ca : Ca) → leb first.since n ≡ true → AreDistinct (first ∷ cas) → slice_get (first ∷ cas) place ≡ Some ca
     → is_last_reached (map (λ c. c.since) (first ∷ cas)) place n ≡ bytes_eq ca.key (fold (key_at n) key (first ∷ cas))
 served_signs n key first cas zero ca came d e =

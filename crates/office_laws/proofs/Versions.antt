@@ -1,4 +1,4 @@
--- Two lists of one version are equal.
+-- Two lists with the same version are equal.
 use Rattle.std.proofs.Common.{◌≡◌, ℕ, ◌+◌, ◌≤◌, List, [], ◌∷◌, ◌++◌, false, refl, sym, ap, ◌∙◌, arith}
 use Rattle.std.proofs.lemmas.Bool.{false_from_ne_true}
 use Rattle.lines.specs.declared.signature.Signature.{Signature}
@@ -16,7 +16,7 @@ use Rattle.office.proofs.Parts.{AreIssued}
 use Rattle.office.proofs.Ranges.{issued_each, revoked_is_issued}
 use Rattle.office_laws.proofs.Parts.{parts_certificate, parts_signature, sections_ca}
 
--- ---- changes that leave the list
+-- ---- changes that don't affect the list
 
 -- the serial to be handed out next isn't revoked
 next_unrevoked : (s : State) → AreIssued s → s.revoked (next_serial s) ≡ false
@@ -38,7 +38,7 @@ list_ca s key none = by_ids s.revoked_key_ids none
 
 -- ---- histories
 
--- the version is at least an old one, and while it is that the list is the old one
+-- the version is at least the old one, and while it is equal, so is the list
 pub record Stays (old : ℕ) (list : List ℕ) (s : State) : Type 0 where
   pub issued : AreIssued s
   pub version : old ≤ s.version

@@ -1,4 +1,4 @@
--- What accepted messages name that is to be revoked, said of messages alone.
+-- The serials and key IDs whose revocation accepted messages request, defined by the messages alone.
 use Rattle.std.specs.Prelude.{◌==◌, ℕ, List, Bool, false, ◌&&◌, nat_le}
 use Rattle.std.specs.List.{list_any}
 use Rattle.std.specs.Str.{bytes_eq}
@@ -19,7 +19,7 @@ names_serial n (message.RevokeRange r) = nat_le r.lo n && nat_le n r.hi
 names_serial n (message.RevokeKeyId key_id) = false
 names_serial n (message.Rollover k) = false
 
--- the message revokes the key id
+-- the message revokes the key ID
 abbrev pub names_key_id : List ℕ → Message → Bool
 names_key_id k (message.Department d) = false
 names_key_id k (message.Issue i) = false
@@ -30,10 +30,10 @@ names_key_id k (message.RevokeRange r) = false
 names_key_id k (message.RevokeKeyId key_id) = bytes_eq key_id k
 names_key_id k (message.Rollover key) = false
 
--- an accepted message of the history revokes the serial
+-- an accepted message in the history revokes the serial
 abbrev pub is_serial_named : Opening → List Arrival → ℕ → Bool
 is_serial_named o l n = list_any (λ f. names_serial n f.message) (first_accepted o l)
 
--- an accepted message of the history revokes the key id
+-- an accepted message in the history revokes the key ID
 abbrev pub is_key_id_named : Opening → List Arrival → List ℕ → Bool
 is_key_id_named o l k = list_any (λ f. names_key_id k f.message) (first_accepted o l)

@@ -1,4 +1,4 @@
-//! Laws of certificates.
+//! Theorems about certificates.
 
 ghost use Rattle.std.specs.Prelude.{◌≡◌, ◌++◌, List, ℕ, Some};
 ghost use Rattle.office.specs.declared.opening.Opening.{Opening};
@@ -11,19 +11,19 @@ ghost use Rattle.office_laws.specs.Signers.{signer_of};
 ghost use Rattle.office_laws.specs.Bodies.{IsBodyFor};
 ghost use Rattle.office_laws.specs.Counting.{CountsUp};
 
-/// The kth message that makes a certificate gets the serial `first + k - 1` and the digest of the kth body: so no
-/// serial names two bodies.
+/// The reply to the kth message that makes a certificate has the serial `first + k - 1` and the digest of the kth body
+/// (unsigned certificate): so no serial names two bodies.
 pub fn serials_count_up()
     ensures { (o : Opening) (l : List Arrival) → CountsUp o l }
 {}
 
-/// A body that is there is the same after every longer history.
+/// An existing body stays the same in every continuation of the history.
 pub fn a_body_stays()
     ensures { (o : Opening) (l later : List Arrival) (serial : ℕ) (body : List ℕ) →
         body_of (state o l) serial ≡ Some body → body_of (state o (l ++ later)) serial ≡ Some body }
 {}
 
-/// The body of a serial names that serial, and the CA with the greatest number that had come when it was handed out.
+/// The body for a serial names it, and the CA with the greatest number that had been added when it was handed out.
 pub fn a_body_names_its_signer()
     ensures { (o : Opening) (l : List Arrival) → IsOpening o → (serial : ℕ) (c : Certificate) →
         certificate_of (state o l) serial ≡ Some c → IsBodyFor serial (signer_of (state o l) serial) c }

@@ -1,4 +1,4 @@
-//! What holds of the office after every history: functions without a body, whose contracts are the laws.
+//! Properties of the office after every history: functions with empty bodies, whose contracts are the theorems.
 #![tactic(auto)]
 
 mod certificate_laws;

@@ -1,4 +1,4 @@
-//! Laws of the published list.
+//! Theorems about the published list (the KRL).
 
 ghost use Rattle.std.specs.Prelude.{◌≡◌, ◌++◌, List, ℕ, Some, IsTrue, slice_get, true};
 ghost use Rattle.lines.specs.Keys.{key_blob};
@@ -12,14 +12,14 @@ ghost use Rattle.office.specs.History.{state};
 ghost use Rattle.office.specs.Shows.{IsOffice};
 ghost use Rattle.office_laws.specs.Lists.{AreExactList, IsExact};
 
-/// The bytes of the published list, where each section has a length of 32 bits, can be cut in one way. The list revokes
-/// a certificate just where its key id was named, or its serial was named and the CA is the one that signs it.
+/// The bytes of the published list parse in exactly one way, if each section's length fits in 32 bits. The list revokes
+/// a certificate exactly when its key ID was named, or its serial was named and the CA is the one that signs it.
 pub fn the_list_is_exact()
     ensures { (o : Opening) (l : List Arrival) → IsOffice o l → IsTrue (fits (published_parts (state o l))
         (state o l).revoked_key_ids) → AreExactList (published_list (state o l)) o l }
 {}
 
-/// A later list revokes, under each CA of the earlier one's office, all that the earlier list does.
+/// A later list revokes, under each CA that the office had at the earlier list, everything that the earlier list does.
 pub fn a_later_list_revokes_as_much()
     ensures { (o : Opening) (l later : List Arrival) (old new : RevocationList) → IsExact o l old
         → IsExact o (l ++ later) new → (place : ℕ) (ca : Ca) → slice_get (state o l).cas place ≡ Some ca
@@ -27,7 +27,7 @@ pub fn a_later_list_revokes_as_much()
         → revokes (key_blob ca.key) serial key_id new ≡ true }
 {}
 
-/// While the version stays, the published list stays, byte for byte, whatever comes in between.
+/// While the version stays the same, so does the published list, byte for byte, whatever requests come in between.
 pub fn equal_versions_are_equal_lists()
     ensures { (o : Opening) (l later : List Arrival) → (state o l).version ≡ (state o (l ++ later)).version →
         published_list (state o l) ≡ published_list (state o (l ++ later)) }

@@ -1,4 +1,4 @@
--- What exchanges add to a history.
+-- The requests that exchanges add to a history.
 use Rattle.std.proofs.Common.{◌≡◌, ℕ, List, [], ◌∷◌, ◌++◌, append-nil, append_assoc, refl, sym, ap, ◌∙◌}
 use Rattle.http_requests.specs.Asks.{Ask}
 use Rattle.http_requests.specs.Asks.Ask.{refused, get, post}
@@ -7,7 +7,7 @@ use Rattle.web.specs.declared.exchange.Given.TheVariants.{Answer, Fault}
 use Rattle.web.specs.Answers.{with_ask, arrival_by}
 use Rattle.restart.specs.Adding.{ArrivalsStay}
 
--- a request adds its arrival, or nothing
+-- an HTTP request adds one received request, or nothing
 asked : (l : List Arrival) (a : Ask) (moment : ℕ) (nonce : List ℕ)
     → (one : List Arrival) × (with_ask l a moment nonce ≡ l ++ one)
 asked l (refused refusal) moment nonce = ([], sym (append-nil l))

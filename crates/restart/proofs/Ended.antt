@@ -1,4 +1,4 @@
--- A run that ended, and where the office stands in the files that it left.
+-- A run that ended, and the office in the files that it left.
 use Rattle.std.proofs.Common.{◌≡◌, ◌∙◌, ◌⊎◌, List, [], ◌∷◌, ◌++◌, Some, None, inl, inr, IsTrue, refl, sym, subst}
 use Rattle.std.proofs.Math.Logic.{∥∥₁_map}
 use Rattle.sqlite_disk.specs.declared.Disk.{Ghosts}
@@ -29,18 +29,18 @@ use Rattle.restart.specs.Runs.{AreFounded, ClosedRuns, CutRuns, Does, IsFound, I
 use Rattle.restart.specs.Runs.{IsUnfounded}
 use Rattle.restart.proofs.Left.{leaves_what_is_told}
 
--- where the office stands after a run that found files of which this stood
+-- an office's status after a run, as specified from the status before, and as the files left hold it
 abbrev pub Stands : Asked → End → Standing → Image → Type 0
 Stands asked end before left = (after : Standing) × IsDue asked end before after × Holds left after
 
 -- ---- a database without tables
 
--- what is blank has the trees of no table
+-- the trees of a blank database are sound for the schema without tables
 bare_trees : (s : State) → Opens s → IsLive s → IsBlank s → IsSound no_schema s.committed.trees
 bare_trees s opens live blank =
     subst (λ (schema : Schema). IsSound schema s.committed.trees) blank.committed.0 (live opens.is_open).1
 
--- so it has once it is as it was
+-- the same at the end of a run that left the database as it was
 still_bare : (founds : _) (opened last : State) → Opens opened → IsLive opened → IsBlank opened
     → IsUnfounded founds opened last → IsTrue last.is_open → IsSound no_schema last.committed.trees
 still_bare founds opened last opens live blank unfounded still =
@@ -50,7 +50,7 @@ still_bare founds opened last opens live blank unfounded still =
     sym after.1 ∙ (unfounded.before.same still rest ∙ opens.clean) in
     subst (λ (d : Database). IsSound no_schema d.trees) (sym same) (bare_trees opened opens live blank)
 
--- ---- a good close
+-- ---- a clean close
 
 pub closed_runs : {D : Type 0} {g : Ghosts D} (files : Files D) → ClosedRuns g files
 closed_runs {D} {g} files image asked opened last found did copied left may = go
@@ -97,7 +97,7 @@ closed_runs {D} {g} files image asked opened last found did copied left may = go
           | inr unfounded ↦ ∣ unmade done.0 blank unfounded ∣₁
         ]
 
--- ---- a connection that was given up
+-- ---- an abandoned connection
 
 pub cut_runs : {D : Type 0} {g : Ghosts D} → SeenMayStay g → (it : FileStore D g) → CutRuns g it
 cut_runs {D} {g} stays it image asked opened last found did up left may = go
@@ -108,7 +108,7 @@ cut_runs {D} {g} stays it image asked opened last found did up left may = go
     is : IsFound image opened
     is = found over.0
 
-    -- each outcome of a crash opens to trees that the connection might leave
+    -- whatever a crash makes of the files, opening them finds trees that the connection might leave
     opens : ∥ ((db : Trees) × (file_state last).may_leave db × HoldsDatabase left db) ∥₁
     opens = ∥∥₁_map (opens_again it up.numbered up.sound left may) (λ db.
         let r : (trees : Trees) × (file_state last).may_leave trees × HoldsDatabase left trees =

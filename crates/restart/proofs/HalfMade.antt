@@ -1,4 +1,4 @@
--- Files of a first open that was cut off hold no database.
+-- Files of an interrupted first open hold no database.
 use Rattle.std.proofs.Common.{◌≡◌, ℕ, ◌<◌, ◌≤◌, true, false, List, [], length, take, slice_index, unwrap_or, Option}
 use Rattle.std.proofs.Common.{Some, inl, inr, sym, ap, ◌∙◌, arith, get_or-take}
 use Rattle.std.proofs.lemmas.List.{length-take}
@@ -15,7 +15,7 @@ use Rattle.sqlite_pool.proofs.ProbeLemmas.{first_byte}
 use Rattle.sqlite_trees.specs.Tree.{Trees}
 use Rattle.sqlite.specs.Files.{AreFoundIn, IsEmpty, IsNothing}
 
--- a file that pages were read from, of which the first has a header, was begun
+-- files from which pages were read, the first of them with a header, are neither empty nor half made
 begun : (size : ℕ) (image : Image) (pages : PageMap) → Adopts size image pages → IsSoundFile size pages
     → IsNothing image → ⊥
 begun size image pages found sound nothing =
@@ -44,7 +44,7 @@ begun size image pages found sound nothing =
       | inr summed ↦ never (used_size 4096 true) (omega arith) summed
     ]
 
--- of files that were only half made no row is read
+-- no row is read from half-made files
 pub found_nothing : (image : Image) (db : Trees) → IsNothing image → AreFoundIn image db → IsEmpty db
 found_nothing image db nothing (inl there) =
     absurd (∥∥₁_elim there.4 (λ a b. absurd a) (λ ours. begun there.0 image there.1 there.3 ours.file.sound nothing))

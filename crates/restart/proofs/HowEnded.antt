@@ -26,7 +26,7 @@ use Rattle.restart.specs.Ending.{AreClosed, AreEnded, AreGivenUp, EndsRuns, Excu
 use Rattle.restart.specs.Ending.{IsGivenUpTo}
 use Rattle.restart.proofs.Ended.{closed_runs, cut_runs}
 
--- what was copied of a connection was copied of it as it was before a call that changed nothing
+-- files copied after a call that changed nothing count as copied before it
 copied_since : {D : Type 0} {g : Ghosts D} (old new : Held (FileStore D g)) (files : Files D)
     → (HasCleanDisk (file_state new) → HasCleanDisk (file_state old))
     → (HasCleanDisk (file_state new) → IsUnchanged (file_state old) (file_state new)) → IsCopied new files
@@ -42,7 +42,7 @@ copied_since old new files honest same copied =
       left = λ image may. subst (HoldsAlone image) trees (copied.left image may);
     }
 
--- so a connection that was given up was given up as it was before a call that a crash leaves no trees of
+-- a connection abandoned after a call that commits nothing counts as abandoned before it
 up_since : {D : Type 0} {g : Ghosts D} (old new : Held (FileStore D g)) (it : FileStore D g)
     → Survives (file_state old) (file_state new) Never → IsGivenUp new it → IsGivenUp old it
 up_since old new it survives up = record {
@@ -74,7 +74,7 @@ given_up_since old new error files survives cause given = record {
   cause = more_faults (file_state old) (file_state new).faults _ error given.counts (cause given.up.clean);
 }
 
--- and one that was closed was closed as it was before a call that changed nothing
+-- and one closed after a call that changed nothing counts as closed before it
 module _ {D : Type 0} {g : Ghosts D} (old new : Held (FileStore D g)) (it : FileStore D g)
     (survives : Survives (file_state old) (file_state new) Never) (clean : HasCleanDisk (file_state new)) where
   quiet_since : IsClosed new it → IsClosed old it
@@ -139,7 +139,7 @@ ended_since old new (Err (GivenUp error)) files survives same ended = absurd end
 ended_since old new (Err (Uncopied error)) files survives same ended =
     closed_since old new (Some error) files survives same ended
 
--- so a run that ended so is a run of the program
+-- thus a run that ended in one of these ways is a run of the program
 pub ends_runs : {D : Type 0} {g : Ghosts D} → SeenMayStay g → (last : Held (FileStore D g)) (r : Result Unit EndFault)
     (files : Files D) → AreEnded last r files → EndsRuns last r files
 ends_runs {D} {g} stays last (Ok done) files ended clean end is =

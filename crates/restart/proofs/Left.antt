@@ -1,4 +1,4 @@
--- What a run leaves in the files.
+-- The files after a run.
 use Rattle.std.proofs.Common.{List, ◌++◌, inl, inr}
 use Rattle.std.proofs.Math.Logic.{∥∥₁_elim}
 use Rattle.sqlite_disk.specs.declared.Disk.{Ghosts}
@@ -17,7 +17,7 @@ use Rattle.store.specs.Meaning.{IsHistory, IsLeft}
 use Rattle.restart.specs.Images.{HoldsAtLeast}
 use Rattle.restart.specs.Runs.{IsGivenUp, LeavesAtLeast, LeavesWhatIsTold, RunKeepsOffice}
 
--- after a good close each outcome of a crash holds the last commit
+-- after a clean close the files hold the last commit, whatever a crash makes of them
 pub leaves_what_is_told : {D : Type 0} {g : Ghosts D} (c : Held (FileStore D g)) (files : Files D) → IsCopied c files
     → LeavesWhatIsTold g (file_state c) files
 leaves_what_is_told c files copied o l tells image may = record {
@@ -27,7 +27,7 @@ leaves_what_is_told c files copied o l tells image may = record {
   kept = (tells.rows copied.was_open).committed.kept;
 }
 
--- files that hold what a crash may leave hold the office, or it after one arrival more
+-- files that hold what a crash may leave hold the office, or the office after one more request
 holds_left : (o : Opening) (l : List Arrival) (image : Image) (db : Trees) → HoldsDatabase image db → IsHistory o l
     → IsLeft o l db → HoldsAtLeast image o l
 holds_left o l image db holds history (inl kept) =
@@ -35,14 +35,14 @@ holds_left o l image db holds history (inl kept) =
 holds_left o l image db holds history (inr more) =
     ∣ inr (more.0, record { history = more.1; trees = db; holds = ∣ holds ∣₁; kept = more.2 }) ∣₁
 
--- each outcome of a crash opens to trees that the connection may leave
+-- whatever a crash makes of the files, opening them finds trees that the connection may leave
 pub leaves_at_least : {D : Type 0} {g : Ghosts D} (c : Held (FileStore D g)) (it : FileStore D g) → IsGivenUp c it
     → LeavesAtLeast (file_state c) (state it).may_leave
 leaves_at_least c it up o l tells image may =
     ∥∥₁_elim (opens_again it up.numbered up.sound image may) squash₁
     (λ db. holds_left o l image db.0 db.2 tells.history (tells.left db.0 (up.fewer db.0 db.1)))
 
--- what was told at the open is told at the end, with arrivals after it, and the close leaves that
+-- the history represented at the open is represented at the end, with more requests, and the close leaves that
 pub run_keeps_office : {D : Type 0} {g : Ghosts D} (files : Files D) → RunKeepsOffice g files
 run_keeps_office files image opened last told did copied o l held =
     let honest = did copied.was_clean in

@@ -1,4 +1,4 @@
--- Lives of the files, run after run.
+-- Lifetimes of the files, run after run.
 use Rattle.std.proofs.Common.{List, [], ◌∷◌, ◌++◌, None, inl, refl, sym, subst}
 use Rattle.std.proofs.Math.Logic.{∥∥₁_elim, ∥∥₁_map}
 use Rattle.sqlite_wal.specs.Recovery.{Image}
@@ -6,7 +6,7 @@ use Rattle.restart.specs.Images.{Holds, Standing}
 use Rattle.restart.specs.Lives.{AreDue, Asked, End, Follow, IsRun, Life, LivesAreDue, Run, RunsGoOn}
 use Rattle.restart.specs.Runs.{AreRuns, RunsOn}
 
--- what the runs were due, from where the office stood, and where it stands in the files that are left
+-- each run is as specified, from the status in the first files to the status in the last
 runs_due : (runs : List Run) (first last : Image) → Follow first runs last → (before : Standing) → Holds first before
     → ∥ ((after : Standing) × AreDue before runs after × Holds last after) ∥₁
 runs_due [] first last same before holds =
@@ -22,7 +22,7 @@ lives_are_due runs last life =
     ∥∥₁_map (runs_due runs life.first last life.follow None (inl (inl (inl life.empty)))) (λ all.
     let due : (after : Standing) × AreDue None runs after = (all.0, all.1) in due)
 
--- a run after others
+-- one more run after others
 follow_then : (runs : List Run) (run : Run) (first : Image) → Follow first runs run.found → IsRun run
     → Follow first (runs ++ run ∷ []) run.left
 follow_then [] run first same is = (is, same, refl)
@@ -36,7 +36,7 @@ runs_go_on run is runs life =
       follow = follow_then runs run life.first life.follow is;
     } in (longer, lives_are_due (runs ++ run ∷ []) run.left longer)
 
--- a run of the program goes on with each life
+-- a run of the program extends each lifetime
 pub runs_on : (Gave : Asked → Type 0) (image : Image) (asked : Asked) (end : End) (may_leave : Image → Type 0)
     → Gave asked → AreRuns image asked end may_leave → RunsOn Gave image end may_leave
 runs_on Gave image asked end may_leave gave runs = record {

@@ -1,4 +1,4 @@
--- Why a connection isn't looked at.
+-- Why preparing a statement, as a test of a connection, fails.
 use Rattle.std.proofs.Common.{List, [], ℕ, codes, inl, inr, leb-true, refl, sym, subst}
 use Rattle.sqlite_trees.specs.declared.error.StoreError.TheVariants.{OutOfMemory, Io, Corrupt, Full, Broken, Unstorable}
 use Rattle.sqlite.specs.declared.error.Error.{Error}
@@ -8,7 +8,7 @@ use Rattle.store_sql.proofs.FaultLemmas.{IsWhole}
 use Rattle.store_sql.proofs.Texts.{statement}
 use Rattle.restart.specs.Ending.{Excuses}
 
--- the text that a connection is looked at with
+-- the statement that is prepared to test a connection
 abbrev look_text : List ℕ
 look_text = codes "COMMIT"
 
@@ -18,7 +18,7 @@ is_whole : (schema : Schema)
 unfolding everything
 is_whole schema = let all = statement schema look_text Commit 0 refl refl in (all.1, all.2)
 
--- so it is not refused
+-- thus it is not refused
 not_refused : (s : State) (e : Error) → IsNoStatement s look_text [] e → ⊥
 not_refused s e (inl fault) = subst (IsWhole look_text 0) fault.1 (is_whole s.now.schema).1
 not_refused s e (inr found) =
@@ -29,7 +29,7 @@ not_refused s e (inr found) =
       | inr other ↦ elim other [ inl given ↦ given.0 (sym fits.1) | inr clock ↦ clock.0 bare.1 ]
     ]
 
--- what fails has its cause
+-- a failure has its cause
 fails_for : (old new : State) (e : Error) → Fails old new ⊥ e → Excuses old new.faults e
 fails_for old new e (OutOfMemory, is, cause, back, tells) = inl is
 fails_for old new e (Io, is, cause, back, tells) = inr (inr cause)

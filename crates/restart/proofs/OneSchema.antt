@@ -1,4 +1,4 @@
--- The trees of a database, if they are sound, give its schema.
+-- The trees of a database, if they are sound, determine its schema.
 use Rattle.std.proofs.Common.{◌≡◌, ℕ, ◌+◌, true, false, List, [], ◌∷◌, filter}
 use Rattle.std.proofs.Common.{inl, inr, refl, sym, ap, subst, ◌∙◌, arith, pos}
 use Rattle.std.specs.List.{AllZip}
@@ -20,9 +20,9 @@ use Rattle.sqlite_catalog.proofs.AlterLemmas.{numbers_differ}
 use Rattle.sqlite_catalog.proofs.StepLemmas.{same_itself}
 use Rattle.restart.specs.Schemas.{OneSchema}
 
--- ---- lists that stand beside one list
+-- ---- lists zipped with the same list
 
--- two lists are one if each element beside is determined
+-- two lists are equal if each of their elements is determined by its partner in a third list
 zip_same : {A B : Type 0} (R : A → B → Type 0) → ((a : A) (b c : B) → R a b → R a c → b ≡ c)
     → (xs : List A) (ys zs : List B) → AllZip R xs ys → AllZip R xs zs → ys ≡ zs
 zip_same R one [] [] [] p q = refl
@@ -32,7 +32,7 @@ zip_same R one (x ∷ xs) [] zs p q = absurd p
 zip_same R one (x ∷ xs) (y ∷ ys) [] p q = absurd q
 zip_same R one (x ∷ xs) (y ∷ ys) (z ∷ zs) p q = rw (one x y z p.0 q.0, zip_same R one xs ys zs p.1 q.1) refl
 
--- beside the empty list there is only the empty list
+-- only the empty list can be zipped with the empty list
 no_zip : {A B : Type 0} (R : A → B → Type 0) (xs : List A) → AllZip R xs [] → xs ≡ []
 no_zip R [] p = refl
 no_zip R (x ∷ xs) p = absurd p
@@ -43,21 +43,21 @@ zip_none R (y ∷ ys) p = absurd p
 
 -- ---- tables
 
--- a cell names one tree, and has one text
+-- a cell determines one tree, and one text
 tree_of : (row : Row) (v : Value) (s t : ℕ) → v ≡ Int (pos (s + 1)) → v ≡ Int (pos (t + 1)) → s ≡ t
 tree_of row v s t p q = let e : s + 1 ≡ t + 1 = cc in omega (arith, e)
 
 text_of : (v : Value) (s t : List ℕ) → v ≡ Text s → v ≡ Text t → s ≡ t
 text_of v s t p q = cc
 
--- a table is what its text defines, at its tree
+-- a table is determined by the definition in its text, and its tree
 same_made : (s t : Table) (m n : Table) → s ≡ record m { tree = s.tree } → t ≡ record n { tree = t.tree } → m ≡ n
     → s.tree ≡ t.tree → s ≡ t
 same_made s t m n p q same tree =
     let f : Table → ℕ → Table = λ x k. record x { tree = k } in
     p ∙ ap (λ x. f x s.tree) same ∙ ap (f n) tree ∙ sym q
 
--- a row of the listing gives one table
+-- a row of the listing determines one table
 table_same : (row : Row) (s t : Table) → IsTableRow row s → IsTableRow row t → s ≡ t
 table_same row s t p q =
     let sql : p.sql ≡ q.sql = text_of _ _ _ p.sql_is q.sql_is in
@@ -67,7 +67,7 @@ table_same row s t p q =
 
 -- ---- indexes
 
--- one table has each name
+-- each name belongs to one table
 named_once : (tables : List Table) (s t : Table) → IsAscending (λ s t. same_name s.name t.name ≡ false) tables
     → Has tables s → Has tables t → s.name ≡ t.name → s ≡ t
 named_once [] s t up p q same = absurd p
@@ -80,12 +80,12 @@ named_once (x ∷ tables) s t up (inr p) (inl q) same =
     absurd (let yes = same_itself x.name in let e = rw (same ∙ ap (λ (y : Table). y.name) q) at no in cc)
 named_once (x ∷ tables) s t up (inr p) (inr q) same = named_once tables s t up.1 p q same
 
--- the name of the index of a UNIQUE is that of its number
+-- the name of a UNIQUE constraint's index depends only on its number
 automatic_at : (t : Table) (i : Index) (at : ℕ) (key : List ℕ) → i ≡ automatic t at key i.tree
     → i.name ≡ (automatic t at [] 0).name
 automatic_at t i at key is = ap (λ (x : Index). x.name) is
 
--- an index is what its text defines or, if it has none, the UNIQUE of the number in its name
+-- an index is determined by its text or, if it has none, by the number of its UNIQUE constraint in its name
 defined_same : (t : Table) (i j : Index) (v : Value) → i.tree ≡ j.tree → i.name ≡ j.name → IsDefined t i v
     → IsDefined t j v → i ≡ j
 defined_same t i j Null tree name p q =
@@ -103,7 +103,7 @@ defined_same t i j (Text sql) tree name p q =
     p.2 ∙ ap (λ m. f m i.tree) made ∙ ap (f q.0) tree ∙ sym q.2
 defined_same t i j (Blob b) tree name p q = absurd p
 
--- a row of the listing gives one index
+-- a row of the listing determines one index
 index_same : (tables : List Table) → IsAscending (λ s t. same_name s.name t.name ≡ false) tables
     → (row : Row) (i j : Index) → IsIndexRow tables row i → IsIndexRow tables row j → i ≡ j
 index_same tables up row i j p q =
@@ -115,7 +115,7 @@ index_same tables up row i j p q =
 
 -- ---- the schema
 
--- a listing without views is that of one schema
+-- a listing of a schema without views is that of no other
 one_listing : (a b : Schema) (objects : List Row) → a.views ≡ [] → AreListed objects a → AreListed objects b → b ≡ a
 one_listing a b objects none p q =
     let tables : b.tables ≡ a.tables =
@@ -134,6 +134,6 @@ one_listing a b objects none p q =
     ap (λ t. f t b.indexes b.views) tables ∙ ap (λ i. f a.tables i b.views) indexes
     ∙ ap (f a.tables a.indexes) views
 
--- what the trees list is the schema
+-- the trees' listing determines the schema
 pub one_schema : OneSchema
 one_schema a b trees none p q = one_listing a b (trees catalog_tree) none p.lists.listed q.lists.listed

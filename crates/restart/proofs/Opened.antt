@@ -1,4 +1,4 @@
--- What a connection that was just opened tells.
+-- The histories that a newly opened connection represents.
 use Rattle.std.proofs.Common.{◌≡◌, None, inl, inr, refl, sym, subst, IsTrue}
 use Rattle.std.proofs.Math.Logic.{∥∥₁_elim}
 use Rattle.sqlite_wal.specs.Recovery.{Image}
@@ -19,7 +19,7 @@ use Rattle.restart.specs.Runs.{FoundIsTold, IsBlankIfNone, TellsFormer, TellsWha
 use Rattle.restart.proofs.HalfMade.{found_nothing}
 use Rattle.restart.proofs.OneSchema.{one_schema}
 
--- Where no transaction is open a crash leaves the trees that were found, and their schema is that of an office.
+-- If no transaction is open, a crash leaves the trees that were found, and their schema is that of an office.
 pub found_is_told : (s : State) → ((db : Trees) → IsTrue s.is_open → s.may_leave db → db ≡ s.committed.trees)
     → FoundIsTold s
 found_is_told s settled opens live unlimited o l history kept =
@@ -45,7 +45,7 @@ tells_what_is_held image s opens live unlimited found told o l held =
     told opens live unlimited o l held.history
     (subst (λ (t : Trees). Kept t (office_contents o l)) (sym same) held.kept)
 
--- so are those of schema 1
+-- the same for schema 1
 pub tells_former : (image : Image) (s : State) → Opens s → IsLive s → FindsIn image s → TellsFormer image s
 tells_former image s opens live found o l held =
     let c = former_contents o l in
@@ -63,7 +63,7 @@ tells_former image s opens live found o l held =
       };
     }
 
--- of files that hold no office no table is read
+-- no table is read from files that hold no office
 no_tables : (image : Image) (s : State) → FindsIn image s → HoldsNone image → IsSound no_schema s.committed.trees
 no_tables image s found (inl nothing) =
     empty_is_sound s.committed.trees (found_nothing image s.committed.trees nothing found.reads).1
@@ -71,7 +71,7 @@ no_tables image s found (inr held) =
     let same : s.committed.trees ≡ held.0 = ∥∥₁_elim held.1 (Trees-set _ _) (found.holds held.0) in
     subst (IsSound no_schema) (sym same) held.2
 
--- without a table the connection is blank
+-- without tables the connection is blank
 pub blank_if_none : (image : Image) (s : State) → Opens s → IsLive s → FindsIn image s → IsBlankIfNone image s
 blank_if_none image s opens live found none =
     let sound = no_tables image s found none in

@@ -22,26 +22,26 @@ use Rattle.restart.specs.Lives.{Asked, End}
 use Rattle.restart.specs.Lives.End.{closed, cut}
 use Rattle.restart.specs.Runs.{AreRuns, DoesOver, IsFound, IsGivenUp}
 
--- With so many failures of the disk at the end, this error has its cause: memory was refused, the connection was shut
--- before, or the disk has failed since.
+-- If the disk has failed this many times by the end, the error has its cause: memory was refused, the connection was
+-- already shut, or the disk has failed since.
 abbrev pub Excuses : State → (faults : ℕ) → Error → Type 0
 Excuses old faults e = (e ≡ SqliteFailure OutOfMemory) ⊎ ((old.is_open ≡ false) ⊎ MoreFaults old.faults faults)
 
--- these are the files of a store that the connection was given up to
+-- these are the files of the store that an abandoned connection left
 pub record IsGivenUpTo {D : Type 0} {g : Ghosts D} (conn : Held (FileStore D g)) (files : Files D) : Type 0 where
   pub it : FileStore D g
   pub are_its : store.files it ≡ (files.log, files.db)
   pub up : IsGivenUp conn it
   pub counts : (file_state conn).faults ≤ store.faults it
 
--- so they are, and it was given up for this error
+-- the same, and the connection was abandoned for this error
 pub record AreGivenUp {D : Type 0} {g : Ghosts D} (conn : Held (FileStore D g)) (error : Error) (files : Files D)
     : Type 0 where
   pub given : IsGivenUpTo conn files
   pub cause : Excuses (file_state conn) (store.faults given.it) error
 
 -- These are the files of a store that was closed, and an error of the close has its cause. A crash has no outcome that
--- it hadn't before.
+-- it didn't have before.
 pub record IsClosedTo {D : Type 0} {g : Ghosts D} (conn : Held (FileStore D g)) (error : Option Error)
     (files : Files D) : Type 0 where
   pub it : FileStore D g
@@ -49,7 +49,7 @@ pub record IsClosedTo {D : Type 0} {g : Ghosts D} (conn : Held (FileStore D g)) 
   pub quiet : IsClosed conn it
   pub cause : (e : Error) → error ≡ Some e → IsClean (store.view it) → FailsToClose conn it e
 
--- so a connection was closed that was open
+-- the result of closing an open connection, and the files that it left
 abbrev pub IsEndOfClose : {D : Type 0} {g : Ghosts D} → Held (FileStore D g) → Result (Unit {0}) EndFault → Files D
     → Type 0
 IsEndOfClose {D} {g} conn (Ok done) files =
@@ -57,8 +57,8 @@ IsEndOfClose {D} {g} conn (Ok done) files =
 IsEndOfClose {D} {g} conn (Err (Uncopied error)) files = IsClosedTo conn (Some error) files
 IsEndOfClose {D} {g} conn (Err (GivenUp error)) files = ⊥
 
--- These are the files of a store that was closed. If their disk has returned what was written, a crash has no outcome
--- that it hadn't before the close, and an error of the close has its cause.
+-- These are the files of a store that was closed. If their disk has been faithful, a crash has no outcome that it
+-- didn't have before the close, and an error of the close has its cause.
 pub record AreClosed {D : Type 0} {g : Ghosts D} (conn : Held (FileStore D g)) (error : Option Error)
     (files : Files D) : Type 0 where
   pub it : FileStore D g
@@ -66,8 +66,8 @@ pub record AreClosed {D : Type 0} {g : Ghosts D} (conn : Held (FileStore D g)) (
   pub quiet : IsClean (store.view it) → IsClosed conn it
   pub cause : (e : Error) → error ≡ Some e → IsClean (store.view it) → FailsToClose conn it e
 
--- The last commit is in the database file alone. Or the connection was given up. Or its log wasn't copied. All of it is
--- said of a disk that has returned what was written.
+-- The last commit is in the database file alone, or the connection was abandoned, or its log wasn't copied. Each case
+-- assumes that the disk has been faithful.
 abbrev pub AreEnded : {D : Type 0} {g : Ghosts D} → Held (FileStore D g) → Result (Unit {0}) EndFault → Files D
     → Type 0
 AreEnded {D} {g} conn (Ok done) files =
@@ -75,13 +75,13 @@ AreEnded {D} {g} conn (Ok done) files =
 AreEnded {D} {g} conn (Err (GivenUp error)) files = AreClean g files.log files.db → AreGivenUp conn error files
 AreEnded {D} {g} conn (Err (Uncopied error)) files = AreClosed conn (Some error) files
 
--- the run ended so
+-- how a run with this result ended; an uncopied log is neither end
 abbrev pub IsEnd : Result (Unit {0}) EndFault → End → Type 0
 IsEnd (Ok done) end = end ≡ closed
 IsEnd (Err (GivenUp error)) end = end ≡ cut
 IsEnd (Err (Uncopied error)) end = ⊥
 
--- The run ended so, and its disk has returned what was written. Then it had done so before the end. And a run over this
+-- If the run ended so and its disk has been faithful, the disk was faithful before the end, too. And a run over this
 -- connection that found files and did what it was asked is a run of the program that ended so.
 abbrev pub EndsRuns : {D : Type 0} {g : Ghosts D} → Held (FileStore D g) → Result (Unit {0}) EndFault → Files D
     → Type 0

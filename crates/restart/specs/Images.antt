@@ -1,4 +1,4 @@
--- What the two files of a database hold: the file itself and its log.
+-- The contents of a database's two files: the database file and its log.
 use Rattle.std.specs.Prelude.{◌⊎◌, List, [], ◌∷◌, ◌++◌, Option, None, Some}
 use Rattle.sqlite_wal.specs.Recovery.{Image}
 use Rattle.sqlite_trees.specs.Tree.{Trees}
@@ -12,14 +12,14 @@ use Rattle.store.specs.Rows.{office_contents}
 use Rattle.store.specs.Former.{Had, HasNoRollover, former_contents}
 use Rattle.store.specs.Meaning.{IsHistory}
 
--- a database with the rows of the office of this opening after this history
+-- a database with the rows of the office with this initial configuration after this history
 pub record HoldsOffice (image : Image) (o : Opening) (l : List Arrival) : Type 0 where
   pub history : IsHistory o l
   pub trees : Trees
   pub holds : ∥ HoldsDatabase image trees ∥₁
   pub kept : Kept trees (office_contents o l)
 
--- a database with those rows as schema 1 has them, which knows no rollover
+-- a database with those rows in schema 1, after a history without rollovers
 pub record HoldsFormer (image : Image) (o : Opening) (l : List Arrival) : Type 0 where
   pub history : IsHistory o l
   pub plain : HasNoRollover l
@@ -27,20 +27,20 @@ pub record HoldsFormer (image : Image) (o : Opening) (l : List Arrival) : Type 0
   pub holds : ∥ HoldsDatabase image trees ∥₁
   pub had : Had (former_contents o l) (record { schema = without_ca; trees = trees })
 
--- that office, or that office after one arrival more
+-- that office, or that office after one more request
 abbrev pub HoldsAtLeast : Image → Opening → List Arrival → Type 0
 HoldsAtLeast image o l = ∥ HoldsOffice image o l ⊎ ((a : Arrival) × HoldsOffice image o (l ++ a ∷ [])) ∥₁
 
--- No office yet: the database file is empty, or isn't there, or was only half made by a first open that was cut off.
--- Or the files hold a database without a table.
+-- No office yet: the database file is empty, or doesn't exist, or was only half made by an interrupted first open. Or
+-- the files hold a database without tables.
 abbrev pub HoldsNone : Image → Type 0
 HoldsNone image = IsNothing image ⊎ ((trees : Trees) × ∥ HoldsDatabase image trees ∥₁ × IsSound no_schema trees)
 
--- no office yet, or the office of an opening after a history
+-- the status of an office: it doesn't exist yet, or it has an initial configuration and a history
 abbrev pub Standing : Type 0
 Standing = Option (Opening × List Arrival)
 
--- the files hold that
+-- the files hold an office with this status
 abbrev pub Holds : Image → Standing → Type 0
 Holds image None = HoldsNone image
 Holds image (Some p) = HoldsOffice image p.0 p.1

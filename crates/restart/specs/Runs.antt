@@ -27,17 +27,17 @@ use Rattle.restart.specs.Lives.End.{closed, cut}
 
 -- ---- the open
 
--- a connection that was just opened tells each history whose rows its trees hold
+-- a newly opened connection represents each history whose rows its trees hold
 abbrev pub FoundIsTold : State → Type 0
 FoundIsTold s =
     Opens s → IsLive s → s.step_limit ≡ None
     → (o : Opening) (l : List Arrival) → IsHistory o l → Kept s.committed.trees (office_contents o l) → Tells s o l
 
--- it tells each history whose office the files held
+-- it represents each history whose office the files held
 abbrev pub TellsWhatIsHeld : Image → State → Type 0
 TellsWhatIsHeld image s = (o : Opening) (l : List Arrival) → HoldsOffice image o l → Tells s o l
 
--- it tells in schema 1 each history whose office the files held so
+-- it represents in schema 1 each history whose office the files held in schema 1
 abbrev pub TellsFormer : Image → State → Type 0
 TellsFormer image s = (o : Opening) (l : List Arrival) → HoldsFormer image o l → TellsBefore s o l
 
@@ -45,7 +45,7 @@ TellsFormer image s = (o : Opening) (l : List Arrival) → HoldsFormer image o l
 abbrev pub IsBlankIfNone : Image → State → Type 0
 IsBlankIfNone image s = HoldsNone image → IsBlank s
 
--- all of this, of a connection to files whose disk has returned what was written
+-- all of this, for a connection to files whose disk has been faithful
 pub record IsFound {D : Type 0} {g : Ghosts D} (image : Image) (conn : Held (FileStore D g)) : Type 0 where
   pub opened : IsOpened conn
   pub told : TellsWhatIsHeld image (file_state conn)
@@ -53,94 +53,94 @@ pub record IsFound {D : Type 0} {g : Ghosts D} (image : Image) (conn : Held (Fil
 
 -- ---- the end
 
--- whatever a crash makes of the files, they hold the office of the history that was told
+-- whatever a crash makes of the files, they hold the office of the history that was represented
 abbrev pub LeavesWhatIsTold : {D : Type 0} → Ghosts D → State → Files D → Type 0
 LeavesWhatIsTold g s files =
     (o : Opening) (l : List Arrival) → Tells s o l → (image : Image) → outcomes g files.log files.db image
     → HoldsOffice image o l
 
--- so they do if their disk has returned what was written
+-- the same, if their disk has been faithful
 abbrev pub ClosesWell : {D : Type 0} {g : Ghosts D} → Held (FileStore D g) → Files D → Type 0
 ClosesWell {D} {g} conn files = AreClean g files.log files.db → LeavesWhatIsTold g (file_state conn) files
 
--- The connection was given up, shut or not. Its disk has returned what was written. A crash leaves databases, and none
--- that it could not leave before.
+-- The connection was abandoned, shut or not. Its disk has been faithful. A crash leaves databases, and none that it
+-- could not leave before.
 pub record IsGivenUp {D : Type 0} {g : Ghosts D} (conn : Held (FileStore D g)) (it : FileStore D g) : Type 0 where
   pub clean : HasCleanDisk (file_state conn)
   pub numbered : IsTrue (store.view it).is_numbered
   pub sound : AreDatabases (store.recovers it)
   pub fewer : (trees : Trees) → store.recovers it trees → (file_state conn).may_leave trees
 
--- whatever a crash leaves, the files hold the office of the history that was told, or it after one arrival more
+-- whatever a crash leaves, the files hold the office of the history that was represented, or it after one more request
 abbrev pub LeavesAtLeast : State → (Image → Type 0) → Type 0
 LeavesAtLeast s may_leave =
     (o : Opening) (l : List Arrival) → Tells s o l → (image : Image) → may_leave image → HoldsAtLeast image o l
 
 -- ---- the whole run
 
--- If the files held an office, all that may be left holds that office, and no arrival is lost.
+-- If the files held an office, all files that may be left hold that office, and no received request is lost.
 abbrev pub KeepsOffice : Image → (Image → Type 0) → Type 0
 KeepsOffice image may_leave =
     (o : Opening) (l : List Arrival) → HoldsOffice image o l
     → (more : List Arrival) × ((after : Image) → may_leave after → HoldsOffice after o (l ++ more))
 
--- each history that was told is told with arrivals after it
+-- each history that was represented still is, with any number of requests added
 abbrev pub AddsArrivals : State → State → Type 0
 AddsArrivals old new =
     (o : Opening) (l : List Arrival) → Tells old o l → (more : List Arrival) × Tells new o (l ++ more)
 
--- What was done between the open and the close: a disk that is clean was clean, and a connection that is open tells
--- each history that was told, with arrivals after it.
+-- Everything done between the open and the close: a disk that is faithful at the end was so at the open, and then a
+-- connection that is still open represents each history that was represented, with any number of requests added.
 abbrev pub Extends : {D : Type 0} {g : Ghosts D} → (opened last : Held (FileStore D g)) → Type 0
 Extends opened last =
     HasCleanDisk (file_state last) → HasCleanDisk (file_state opened)
     × (IsTrue (file_state last).is_open → AddsArrivals (file_state opened) (file_state last))
 
--- a run that opened, did so and closed well keeps the office
+-- a run that opened the files, did this and closed them cleanly keeps the office
 abbrev pub RunKeepsOffice : {D : Type 0} (g : Ghosts D) → Files D → Type 0
 RunKeepsOffice {D} g files =
     (image : Image) (opened last : Held (FileStore D g))
     → (HasCleanDisk (file_state opened) → TellsWhatIsHeld image (file_state opened)) → Extends opened last
     → IsCopied last files → KeepsOffice image (outcomes g files.log files.db)
 
--- ---- what is due in a run
+-- ---- the specification of a run
 
--- the office that was to be made is stored, and nothing has come since
+-- the office that had to be created is durably represented, and no request has been received since
 abbrev pub IsFounded : Option Opening → State → Type 0
 IsFounded founds s = (o : Opening) × (founds ≡ Some o) × Stores s o []
 
--- trees with all rows of the office that was to be made
+-- trees with all rows of the office that had to be created
 abbrev pub AreFounded : Option Opening → Trees → Type 0
 AreFounded founds trees =
     (o : Opening) × (founds ≡ Some o) × IsHistory o [] × Kept trees (office_contents o [])
 
 -- The database is as it was, unless a failed disk has shut the connection. A crash leaves what it could leave before,
--- or the whole office that was to be made.
+-- or the whole office that had to be created.
 pub record IsUnfounded (founds : Option Opening) (opened last : State) : Type 0 where
   pub before : IsAsBefore opened last
   pub crash : (trees : Trees) → last.may_leave trees → opened.may_leave trees ⊎ AreFounded founds trees
 
--- What was done over the connection: an office that it told is told with the arrivals of the exchanges, each of which
--- was given what is due, or a fault. Over a database without tables no response was given, and the office that was to
--- be made is made or not.
+-- Everything done over the connection: an office that it represented is represented with the requests of the exchanges,
+-- each of which was given the specified response, or a fault. Over a database without tables no response was given, and
+-- the office that had to be created was created or not.
 pub record Does (asked : Asked) (opened last : State) : Type 0 where
   pub office : (o : Opening) (l : List Arrival) → Tells opened o l → (after : List Arrival)
       × AllDue o l asked.exchanges asked.given after × Tells last o after
   pub none : IsBlank opened → GivesNone asked
       × (IsFounded asked.founds last ⊎ IsUnfounded asked.founds opened last)
 
--- if the disk has returned what was written, it had done so before, and this was done
+-- if the disk has been faithful, it was so before, and this was done
 abbrev pub DoesOver : {S : Type 0} → tables.Ghosts S → Asked → (opened last : Held S) → Type 0
 DoesOver g asked opened last =
     HasCleanDisk (state g last) → HasCleanDisk (state g opened) × Does asked (state g opened) (state g last)
 
--- what came of these files is a run of the program that ended so, whatever a crash makes of what is left
+-- on these files, this was a run of the program that ended so, whatever a crash makes of the files left
 abbrev pub AreRuns : Image → Asked → End → (Image → Type 0) → Type 0
 AreRuns image asked end may_leave = (left : Image) → may_leave left
     → IsRun (record { found = image; asked = asked; end = end; left = left })
 
--- What a run was asked and gave, of which this holds, and how it ended. Whatever a crash makes of what is left, it is a
--- run of the program, and goes on with each life that has left what it found.
+-- A run's input and output, of which this holds, and how it ended. Whatever a crash makes of the files left, it is a
+-- run of the program, and extends each lifetime that has left the files that it found.
 pub record RunsOn (Gave : Asked → Type 0) (image : Image) (end : End) (may_leave : Image → Type 0) : Type 0 where
   pub asked : Asked
   pub gave : Gave asked
@@ -148,14 +148,14 @@ pub record RunsOn (Gave : Asked → Type 0) (image : Image) (end : End) (may_lea
   pub goes_on : (left : Image) → may_leave left
       → GoesOn (record { found = image; asked = asked; end = end; left = left })
 
--- a run that found these files, did this and closed well
+-- a run that found these files, did this and closed them cleanly
 abbrev pub ClosedRuns : {D : Type 0} (g : Ghosts D) → Files D → Type 0
 ClosedRuns {D} g files =
     (image : Image) (asked : Asked) (opened last : Held (FileStore D g))
     → (HasCleanDisk (file_state opened) → IsFound image opened) → DoesOver over_files asked opened last → IsCopied last files
     → AreRuns image asked closed (outcomes g files.log files.db)
 
--- a run that found these files, did this, and whose connection was given up
+-- a run that found these files, did this, and whose connection was abandoned
 abbrev pub CutRuns : {D : Type 0} (g : Ghosts D) → FileStore D g → Type 0
 CutRuns {D} g it =
     (image : Image) (asked : Asked) (opened last : Held (FileStore D g))
@@ -164,8 +164,8 @@ CutRuns {D} g it =
 
 -- ---- the next run
 
--- The files that the next run finds are among those that the last one may have left. It tells the history that all of
--- these hold.
+-- If the files that the next run finds are among those that the last one may have left, it represents the history that
+-- all of these hold.
 abbrev pub TellsAfter : (Image → Type 0) → Image → State → Type 0
 TellsAfter may_leave image s =
     may_leave image → (o : Opening) (l : List Arrival) → ((after : Image) → may_leave after → HoldsOffice after o l)

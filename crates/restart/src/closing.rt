@@ -1,4 +1,4 @@
-//! A connection to files, closed or given up.
+//! Closing or abandoning a connection to files.
 
 ghost use Rattle.std.specs.Prelude.{IfOk};
 ghost use Rattle.sqlite_wal.specs.Reads.{AreClean};
@@ -10,13 +10,13 @@ ghost use Rattle.restart.specs.Runs.{ClosesWell, IsGivenUp, LeavesAtLeast, Leave
 use sqlite::{Connection, Error, FileFrom, FileStore, Files, Start};
 use sqlite_disk::Disk;
 
-/// Closes a connection to files, and gives these back.
+/// Closes a connection to files, and returns the files.
 ///
 /// # Errors
 ///
-/// Why it can't be closed well. It is closed all the same.
+/// Why it can't be closed cleanly. It is closed anyway.
 pub fn close_at<D: Disk + Drop>(conn: Connection<FileStore<D>>) -> Result<Files<D>, Error>
-    // Whatever a crash makes of the files from now on, they hold the office of the history that was told.
+    // Whatever a crash makes of the files from now on, they hold the office of the history that was represented.
     ensures { IfOk result (λ files. AreClean D.Disk files.log files.db
         → LeavesWhatIsTold D.Disk (file_state conn) files) }
 {
@@ -33,7 +33,7 @@ pub fn close_at<D: Disk + Drop>(conn: Connection<FileStore<D>>) -> Result<Files<
 ///
 /// # Errors
 ///
-/// Why it can't be closed well. It is closed all the same.
+/// Why it can't be closed cleanly. It is closed anyway.
 pub fn close_path<S: Start>(
     conn: Connection<FileStore<FileFrom<S>>>,
 ) -> Result<Files<FileFrom<S>>, Error>
@@ -45,12 +45,12 @@ pub fn close_path<S: Start>(
     }
 }
 
-/// Gives a connection up, even one that a failed disk has shut, and gives back the store of its files.
+/// Abandons a connection, even one that a failed disk has shut, and returns the store of its files.
 pub fn store_of<D: Disk + Drop>(conn: Connection<FileStore<D>>) -> FileStore<D>
     ensures up { IsClean (view result) → IsGivenUp conn result }
 
-    // Whatever a crash makes of the files, they hold the office of the history that was told, or that office after one
-    // arrival more.
+    // Whatever a crash makes of the files, they hold the office of the history that was represented, or that office
+    // after one more request.
     ensures left { IsClean (view result) → LeavesAtLeast (file_state conn) (store_state result).may_leave }
 {
     conn.into_store()

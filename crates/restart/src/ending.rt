@@ -1,4 +1,4 @@
-//! A connection to files, ended: closed or, where a failed disk has shut it, given up.
+//! Ending a connection to files: it is closed or, if a failed disk has shut it, abandoned.
 
 ghost use Rattle.std.specs.Prelude.{◌≡◌, None, Some};
 ghost use Rattle.sqlite_wal.specs.Reads.{AreClean};
@@ -11,7 +11,7 @@ ghost use Rattle.restart.specs.Ending.{AreEnded, EndsRuns, Excuses, IsEndOfClose
 use sqlite::{Connection, Error, FileStore, Files};
 use sqlite_disk::Disk;
 
-/// Why a connection wasn't closed well.
+/// Why a connection wasn't closed cleanly.
 #[derive(Clone, Copy, Debug)]
 pub enum EndFault {
     /// A failed disk had shut it, or memory was refused. Nothing was written to its files.
@@ -47,20 +47,20 @@ fn shut<D: Disk + Drop>(conn: &mut Connection<FileStore<D>>) -> Option<Error>
     }
 }
 
-// Gives the files back as they are.
+// Returns the files as they are.
 fn give_up<D: Disk + Drop>(conn: Connection<FileStore<D>>) -> Files<D>
     ensures { AreClean D.Disk result.log result.db → IsGivenUpTo conn result }
 {
     conn.into_store().close()
 }
 
-/// Ends a connection to files, and gives these back. It is closed if it is open, and otherwise given up, since only of
-/// an open one it is known what a close that fails leaves.
+/// Ends a connection to files, and returns the files. It is closed if it is open, and otherwise abandoned, since the
+/// effect of a failed close is known only for an open one.
 pub fn end_at<D: Disk + Drop>(conn: Connection<FileStore<D>>) -> (Result<(), EndFault>, Files<D>)
     ensures ended { AreEnded conn result.0 result.1 }
 
     // Whatever a crash makes of the files from now on, the run is one of the program: one that closed them, or one that
-    // was cut off.
+    // was interrupted.
     ensures runs { EndsRuns conn result.0 result.1 }
 {
     let mut conn = conn;

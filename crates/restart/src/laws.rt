@@ -1,4 +1,4 @@
-//! Laws of an office from run to run: functions without a body, whose contracts a caller cites.
+//! Theorems about an office from run to run: functions without a body, whose contracts a caller cites.
 
 ghost use Rattle.sqlite.specs.Held.{state};
 ghost use Rattle.restart.specs.Adding.{ArrivalsStay};
@@ -9,48 +9,48 @@ ghost use Rattle.restart.specs.Schemas.{OneSchema};
 use sqlite::{Alter, Connection, FileStore, Files};
 use sqlite_disk::Disk;
 
-/// The trees of a database that is sound have one schema, if it has no views. So no schema has to be compared at an
-/// open.
+/// The trees of a sound database have only one schema, if it has no views. So no schema has to be compared when a
+/// database is opened.
 pub fn one_schema()
     ensures { OneSchema }
 {}
 
-/// A connection that was just opened tells each history whose rows its trees hold.
+/// A newly opened connection represents each history whose rows its trees hold.
 pub fn what_is_found_is_told<S: Alter>(conn: &Connection<S>)
     ensures { FoundIsTold (state S.Store conn.now) }
 {
     let _ = conn;
 }
 
-/// A run that was closed well leaves files that hold the office which it found, with the arrivals of the run.
+/// A run that closed its files cleanly leaves them with the office that it found, and with the requests of the run.
 pub fn a_run_keeps_the_office<D: Disk + Drop>(files: &Files<D>)
     ensures { RunKeepsOffice D.Disk files.now }
 {
     let _ = files;
 }
 
-/// Exchanges add arrivals to a history, and take none away.
+/// Exchanges add received requests to a history, and remove none.
 pub fn arrivals_stay()
     ensures { ArrivalsStay }
 {}
 
-/// A run that found files, did what it was asked and closed well is a run of the program, whatever a crash makes of the
-/// files that it left.
+/// A run that found files, did what it was asked and closed them cleanly is a run of the program, whatever a crash
+/// makes of the files that it left.
 pub fn a_closed_run_is_a_run<D: Disk + Drop>(files: &Files<D>)
     ensures { ClosedRuns D.Disk files.now }
 {
     let _ = files;
 }
 
-/// So is one whose connection was given up, whatever a crash makes of the files of its store.
+/// So is one whose connection was abandoned, whatever a crash makes of the files of its store.
 pub fn a_cut_run_is_a_run<D: Disk + Drop>(store: &FileStore<D>)
     ensures { CutRuns D.Disk store.now }
 {
     let _ = store;
 }
 
-/// Runs of the program, of which the first found no file and each other one what the one before had left, gave all that
-/// was due. So does a run after them.
+/// Runs of the program are as specified if the first found no file or an empty one, and each later one the files that
+/// the one before had left. So is a run after them.
 pub fn lives_are_due()
     ensures due { LivesAreDue }
     ensures goes_on { RunsGoOn }

@@ -1,12 +1,12 @@
 //! An office in its two files, from one run of the program to the next.
 //!
-//! A database is a file and its log. The two *hold an office* of an opening and a history if the database that SQLite
-//! finds in them has the rows of the plain machine that was opened so and was given the history's arrivals. An open of
-//! such files tells the history, a close leaves the history that was told, and a crash leaves it, or it with one
-//! arrival more.
+//! A database is a file and its log. The two *hold an office* with an initial configuration and a history if the
+//! database that SQLite finds in them has the rows of the reference model with this configuration after this history. A
+//! connection that opens such files represents the history, a close leaves the history that was represented, and a
+//! crash leaves it, or it with one more request.
 //!
-//! What the files held at an open, and how a crash is read, are what `Start` says. Clauses that speak of values ask
-//! that the disk has returned what was written.
+//! The contents of the files at an open, and the possible effects of a crash, are defined by `Start`. Clauses about
+//! values assume that the disk has been faithful: it has returned what was written.
 #![tactic(auto)]
 
 mod closing;

@@ -1,4 +1,4 @@
-//! The files at a path, opened.
+//! Opening the files at a path.
 
 ghost use Rattle.std.specs.Prelude.{IfErr, IfOk, IsTrue};
 ghost use Rattle.sqlite_wal.specs.Files.{image_at, outcomes};
@@ -12,7 +12,7 @@ use crate::laws::what_is_found_is_told;
 use sqlite::{Connection, Error, FileFrom, FileStore, Files, Start};
 use sqlite_disk::Disk;
 
-/// Opens the files at a path, or makes them. `start` stands for what they hold.
+/// Opens the files at a path, or creates them. `start` stands for their contents.
 ///
 /// # Errors
 ///
@@ -26,15 +26,15 @@ pub fn open_at<S: Start>(
     ensures named { IfErr result (λ e. IsTrue (is_open_error e)) }
     ensures opened { IfOk result (λ c. HasCleanDisk (file_state c) → IsOpened c) }
 
-    // The connection tells each history whose office the files held.
+    // The connection represents each history whose office the files held.
     ensures told { IfOk result (λ c. HasCleanDisk (file_state c)
         → TellsWhatIsHeld (image_at S.Start) (file_state c)) }
 
-    // It tells in schema 1 each history whose office they held so, so that the office can be moved.
+    // It represents in schema 1 each history whose office they held in schema 1, so that the office can be migrated.
     ensures former { IfOk result (λ c. HasCleanDisk (file_state c)
         → TellsFormer (image_at S.Start) (file_state c)) }
 
-    // If they held no table, an office can be made.
+    // If they held no table, an office can be created.
     ensures blank { IfOk result (λ c. HasCleanDisk (file_state c)
         → IsBlankIfNone (image_at S.Start) (file_state c)) }
 {
@@ -58,7 +58,8 @@ pub fn open_again<D: Disk + Drop, T: Start>(
     last: &Files<D>,
     start: T,
 ) -> Result<Connection<FileStore<FileFrom<T>>>, Error>
-    // If what they hold is what the last run may have left, the connection tells the history that the last run left.
+    // If their contents are what the last run may have left, the connection represents the history that the last run
+    // left.
     ensures { IfOk result (λ c. HasCleanDisk (file_state c)
         → TellsAfter (outcomes D.Disk last.now.log last.now.db) (image_at T.Start) (file_state c)) }
 {

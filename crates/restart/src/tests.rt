@@ -1,11 +1,11 @@
-//! What only calls can show: that an end closes well where memory and the disk suffice.
+//! What only calls can show: that a connection closes cleanly if memory and the disk suffice.
 
 use crate::{EndFault, end_at};
 use sqlite::{Connection, FileStore, Files, Options};
 use sqlite_disk::{Disk, Fuse, Memory};
 use std::alloc::Global;
 
-/// Files in memory, of which the log takes so many calls and fails each one after.
+/// Files in memory, whose log takes this many calls and fails each one after them.
 fn files_with(alloc: Global, log_calls: u64) -> Files<Fuse<Memory>> {
     Files {
         log: Fuse::new(Memory::new(alloc), log_calls),
@@ -51,7 +51,7 @@ fn ended_by(how: Result<(), EndFault>) -> Ended {
     }
 }
 
-/// How a run ends that makes a table, with a log that takes so many calls, and whether the files then have the table.
+/// How a run that creates a table ends if the log takes this many calls, and whether the files then have the table.
 fn run_with(alloc: Global, log_calls: u64) -> (Ended, bool) {
     match opened(alloc, files_with(alloc, log_calls)) {
         Some(conn) => {

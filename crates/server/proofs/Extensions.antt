@@ -14,19 +14,19 @@ use Rattle.server.specs.declared.connection_fault.Fault.{Fault}
 use Rattle.server.specs.Books.{Book}
 use Rattle.server.specs.Connections.{Talk, Visit, answered, cut, closed, AreServed, Visits, Meets, Extends, IsExtended, IsTimely, exchange_of, given_of}
 
--- a history with at most so many arrivals more
+-- a history with at most `most` more arrivals
 record Grows (most : ℕ) (old new : List Arrival) : Type 0 where
   more : List Arrival
   count : length more ≤ most
   timely : All IsTimely more
   same : new ≡ old ++ more
 
--- what stays grows by nothing
+-- an unchanged history grows by nothing
 grows_by_none : (most : ℕ) (old new : List Arrival) → new ≡ old → Grows most old new
 grows_by_none most old new same =
     record { more = []; count = (omega arith); timely = All-nil IsTimely; same = same ∙ sym (append-nil old) }
 
--- what was asked adds its arrival, or nothing
+-- a request adds its arrival, or nothing
 grows_by_ask : (old new : List Arrival) (ask : Ask) (moment : ℕ) (nonce : List ℕ) → moment ≤ LATEST_MOMENT
     → length nonce ≡ 32
     → new ≡ with_ask old ask moment nonce → Grows 1 old new
@@ -54,7 +54,7 @@ grows_by_talk old new talk ask most y =
       same = y.same ∙ ap (λ (l : List Arrival). l ++ y.more) x.same ∙ append_assoc old x.more y.more;
     }
 
--- visits add at most as many as they are
+-- visits add at most as many arrivals as there are visits
 grows_by_visits : (o : Opening) (visits : List Visit) (old new : List Arrival)
     → AllDue o old (map exchange_of visits) (map given_of visits) new → Grows (length visits) old new
 grows_by_visits o [] old new same = grows_by_none 0 old new same
@@ -77,21 +77,21 @@ grown most old new means x m = record {
       x.same m;
 }
 
--- What is served is extended by as many at most.
+-- Served visits extend the history by at most one arrival each.
 served_extends : {S : Type 0} (register : Ghosts S) (old new : S) (visits : List Visit)
     → AreServed register old new visits → register.is_honest new → Extends (length visits) (register.means old) (register.means new)
 served_extends register old new visits x h o l m =
     let s = x h o l m in
     grown (length visits) l s.0 (register.means new o) (grows_by_visits o visits l s.0 s.1) s.2
 
--- A connection adds one arrival at most.
+-- A connection adds at most one arrival.
 pub visit_extends : {S T : Type 0} (result : Result T Fault) (book book' : Option Book)
     (source source' : Option (List ℕ)) (register : Ghosts S) (old new : S) → Visits result book book' source source' register old new
     → register.is_honest new → Extends 1 (register.means old) (register.means new)
 visit_extends result book book' source source' register old new x h =
     served_extends register old new (x.visit ∷ []) x.served h
 
--- So many connections add so many at most.
+-- n connections add at most n arrivals.
 pub meets_extends : {S : Type 0} (n : ℕ) (book book' : Option Book) (source source' : Option (List ℕ))
     (register : Ghosts S) (old new : S) → Meets n book book' source source' register old new
     → register.is_honest new → Extends n (register.means old) (register.means new)

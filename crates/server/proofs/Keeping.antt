@@ -1,4 +1,4 @@
--- What is served over a register that keeps what is pending is served over the register below.
+-- What was served over a register that caches the pending certificates was served over the register below it.
 use Rattle.std.proofs.Common.{◌≡◌, ℕ, List, [], ◌++◌, Option, None, subst, sym}
 use Rattle.office.specs.declared.opening.Opening.{Opening}
 use Rattle.office.specs.declared.arrival.Arrival.{Arrival}
@@ -12,7 +12,7 @@ use Rattle.waiting.proofs.Kept.{none_kept}
 use Rattle.server.specs.Books.{Book}
 use Rattle.server.specs.Connections.{Extends, Meets}
 
--- what is added is added
+-- `Extends` still holds for a stronger meaning before and for a weaker one after
 pub extends_as : (most : ℕ) (before before' after after' : Opening → List Arrival → Type 0)
     → ((o : Opening) (l : List Arrival) → before' o l → before o l)
     → ((o : Opening) (l : List Arrival) → after o l → after' o l)
@@ -21,7 +21,7 @@ extends_as most before before' after after' first last extends o l m =
     let x = extends o l (first o l m) in
     record { more = x.more; count = x.count; timely = x.timely; history = last o (l ++ x.more) x.history }
 
--- before the first ask the register that keeps means what the one below does
+-- before the first request the caching register means what the one below it means
 pub known_at_first : {S : Type 0} (means : S → Opening → List Arrival → Type 0) (below register : S) (seen : ℕ)
     (rows : List Pending) (revoked : Option Revocations) → register ≡ below → seen ≡ 0 → rows ≡ [] → revoked ≡ None
     → (o : Opening) (l : List Arrival) → means below o l → MeansKnown means register seen rows revoked o l
@@ -31,7 +31,7 @@ known_at_first means below register seen rows revoked same none empty unread o l
   revocations = none_kept revoked (state o l) unread;
 }
 
--- so connections that were met over the one were met over the other
+-- so connections that were handled over the one were handled over the other
 pub met_as : {S T : Type 0} (n : ℕ) (book book' : Option Book) (nonces nonces' : Option (List ℕ)) (r : Ghosts T)
     (q : Ghosts S) (a b : T) (c d : S) → ((o : Opening) (l : List Arrival) → q.means c o l → r.means a o l)
     → ((o : Opening) (l : List Arrival) → r.means b o l → q.means d o l) → (q.is_honest d → r.is_honest b)

@@ -1,4 +1,4 @@
--- Connections one after the other.
+-- Connections in succession.
 use Rattle.std.proofs.Common.{◌≡◌, ◌+◌, ◌⊎◌, inl, inr, ℕ, List, [], ◌∷◌, ◌++◌, length, Option, Result, Ok, Err, refl, sym, subst, ap, ◌∙◌, arith, length-append}
 use Rattle.std.specs.Prelude.{map, flat_map}
 use Rattle.std.specs.Io.KnownBytes.{Consumes}
@@ -14,7 +14,7 @@ use Rattle.server.specs.declared.connection_fault.Fault.{Fault}
 use Rattle.server.specs.Books.{Book, WhereTold}
 use Rattle.server.specs.Connections.{Visit, answered, cut, closed, AreServed, EndsWith, IfGiven, Meets, Tells, TellsAll, Visits, drawn_of, exchange_of, given_of}
 
--- one more is told, at the end
+-- one more visit in the book, at the end
 told_more : (visits : List Visit) (visit : Visit) (old mid new : Option Book) → TellsAll visits old mid
     → WhereTold (Tells visit) mid new → TellsAll (visits ++ visit ∷ []) old new
 told_more [] visit old mid new first last =
@@ -22,7 +22,7 @@ told_more [] visit old mid new first last =
 told_more (v ∷ visits) visit old mid new first last =
     (first.0, first.1, told_more visits visit first.0 mid new first.2 last)
 
--- one more draws, at the end
+-- one more visit that draws nonces, at the end
 drawn_more : (visits : List Visit) (visit : Visit) (old mid new : Option (List ℕ))
     → Consumes old mid (flat_map drawn_of visits) → Consumes mid new (drawn_of visit) → Consumes old new (flat_map drawn_of (visits ++ visit ∷ []))
 drawn_more visits visit old mid new first last =
@@ -31,7 +31,7 @@ drawn_more visits visit old mid new first last =
     ∙ sym (flat_map-append drawn_of visits (visit ∷ [])) in
     subst (Consumes old new) same (Consumes-trans old mid new (flat_map drawn_of visits) (drawn_of visit) first last)
 
--- one more is due, at the end
+-- one more specified response or fault, at the end
 due_more : (o : Opening) (visits : List Visit) (visit : Visit) (old mid new : List Arrival)
     → AllDue o old (map exchange_of visits) (map given_of visits) mid
     → AllDue o mid (exchange_of visit ∷ []) (given_of visit ∷ []) new
@@ -48,7 +48,7 @@ due_more o (cut talk ∷ visits) visit old mid new first last =
     (first.0, first.1, first.2, first.3, due_more o visits visit next mid new first.4 last)
 due_more o (closed silence ∷ visits) visit old mid new first last = due_more o visits visit old mid new first last
 
--- what the register has answered with one more is what it has answered before, and then this one
+-- if the register has answered after one more visit, it had answered before it, or it answered this visit
 answered_more : (so_far : Type 0) (visits : List Visit) (visit : Visit)
     → HasAnswered so_far (map exchange_of (visits ++ visit ∷ [])) (map given_of (visits ++ visit ∷ []))
     → HasAnswered (HasAnswered so_far (map exchange_of visits) (map given_of visits)) (exchange_of visit ∷ [])
@@ -60,7 +60,7 @@ answered_more so_far (cut talk ∷ visits) visit h =
     answered_more (so_far ⊎ AsksTheRegister talk.exchange.request) visits visit h
 answered_more so_far (closed silence ∷ visits) visit h = answered_more ⊥ visits visit h
 
--- a register that was open where it had answered is open where it has answered now
+-- a register that was open if it had answered is open if it has answered now
 opens : {T : Type 0} (visit : Visit) (result : Result T Fault) (had was_open is_open : Type 0) → EndsWith visit result
     → IfGiven result (was_open → is_open) → (had → was_open)
     → (HasAnswered ⊥ (exchange_of visit ∷ []) (given_of visit ∷ []) → is_open)
@@ -79,7 +79,7 @@ opens {T} (cut talk) (Err fault) had was_open is_open ends stays opened now h =
     ]
 opens (closed silence) result had was_open is_open ends stays opened now h = absurd h
 
--- one more is served, at the end
+-- one more served visit, at the end
 served_more : {S T : Type 0} (register : Ghosts S) (visits : List Visit) (visit : Visit) (result : Result T Fault)
     (s0 s1 s2 : S) → EndsWith visit result → AreServed register s0 s1 visits → AreServed register s1 s2 (visit ∷ [])
     → (register.is_honest s2 → register.is_honest s1)
@@ -98,7 +98,7 @@ served_more register visits visit result s0 s1 s2 ends first last back stays = �
       ),
     )
 
--- no connection does nothing
+-- zero connections change nothing
 pub meets_none : {S : Type 0} (book : Option Book) (source : Option (List ℕ)) (register : Ghosts S) (s : S)
     → Meets 0 book book source source register s s
 meets_none book source register s = record {
@@ -109,7 +109,7 @@ meets_none book source register s = record {
   served = λ h o l m. (l, refl, m, λ none. absurd none);
 }
 
--- one connection more
+-- one more connection
 pub meets_more : {S T : Type 0} (n : ℕ) (result : Result T Fault) (b0 b1 b2 : Option Book) (n0 n1 n2 : Option (List ℕ))
     (register : Ghosts S) (s0 s1 s2 : S) → Meets n b0 b1 n0 n1 register s0 s1
     → Visits result b1 b2 n1 n2 register s1 s2 → (register.is_honest s2 → register.is_honest s1)

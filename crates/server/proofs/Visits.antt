@@ -1,4 +1,4 @@
--- What one connection did, by how it was served.
+-- What one connection did, by the way it was served.
 use Rattle.std.proofs.Common.{◌≡◌, ◌≤◌, inl, inr, ℕ, List, [], ◌∷◌, ◌++◌, take, Option, None, Some, Result, Ok, Err, OnOk, refl, sym, subst, ap, ◌∙◌}
 use Rattle.std.specs.Io.KnownBytes.{Consumes, Appends}
 use Rattle.std.proofs.KnownBytes.{Consumes-nil}
@@ -24,19 +24,19 @@ use Rattle.server.specs.declared.connection_fault.Fault.TheVariants.{Socket, Clo
 use Rattle.server.specs.Books.{Book, WhereTold, IsAccepted, IsEnded}
 use Rattle.server.specs.Connections.{Talk, answered, cut, closed, AreServed, IsHeld, IsOfAccepting, IsSilent, Tells, TellsFault, Visits}
 
--- what was taken of a connection is a beginning of what it sent
+-- the bytes read from a connection are a prefix of what it sent
 split_request : (sent : List ℕ) (reader : Option (List ℕ)) (request : List ℕ) → Consumes (Some sent) reader request
     → IsOneRequest reader request → (left : List ℕ) × (sent ≡ request ++ left) × IsOneRequest (Some left) request
 split_request sent None request taken one = absurd taken
 split_request sent (Some left) request taken one = (left, taken, one)
 
--- what a writer that had taken nothing has taken
+-- a writer that had taken nothing has taken exactly the bytes written
 took_all : (writer : Option (List ℕ)) (written taken : List ℕ) → Appends (Some []) writer written
     → writer ≡ Some taken → taken ≡ written
 took_all None written taken wrote took = absurd wrote
 took_all (Some all) written taken wrote took = let same : all ≡ taken = cc in sym same ∙ wrote
 
--- a request that was served, and what was written
+-- the book after a request that was served, and after these bytes were written
 told_held : (talk : Talk) (written : List ℕ) (reader reader' writer writer' : Option (List ℕ)) (old mid new : Option
     Book)
     → WhereTold (IsAccepted reader writer talk.exchange.moment) old mid → Consumes reader reader' talk.exchange.request
@@ -63,7 +63,7 @@ told_held talk written reader reader' writer writer' (Some old) (Some mid) (Some
       met = record { coming = cc; kept = cc };
     }
 
--- a connection on which nothing was written
+-- the book after a connection on which nothing was written
 told_closed : (fault : ServeFault) (reader writer writer' : Option (List ℕ)) (moment : ℕ) (old mid new : Option Book)
     → WhereTold (IsAccepted reader writer moment) old mid
     → writer' ≡ writer → WhereTold (IsEnded writer') mid new
@@ -81,7 +81,7 @@ told_closed fault reader writer writer' moment (Some old) (Some mid) (Some new) 
     let kept' = ended.kept in
     (record { sent = accepted.sent; moment = moment }, record { coming = cc; kept = cc })
 
--- one exchange that was answered is served
+-- a single answered exchange, as a batch
 serves_one : (x : Exchange) (response : List ℕ) (before after keeps : Opening → List Arrival → Type 0)
     → IsAnswered before after keeps x.request x.moment x.nonce response
     → Serves before after keeps (x ∷ []) (Answer response ∷ [])
@@ -96,7 +96,7 @@ serves_one x response before after keeps answers o l m =
       ],
     )
 
--- what is told of a talk is told with how much of its response was written
+-- if the first `count` bytes of its response were written, the talk was cut
 told_cut : (talk : Talk) (count : ℕ) (old new : Option Book)
     → WhereTold (IsHeld talk (take count talk.response)) old new → WhereTold (Tells (cut talk)) old new
 told_cut talk count None new held = tt
@@ -118,7 +118,7 @@ module _ (S W : Type 0) (register : Ghosts S) (taken : W → Option (List ℕ))
   IsServed = Served reader reader' source source' moment (register.is_honest s') (register.means s) (register.means s')
       (Keeps register.means register.is_open s')
 
-  -- what was asked, and what was given
+  -- the request and its response
   abbrev talk_of : IsServed → Talk
   talk_of x = record {
     exchange = record { request = x.request; moment = moment; nonce = x.nonce };
@@ -127,7 +127,7 @@ module _ (S W : Type 0) (register : Ghosts S) (taken : W → Option (List ℕ))
     size = x.nonce_size;
   }
 
-  -- the register served it
+  -- the register answered it
   talk_served : (x : IsServed) → AreServed register s s' (answered (talk_of x) ∷ [])
   talk_served x = λ h. serves_one (talk_of x).exchange x.response (register.means s) (register.means s')
       (Keeps register.means register.is_open s') (x.answered h)
@@ -144,7 +144,7 @@ module _ (S W : Type 0) (register : Ghosts S) (taken : W → Option (List ℕ))
     served = talk_served x;
   }
 
-  -- a beginning of the response was written
+  -- a prefix of the response was written
   cut_by : {T : Type 0} (x : IsServed) → AppendsBeginning (taken w) (taken w') x.response
       → Visits {A = T} (Err (Serving Write)) old new source source' register s s'
   cut_by x wrote = record {
@@ -182,7 +182,7 @@ module _ (S W : Type 0) (register : Ghosts S) (taken : W → Option (List ℕ))
   failed_by NoMemory broke same kept drew = closed_by NoMemory drew.drawn drew.consumed drew.size same kept
   failed_by Write broke same kept drew = let cut = broke refl in cut_by cut.0 cut.1
 
-  -- serving ended well
+  -- serving succeeded
   pub answered_visit : {T A : Type 0} (t : T) (a : A) (served : Result A ServeFault) → served ≡ Ok a
       → OnOk served ((x : IsServed) × Appends (taken w) (taken w') x.response)
       → Visits {A = T} (Ok t) old new source source' register s s'
@@ -201,7 +201,7 @@ module _ (S W : Type 0) (register : Ghosts S) (taken : W → Option (List ℕ))
       subst (λ (f : ServeFault). Visits {A = T} (Err (Serving f)) old new source source' register s s') one
       (failed_by {A = A} e broke same kept drew)
 
--- where accepting failed, nothing was written, and nothing drawn
+-- if accepting failed, nothing was written, and no nonce drawn
 silent : (fault : Fault) → IsOfAccepting fault → IsSilent fault []
 silent Socket only = refl
 silent Clock only = refl

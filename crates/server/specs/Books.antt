@@ -1,28 +1,28 @@
--- What a listener tells of its connections.
+-- A listener's record of its connections.
 use Rattle.std.specs.Prelude.{◌≡◌, List, [], ◌∷◌, ◌++◌, ℕ, Option, None, Some}
 
--- a connection that is to come: the bytes that it sends, and the clock's moment when it is accepted
+-- a future connection: the bytes that it sends, and the time on the clock when it is accepted
 pub record Coming : Type 0 where
   pub sent : List ℕ
   pub moment : ℕ
 
--- the connections that are still to come, and what was written on each that was met
+-- the connections that are still to come, and what was written on each of those that were handled
 pub record Book : Type 0 where
   pub coming : List Coming
   pub written : List (List ℕ)
 
--- the next connection, which is this one, was met, and these bytes were written on it
+-- this connection was the next, it was handled, and these bytes were written on it
 pub record IsMet (old new : Book) (next : Coming) (written : List ℕ) : Type 0 where
   pub coming : old.coming ≡ next ∷ new.coming
   pub kept : new.written ≡ old.written ++ written ∷ []
 
--- where it is told
+-- a relation between two books, which holds trivially if the listener has none
 abbrev pub WhereTold : {A : Type 0} → (A → A → Type 0) → (old new : Option A) → Type 0
 WhereTold holds None new = Unit {0}
 WhereTold holds (Some old) None = ⊥
 WhereTold holds (Some old) (Some new) = holds old new
 
--- The next connection was accepted at this moment: its reader gives what it sends, and its writer has taken nothing.
+-- The next connection was accepted at this time: its reader returns what it sends, and its writer has taken nothing.
 pub record IsAccepted (reader writer : Option (List ℕ)) (moment : ℕ) (old new : Book) : Type 0 where
   pub sent : List ℕ
   pub coming : old.coming ≡ record { sent = sent; moment = moment } ∷ new.coming
@@ -30,7 +30,7 @@ pub record IsAccepted (reader writer : Option (List ℕ)) (moment : ℕ) (old ne
   pub gives : reader ≡ Some sent
   pub silent : writer ≡ Some []
 
--- a connection ended, on which the writer wrote what it took
+-- a connection ended, and the bytes that its writer took are recorded as written on it
 pub record IsEnded (writer : Option (List ℕ)) (old new : Book) : Type 0 where
   pub written : List ℕ
   pub took : writer ≡ Some written

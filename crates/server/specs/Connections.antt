@@ -18,14 +18,14 @@ use Rattle.server.specs.declared.connection_fault.Fault.{Fault}
 use Rattle.server.specs.declared.connection_fault.Fault.TheVariants.{Socket, Clock, Serving}
 use Rattle.server.specs.Books.{Coming, Book, IsMet, WhereTold}
 
--- a request that was served, at a lawful moment and with a whole nonce, and the response
+-- a request that was served, at a valid time and with a whole nonce, and its response
 pub record Talk : Type 0 where
   pub exchange : Exchange
   pub response : List ℕ
   pub lawful : exchange.moment ≤ 253402300799
   pub size : length exchange.nonce ≡ 32
 
--- A fault after which nothing was written, and what was drawn of the nonces before it. `Write` comes behind a beginning
+-- A fault after which nothing was written, and the nonce bytes that were drawn before it. `Write` comes after a prefix
 -- of the response.
 abbrev pub IsSilent : Fault → (drawn : List ℕ) → Type 0
 IsSilent Socket drawn = drawn ≡ []
@@ -39,14 +39,14 @@ pub record Silence : Type 0 where
   pub drawn : List ℕ
   pub silent : IsSilent fault drawn
 
--- What one connection did: it was answered, or it was cut off behind a beginning of the response, or it was closed with
--- nothing written.
+-- What one connection did: it was answered, or it was cut off after a prefix of the response, or it was closed without
+-- any bytes written.
 pub data Visit : Type 0 where
   answered : Talk → Visit
   cut : Talk → Visit
   closed : Silence → Visit
 
--- a fact of a connection that was given its response, though it may have been cut
+-- a fact that holds if the connection was given its response, even if the response was cut off
 abbrev pub IfGiven : {A : Type 0} → Result A Fault → Type 0 → Type 0
 IfGiven (Ok a) P = P
 IfGiven (Err Socket) P = Unit {0}
@@ -64,32 +64,32 @@ EndsWith (closed silence) (Err fault) = silence.fault ≡ fault
 
 -- ---- the listener
 
--- The request is a beginning of what the connection sent, its moment is that of the connection, and these bytes were
--- written on it.
+-- The request is a prefix of what the connection sent, its time is that of the connection, and these bytes were written
+-- on it.
 pub record IsHeld (talk : Talk) (written : List ℕ) (old new : Book) : Type 0 where
   pub left : List ℕ
   pub one : IsOneRequest (Some left) talk.exchange.request
   pub met : IsMet old new (record { sent = talk.exchange.request ++ left; moment = talk.exchange.moment }) written
 
--- What the listener tells of a connection on which nothing was written. The listener tells the moments too, so its
+-- The book after a connection on which nothing was written. The book contains the times as well, so its listener's
 -- clock doesn't fail.
 abbrev pub TellsFault : Fault → (old new : Book) → Type 0
 TellsFault Socket old new = (old.coming ≡ []) × (new ≡ old)
 TellsFault Clock old new = ⊥
 TellsFault (Serving fault) old new = (next : Coming) × IsMet old new next []
 
--- what the listener tells of a visit
+-- the book after a visit
 abbrev pub Tells : Visit → (old new : Book) → Type 0
 Tells (answered talk) old new = IsHeld talk talk.response old new
 Tells (cut talk) old new = (count : ℕ) × IsHeld talk (take count talk.response) old new
 Tells (closed silence) old new = TellsFault silence.fault old new
 
--- of visits, one after the other
+-- the same for a sequence of visits
 abbrev pub TellsAll : List Visit → (old new : Option Book) → Type 0
 TellsAll [] old new = new ≡ old
 TellsAll (visit ∷ visits) old new = (mid : Option Book) × WhereTold (Tells visit) old mid × TellsAll visits mid new
 
--- accepting fails by these two alone
+-- accepting fails only with these two faults
 abbrev pub IsOfAccepting : Fault → Type 0
 IsOfAccepting Socket = Unit {0}
 IsOfAccepting Clock = Unit {0}
@@ -97,7 +97,7 @@ IsOfAccepting (Serving fault) = ⊥
 
 -- ---- the nonces and the register
 
--- the exchange of a visit, of which only what was drawn is known where it was closed
+-- the exchange of a visit; if it was closed, only the nonce bytes drawn are known
 abbrev pub exchange_of : Visit → Exchange
 exchange_of (answered talk) = talk.exchange
 exchange_of (cut talk) = talk.exchange
@@ -109,12 +109,12 @@ given_of (answered talk) = given.Answer talk.response
 given_of (cut talk) = given.Answer talk.response
 given_of (closed silence) = given.Fault
 
--- what a visit drew of the nonces
+-- the nonce bytes that a visit drew
 abbrev pub drawn_of : Visit → List ℕ
 drawn_of visit = (exchange_of visit).nonce
 
--- An honest register gave to the exchanges of visits what is due, or a fault, whatever it meant before. Where it has
--- answered since the last fault, it is open, and so keeps the history that it then means.
+-- A register whose disk has been faithful gave the visits' exchanges the specified responses, or faults, whatever it
+-- meant before. If it has answered since the last fault, it is open, and so keeps the history that it then means.
 abbrev pub AreServed : {S : Type 0} → Ghosts S → (old new : S) → List Visit → Type 0
 AreServed register old new visits = register.is_honest new → Serves (register.means old) (register.means new)
     (Keeps register.means register.is_open new) (map exchange_of visits) (map given_of visits)
@@ -130,8 +130,8 @@ pub record Visits {A S : Type 0} (result : Result A Fault) (book book' : Option 
   pub drawn : Consumes nonces nonces' (drawn_of visit)
   pub served : AreServed register old new (visit ∷ [])
 
--- What so many connections did, one after the other. What they drew, put together, is a beginning of the nonce source:
--- so each nonce is the next 32 bytes, none is given twice, and nothing is left out but what was drawn before a fault.
+-- What `count` connections did, in order. The nonces that they drew, concatenated, are a prefix of the nonce source:
+-- each nonce is the next 32 bytes, none is used twice, and nothing is skipped except what was drawn before a fault.
 pub record Meets {S : Type 0} (count : ℕ) (book book' : Option Book) (nonces nonces' : Option (List ℕ))
     (register : Ghosts S) (old new : S) : Type 0 where
   pub visits : List Visit
@@ -142,18 +142,18 @@ pub record Meets {S : Type 0} (count : ℕ) (book book' : Option Book) (nonces n
 
 -- ---- what is added to the history
 
--- an arrival that an office may be given at any time
+-- an arrival with a valid time and a whole nonce
 pub record IsTimely (arrival : Arrival) : Type 0 where
   pub moment : arrival.moment ≤ 253402300799
   pub nonce : length arrival.nonce ≡ 32
 
--- a history is meant with at most so many arrivals more
+-- the meaning holds of the history with at most `most` more arrivals
 pub record IsExtended (most : ℕ) (l : List Arrival) (means : List Arrival → Type 0) : Type 0 where
   pub more : List Arrival
   pub count : length more ≤ most
   pub timely : All IsTimely more
   pub history : means (l ++ more)
 
--- what at most so many connections do: each adds its arrival, or nothing
+-- the effect of at most `most` connections: each adds its arrival, or nothing
 abbrev pub Extends : (most : ℕ) (before after : Opening → List Arrival → Type 0) → Type 0
 Extends most before after = (o : Opening) (l : List Arrival) → before o l → IsExtended most l (after o)

@@ -1,4 +1,4 @@
--- What is printed.
+-- The texts that are printed.
 use Rattle.std.specs.Prelude.{ℕ, List, [], ◌∷◌, ◌++◌, codes}
 use Rattle.std.specs.Fmt.{decimal}
 use Rattle.web.specs.declared.serve_fault.ServeFault.{ServeFault}
@@ -30,14 +30,14 @@ abbrev pub selftest_fault_name : SelftestFault → List ℕ
 selftest_fault_name (Unserved fault) = fault_name fault
 selftest_fault_name Mismatch = codes "Mismatch"
 
--- the line of a connection's fault, the connections being counted from 1
+-- the line for a connection's fault; connections are counted from 1
 abbrev pub connection_line : ℕ → Fault → List ℕ
 connection_line number fault = codes "sshoffice: connection " ++ (decimal number ++ 32 ∷ (fault_name fault ++ 10 ∷ []))
 
--- the line where there was no memory to serve anybody
+-- the line if there was no memory to serve anybody
 abbrev pub no_memory_line : List ℕ
 no_memory_line = codes "sshoffice: NoMemory\n"
 
--- the line of a port at which a server listens
+-- the line for the port on which a server listens
 abbrev pub listening_line : ℕ → List ℕ
 listening_line port = codes "listening " ++ (decimal port ++ 10 ∷ [])

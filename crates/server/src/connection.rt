@@ -1,4 +1,4 @@
-//! One connection served.
+//! Serving one connection.
 
 ghost use Rattle.std.specs.Prelude.{◌≤◌, ◌<◌, ◌+◌};
 ghost use Rattle.office.specs.Registers.{FailuresPersist};
@@ -11,7 +11,7 @@ use office::Registry;
 use web::serve_one;
 use wire::Source;
 
-/// Accepts a connection, serves the one request on it, at the moment when it was accepted, and ends it.
+/// Accepts a connection, serves its one request at the time when it was accepted, and ends it.
 pub(crate) fn serve_connection<R: AllocGlobal, L: Listener, S: Registry, N: Source>(
     routes: &Routes,
     rt: &R,

@@ -1,4 +1,4 @@
-//! What can go wrong. Each fault is printed as its name.
+//! The faults of a server. Each is printed as its name.
 
 ghost use Rattle.std.specs.Prelude.{◌≡◌, Some};
 ghost use Rattle.server.specs.Names.{fault_name, listen_fault_name, selftest_fault_name};
@@ -11,7 +11,7 @@ use web::ServeFault;
 pub enum Fault {
     /// No connection could be accepted.
     Socket,
-    /// The clock failed, or its moment is over the latest one.
+    /// The clock failed, or its time is after the latest one.
     Clock,
     /// The request wasn't served.
     Serving(ServeFault),

@@ -1,4 +1,4 @@
-//! Where connections come from.
+//! The source of connections.
 
 ghost use Rattle.std.specs.Prelude.{◌≡◌, ◌≤◌, Option, None, IfOk, IfErr};
 ghost use Rattle.values.specs.declared.limits.TheConstants.{LATEST_MOMENT};
@@ -10,34 +10,34 @@ use wire::{Sink, Source};
 
 /// A connection that was accepted.
 pub struct Connection<R, W> {
-    /// What the peer sends.
+    /// The bytes that the peer sends.
     pub reader: R,
-    /// What is written to the peer.
+    /// The bytes that are written to the peer.
     pub writer: W,
-    /// The clock's moment when the connection was accepted, in seconds since 1970-01-01 00:00:00 UTC.
+    /// The time on the clock when the connection was accepted, in seconds since 1970-01-01 00:00:00 UTC.
     pub moment: u64,
 }
 
-/// A listener, whose connections are accepted and ended one after the other.
+/// A listener, whose connections are accepted and ended one at a time.
 pub trait Listener {
-    /// What a connection sends.
+    /// Reads the bytes that a connection sends.
     type Reader: Source;
 
-    /// What is written on a connection.
+    /// Takes the bytes that are written on a connection.
     type Writer: Sink;
 
-    /// What the listener tells of its connections, where it tells them.
+    /// The listener's record of its connections, if it has one.
     ghost book: { Self → Option Book } = { λ _. None };
 
-    /// A connection was accepted and didn't end yet.
+    /// A connection was accepted and hasn't ended yet.
     ghost is_open: { Self → Type 0 } = { λ _. Unit {0} };
 
     /// Accepts the next connection.
     ///
     /// # Errors
     ///
-    /// `Socket` where no connection could be accepted; a listener that tells its connections then has none to come.
-    /// `Clock` where the connection was closed, since the clock failed or its moment is over the latest one.
+    /// `Socket` if no connection could be accepted; a listener with a book then has none to come. `Clock` if the
+    /// connection was closed because the clock failed or its time is after the latest one.
     fn accept(&mut self) -> Result<Connection<Self::Reader, Self::Writer>, Fault>
         ensures ok { IfOk result (λ c. WhereTold (IsAccepted (Self.Reader.remaining c.reader)
             (Self.Writer.taken c.writer) c.moment) (book self.old) (book self.new)) }
@@ -47,7 +47,7 @@ pub trait Listener {
         ensures only { IfErr result IsOfAccepting }
         ensures open { IfOk result (λ _. is_open self.new) };
 
-    /// Ends a connection that was accepted. `whole` says that the response was written whole.
+    /// Ends a connection that was accepted. `whole` says whether the entire response was written.
     fn end(&mut self, reader: Self::Reader, writer: Self::Writer, whole: bool)
         requires { is_open self.old }
         ensures { WhereTold (IsEnded (Self.Writer.taken writer)) (book self.old) (book self.new) };

@@ -1,4 +1,4 @@
-//! The listener.
+//! Making the listener.
 
 ghost use Rattle.std.specs.Prelude.{◌≡◌, OnOk, Err, ℕ};
 ghost use Rattle.std.specs.Io.KnownBytes.{Appends};
@@ -9,7 +9,7 @@ use std::io;
 use std::io::Write;
 use std::net::{Ipv4Addr, Net, SocketAddr, SocketAddrV4, TcpListener, TcpStream};
 
-/// A listener on 127.0.0.1 at this port, or at one that the system chooses for 0.
+/// A listener on 127.0.0.1 at this port; the system chooses a port if it is 0.
 pub(crate) fn bind<R: Net<Listener = TcpListener, Stream = TcpStream>>(
     rt: &R,
     port: u16,
@@ -27,11 +27,11 @@ fn print_port<O: Write>(out: &mut O, port: u16) -> io::Result<()>
     out.flush()
 }
 
-/// Listens on 127.0.0.1 at this port, or at one that the system chooses for 0, and prints a line `listening PORT`.
+/// Listens on 127.0.0.1 at this port, or at one that the system chooses if it is 0, and prints a line `listening PORT`.
 ///
 /// # Errors
 ///
-/// `Socket` where there is no such listener, and nothing is printed; `Write` where the line can't be printed.
+/// `Socket` if the listener can't be made, and nothing is printed; `Write` if the line can't be printed.
 pub fn listen<R: Net<Listener = TcpListener, Stream = TcpStream>, O: Write>(
     rt: &R,
     port: u16,

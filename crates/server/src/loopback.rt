@@ -14,7 +14,7 @@ use std::time::{Clock, SystemTime, UNIX_EPOCH};
 use values::LATEST_MOMENT;
 use wire::Buffered;
 
-/// A listener of TCP, whose connections are waited for with patience. Of its bytes nothing is told.
+/// A TCP listener whose waits are bounded. It keeps no book: nothing is specified about its bytes.
 #[derive(Drop)]
 pub struct Loopback<'a, C> {
     listener: &'a TcpListener,
@@ -22,14 +22,14 @@ pub struct Loopback<'a, C> {
 }
 
 impl<'a, C: Clock> Loopback<'a, C> {
-    /// The listener, where a read and a write wait `STEP_SECONDS` at most, and a connection takes `CONNECTION_SECONDS`
-    /// at most.
+    /// The listener. A read or a write waits at most `STEP_SECONDS`, and a connection takes at most
+    /// `CONNECTION_SECONDS`.
     pub fn new(listener: &'a TcpListener, clock: &'a C) -> Loopback<'a, C> {
         Loopback { listener, clock }
     }
 }
 
-/// The clock's moment, in seconds since 1970-01-01 00:00:00 UTC, or `None` where the clock fails or is past the latest.
+/// The clock's time, in seconds since 1970-01-01 00:00:00 UTC, or `None` if the clock fails or is past the latest time.
 fn moment_of<C: Clock>(clock: &C) -> Option<u64>
     ensures { IfSome result (λ moment. moment ≤ LATEST_MOMENT) }
 {

@@ -20,15 +20,15 @@ use wire::{FromRead, read_full};
 
 const REQUEST: &[u8] = b"GET /v1/krl HTTP/1.1\r\n\r\n";
 
-/// The response with the list of an office with nothing revoked: PROTOCOL.krl, a header alone, of version 0 and date 0.
+/// The response with the list of an office with nothing revoked: PROTOCOL.krl, a header alone, version 0 and date 0.
 const RESPONSE: &[u8] = b"HTTP/1.1 200 OK\r\ncontent-type: application/octet-stream\r\n\
 content-length: 44\r\nconnection: close\r\n\r\n\
 SSHKRL\n\0\0\0\0\x01\0\0\0\0\0\0\0\0\0\0\0\0\0\0\0\0\0\0\0\0\0\0\0\0\0\0\0\0\0\0\0\0";
 
-/// A GET takes a nonce and lets it go.
+/// A GET draws a nonce and discards it.
 const NONCE: &[u8] = &[0x33; 32];
 
-// A client of the listener that has sent the request.
+// Connects a client to the listener and sends the request.
 fn ask<R: Net<Listener = TcpListener, Stream = TcpStream>>(
     rt: &R,
     listener: &TcpListener,
@@ -39,7 +39,7 @@ fn ask<R: Net<Listener = TcpListener, Stream = TcpStream>>(
     Ok(client)
 }
 
-// Whether all that the client is sent is the response.
+// Whether the client receives exactly the response.
 fn is_answered(client: TcpStream) -> bool {
     let mut bytes = [0; RESPONSE.len() + 1];
     match read_full(&mut FromRead::new(client), &mut bytes) {
@@ -64,13 +64,13 @@ fn serve_once<R: AllocGlobal, L: Listener, S: Registry>(
     serve_connection(&routes, rt, listener, store, &mut nonces)
 }
 
-/// Tests the way from a socket to a register and back, of an office with nothing revoked: listens on 127.0.0.1 at a
-/// port that the system chooses, connects to it, asks for the list, serves that connection, and looks at the answer.
+/// Tests the path from a socket to a register and back, for an office with nothing revoked: listens on 127.0.0.1 at a
+/// port that the system chooses, connects to it, asks for the list, serves that connection, and checks the answer.
 ///
 /// # Errors
 ///
-/// `Unserved` where a socket, the clock or the register failed or a growth was refused; `Mismatch` where anything but
-/// the list of 44 bytes was answered.
+/// `Unserved` if a socket, the clock or the register failed or an allocation failed; `Mismatch` if the answer was
+/// anything but the list of 44 bytes.
 pub fn selftest<
     R: Net<Listener = TcpListener, Stream = TcpStream> + Clock + AllocGlobal,
     S: Registry,

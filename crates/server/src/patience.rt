@@ -1,4 +1,4 @@
-//! How long a connection may take.
+//! The time limits of a connection.
 
 ghost use Rattle.std.specs.Prelude.{◌≡◌, ◌*◌};
 ghost use Rattle.std.specs.Duration.{as_nanos};
@@ -8,7 +8,7 @@ use std::time::Duration;
 /// The longest wait of one read or one write, in seconds.
 pub const STEP_SECONDS: u64 = 10;
 
-/// The longest time of a connection, from when it was accepted, in seconds.
+/// The longest duration of a connection after it was accepted, in seconds.
 pub const CONNECTION_SECONDS: u64 = 60;
 
 /// How long a server waits for a peer.
@@ -16,12 +16,12 @@ pub const CONNECTION_SECONDS: u64 = 60;
 pub(crate) struct Patience {
     /// In one read or one write.
     pub(crate) step: Duration,
-    /// In all, from when the connection was accepted.
+    /// In total, from when the connection was accepted.
     pub(crate) whole: Duration,
 }
 
 impl Patience {
-    /// The patience of a server.
+    /// The time limits of a server.
     pub(crate) fn usual() -> Patience
         ensures step { as_nanos result.step ≡ STEP_SECONDS * 1_000_000_000 }
         ensures whole { as_nanos result.whole ≡ CONNECTION_SECONDS * 1_000_000_000 }

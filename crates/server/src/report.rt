@@ -1,4 +1,4 @@
-//! Faults of connections, printed.
+//! Printing the faults of connections.
 
 ghost use Rattle.std.specs.Prelude.{OnOk};
 ghost use Rattle.std.specs.Io.KnownBytes.{Appends};
@@ -8,7 +8,7 @@ use crate::connection_fault::Fault;
 use std::io;
 use std::io::Write;
 
-/// Prints the fault of a connection, the connections being counted from 1.
+/// Prints the fault of a connection; connections are counted from 1.
 pub(crate) fn report<E: Write>(err: &mut E, connection: u64, fault: Fault) -> io::Result<()>
     ensures { OnOk result (Appends (E.contents err.old) (E.contents err.new) (connection_line connection fault)) }
 {

@@ -14,12 +14,12 @@ use wire::{Ending, Pace, ScriptedReader, VecSink};
 pub struct ScriptedConnection<'a> {
     /// The bytes that it sends.
     pub sent: &'a [u8],
-    /// The moment when it is accepted, at most `values::LATEST_MOMENT`.
+    /// The time when it is accepted, at most `values::LATEST_MOMENT`.
     pub moment: u64,
     ghost lawful: { moment ≤ LATEST_MOMENT },
 }
 
-/// A listener of connections in memory, one after the other. What is written on each is kept.
+/// A listener of in-memory connections, in order. It keeps what is written on each.
 #[derive(Drop)]
 pub struct ScriptedListener<'a> {
     all: &'a [ScriptedConnection<'a>],
@@ -36,7 +36,7 @@ impl<'a> ScriptedListener<'a> {
     ///
     /// # Errors
     ///
-    /// The room for what is written was refused.
+    /// The allocation for what is written failed.
     pub fn new(
         alloc: Global,
         all: &'a [ScriptedConnection<'a>],
@@ -54,7 +54,7 @@ impl<'a> ScriptedListener<'a> {
         })
     }
 
-    /// What was written on each connection that was met.
+    /// What was written on each connection that was handled.
     pub fn written(&self) -> &[Vec<u8>]
         ensures { ⟦<ScriptedListener<'a> as Listener>⟧.book self.now
             ≡ Some (record {

@@ -13,19 +13,19 @@ use std::io::Write;
 use waiting::Waiting;
 use wire::Source;
 
-/// The status where all connections were met.
+/// The status if all connections were handled.
 const DONE: u8 = 0;
 
-/// The status where none was.
+/// The status if none was.
 const FAULT: u8 = 1;
 
-/// Serves so many connections of a listener, one after the other, each at its moment and with 32 bytes of nonces.
+/// Serves `connections` connections of a listener, in order, each at its own time and with the next 32 nonce bytes.
 ///
-/// The fault of a connection is printed to `err` as a line `sshoffice: connection K NAME`, K from 1, and the next is
-/// served. The answer is 0; where there is no memory to begin with, the line `sshoffice: NoMemory` is printed and the
-/// answer is 1. Nothing is printed to `out`. What `err` doesn't take is lost.
+/// The fault of a connection is printed to `err` as a line `sshoffice: connection K NAME`, K from 1, and the next one
+/// is served. The result is 0; if there is no memory to begin with, the line `sshoffice: NoMemory` is printed and the
+/// result is 1. Nothing is printed to `out`. What `err` doesn't take is lost.
 ///
-/// The nonce source is lent with so few failures that each connection may add one.
+/// The count of the nonce source's failures leaves room for one more per connection.
 pub fn serve_on<R: AllocGlobal, L: Listener, S: Registry, N: Source, O: Write, E: Write>(
     rt: &R,
     listener: &mut L,
@@ -39,15 +39,15 @@ pub fn serve_on<R: AllocGlobal, L: Listener, S: Registry, N: Source, O: Write, E
     ensures status { result ≤ FAULT }
     ensures failures { FailuresPersist S.is_honest S.is_open store.old store.new }
 
-    // Each connection is given the response that is due to its request after the arrivals of those before it, or it is
-    // closed with a fault. The nonces are the next bytes of the source, in the order of the connections. The register
-    // then means the history with the arrivals that the requests ask for, and is open where it has answered since the
-    // last fault.
+    // Each connection gets the response that is specified for its request after the arrivals of the earlier ones, or it
+    // is closed with a fault. The nonces are the next bytes of the source, in the order of the connections. The
+    // register then means the history with the arrivals of the requests, and is open if it has answered since the last
+    // fault.
     ensures met { result ≡ DONE → Meets connections (L.book listener.old) (L.book listener.new) (N.remaining nonces.old)
         (N.remaining nonces.new) S.Registry store.old store.new }
 
-    // The register means the history with at most an arrival for each connection, each at a lawful moment. Where no
-    // connection was met, all is as it was.
+    // The register means the history with at most one arrival for each connection, each at a valid time. If no
+    // connection was handled, everything is unchanged.
     ensures served { S.is_honest store.new → Extends connections (S.means store.old) (S.means store.new) }
     ensures unmet { result ≡ FAULT → store.new ≡ store.old }
     ensures untouched { result ≡ FAULT → (listener.new ≡ listener.old) × (nonces.new ≡ nonces.old) }
@@ -66,8 +66,8 @@ pub fn serve_on<R: AllocGlobal, L: Listener, S: Registry, N: Source, O: Write, E
     DONE
 }
 
-/// As `serve_on`, over a register that is given, and comes back with the status. Which certificates are pending is kept
-/// in memory from one ask to the next.
+/// Like `serve_on`, but takes the register by value and returns it with the status. The list of pending certificates is
+/// cached in memory between requests.
 pub fn serve_keeping<R: AllocGlobal, L: Listener, S: Registry, N: Source, O: Write, E: Write>(
     rt: &R,
     listener: &mut L,

@@ -1,4 +1,4 @@
-//! Streams whose waits are bounded, as sources and sinks.
+//! Streams with bounded waits, as sources and sinks.
 
 ghost use Rattle.std.specs.Prelude.{◌≡◌, ◌+◌, ◌<◌};
 
@@ -10,8 +10,8 @@ use wire::{Failed, Sink, Source};
 
 /// A reader or a writer of a stream, with the number of its failures.
 ///
-/// A wait that lasts too long is a failure, and isn't begun again. A call that a signal interrupted took nothing; it is
-/// made again with the time that is left. A write that takes nothing of a piece that isn't empty is a failure.
+/// A wait that lasts too long is a failure, and isn't retried. A call that a signal interrupted transferred nothing; it
+/// is retried with the time that is left. A write that takes nothing of a nonempty piece is a failure.
 #[derive(Drop)]
 pub struct Timed<'a, S, C> {
     pub(crate) stream: S,
@@ -32,7 +32,7 @@ impl<'a, S, C> Timed<'a, S, C> {
         }
     }
 
-    // One failure more.
+    // Counts one more failure.
     fn fail(&mut self) -> Failed
         requires { self.old.failures < u64.MAX }
         ensures failures { self.new.failures ≡ self.old.failures + 1 }

@@ -1,4 +1,4 @@
-//! What is left of a connection's time.
+//! The time that is left to a connection.
 
 ghost use Rattle.std.specs.Prelude.{◌≡◌, ◌-◌, ◌<◌, ℕ, min, MatchOption};
 ghost use Rattle.std.specs.Duration.{as_nanos};
@@ -16,7 +16,7 @@ pub struct Watch<'a, C> {
     end: Instant,
 }
 
-/// How long a wait that begins now may last: a step, and no longer than until the end. `None` where no time is left.
+/// How long a wait that begins now may last: one step, but not past the end. `None` if no time is left.
 fn time_left(now: Instant, end: Instant, step: Duration) -> Option<Duration>
     ensures { MatchOption result (min (as_nanos step) (instant_nanos end - instant_nanos now) ≡ 0)
         (λ wait. (0 < as_nanos wait) × (as_nanos wait ≡ min (as_nanos step) (instant_nanos end - instant_nanos now))) }
@@ -30,7 +30,7 @@ fn time_left(now: Instant, end: Instant, step: Duration) -> Option<Duration>
 }
 
 impl<'a, C: Clock> Watch<'a, C> {
-    /// A watch whose time begins now, or `None` where the clock fails.
+    /// A watch whose time begins now, or `None` if the clock fails.
     pub(crate) fn new(clock: &'a C, patience: Patience) -> Option<Watch<'a, C>> {
         let Ok(start) = Instant::now(clock) else {
             return None;
@@ -45,7 +45,7 @@ impl<'a, C: Clock> Watch<'a, C> {
         })
     }
 
-    /// Another watch with the same end.
+    /// A second watch with the same end.
     pub(crate) fn same(&self) -> Watch<'a, C> {
         Watch {
             clock: self.clock,
@@ -62,7 +62,7 @@ impl<'a, C: Clock> Watch<'a, C> {
         }
     }
 
-    /// Lets the stream's next read wait for as long as it may. `false` where it may not.
+    /// Limits the wait of the stream's next read to the time left. `false` if none is left or the limit can't be set.
     pub(crate) fn allow_read<S: OpenStream>(&self, stream: &S) -> bool {
         match self.left() {
             Some(wait) => stream.set_read_timeout(Some(wait)).is_ok(),
@@ -70,7 +70,7 @@ impl<'a, C: Clock> Watch<'a, C> {
         }
     }
 
-    /// Lets the stream's next write wait for as long as it may. `false` where it may not.
+    /// Limits the wait of the stream's next write to the time left. `false` if none is left or the limit can't be set.
     pub(crate) fn allow_write<S: OpenStream>(&self, stream: &S) -> bool {
         match self.left() {
             Some(wait) => stream.set_write_timeout(Some(wait)).is_ok(),

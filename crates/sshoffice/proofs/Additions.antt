@@ -1,4 +1,4 @@
--- What a job adds to the history that the tables tell.
+-- What a job adds to the history that the tables represent.
 use Rattle.std.proofs.Common.{◌≢◌, ℕ, List, [], append-nil, Bool, true, false, Option, Result, Ok, Err, sym, subst}
 use Rattle.std.specs.Prelude.{IsTrue}
 use Rattle.sqlite.specs.State.{State}
@@ -26,7 +26,7 @@ use Rattle.sshoffice.specs.Opening.{TellsOn}
 use Rattle.sshoffice.specs.Reporting.{IsReport}
 use Rattle.sshoffice.specs.Serving.{Heard, Serves}
 
--- tables that tell what they told add nothing
+-- tables that represent what they represented before add nothing
 adds_none : (old new : State) → TellsOn old new → AddsArrivals old new
 adds_none old new tells o l told = ([], subst (Tells new o) (sym (append-nil l)) (tells o l told))
 
@@ -41,7 +41,7 @@ adds_run old new keeps exchanges given served o l told =
 -- ---- each job
 
 module _ (old new : State) (was : IsTrue old.is_open) where
-  -- no office is made in one that is there
+  -- no office is made in a database that has one
   not_new : old.now.schema ≢ whole → AddsArrivals old new
   not_new none o l told = absurd (none (told.rows was).now.schema)
 

@@ -1,4 +1,4 @@
--- What is printed for a file, from what is given to its exchanges.
+-- What is printed for a file, from the responses to its exchanges.
 use Rattle.std.proofs.Common.{◌≡◌, ℕ, List, [], ◌∷◌, Bool, Option, Result, Ok, Err, refl, sym, ap, subst, ◌∙◌}
 use Rattle.std.specs.Prelude.{IfSome, OnOk, Some, None}
 use Rattle.values.specs.declared.limits.TheConstants.{LAST_SERIAL}
@@ -15,7 +15,7 @@ use Rattle.sshoffice.specs.declared.job_fault.JobFault.TheVariants.{BadExchange,
 use Rattle.exchanges.specs.Printing.{Prints}
 use Rattle.sshoffice.specs.TrialOffice.{opening_of, trial_arrival}
 
--- What a register that shows the trial office gives is due.
+-- The responses of a register that represents the in-memory office (trial office) are the specified ones.
 pub applies : (file : List ℕ) (es run : List Exchange) (before after keeps : Opening → List Arrival → Type 0)
     (old new : Option (List ℕ)) (fault : Bool) → run ≡ es → AreExchanges es → file ≡ exchanges_text es
     → before (opening_of 1 LAST_SERIAL) (trial_arrival ∷ []) → Prints before after keeps run old new fault
@@ -33,7 +33,7 @@ applies file es run before after keeps old new fault same are text shown prints 
       faults = prints.faults;
     }
 
--- The same of a file whose text is known.
+-- The same for a file whose text is known.
 pub applies_of : (left : Option (List ℕ)) (es run : List Exchange)
     (before after keeps : Opening → List Arrival → Type 0)
     (old new : Option (List ℕ)) (fault : Bool) → run ≡ es
@@ -44,20 +44,20 @@ applies_of None es run before after keeps old new fault same found shown prints 
 applies_of (Some file) es run before after keeps old new fault same found shown prints =
     applies file es run before after keeps old new fault same found.0 found.1 shown prints
 
--- What is shown of a run that went well is shown of the job.
+-- A property of a successful batch is a property of the job.
 pub of_ok : (r : Result Unit RunFault) (done : Result Unit JobFault) (P : Type 0) → done ≡ run_result r → OnOk r P
     → OnOk done P
 of_ok (Ok u) done P same shown = subst (λ (d : Result Unit JobFault). OnOk d P) (sym same) shown
 of_ok (Err fault) done P same shown = subst (λ (d : Result Unit JobFault). OnOk d P) (sym same) tt
 
--- A fault that was printed was one of the run.
+-- A job that ends with `Fault` ran a batch that ended with `Fault`.
 pub was_fault : (r : Result Unit RunFault) → run_result r ≡ Err Fault → r ≡ Err run.Fault
 was_fault (Ok done) same = absurd cc
 was_fault (Err run.NoMemory) same = absurd cc
 was_fault (Err run.Write) same = absurd cc
 was_fault (Err run.Fault) same = refl
 
--- No bad record is met where exchanges are run.
+-- Running exchanges finds no bad record.
 pub not_bad : (r : Result Unit RunFault) (k : ℕ) → run_result r ≡ Err (BadExchange k) → ⊥
 not_bad (Ok done) k same = cc
 not_bad (Err run.NoMemory) k same = cc

@@ -1,4 +1,4 @@
--- What the requests for the list and for reports ask.
+-- The readings of the requests for the list and for reports.
 use Rattle.std.proofs.Common.{◌≡◌, ◌<◌, inr, ℕ, true, List, [], length, codes, IsUtf8, All, refl, arith}
 use Rattle.std.specs.List.{list_all}
 use Rattle.std.proofs.lemmas.List.Sums.{AllPass-from_list_all}
@@ -7,7 +7,7 @@ use Rattle.http_requests.specs.declared.resource.Resource.TheVariants.{Revocatio
 use Rattle.http_requests.specs.Asks.{Asks, get}
 use Rattle.http_requests.specs.Paths.{resource}
 
--- GET of this target, without header lines
+-- a GET of this target, without header lines
 abbrev head_of : List ℕ → RequestHead
 head_of target = record {
   blank = [];
@@ -26,7 +26,7 @@ is_get = refl
 no_field : All IsField []
 no_field = λ k d inside. absurd (omega (arith, inside))
 
--- such a head
+-- such a head is valid
 is_head : (target : List ℕ) → 0 < length target → list_all is_uri_byte target ≡ true → IsUtf8 target
     → IsRequestHead (head_of target)
 is_head target some all utf8 = record {

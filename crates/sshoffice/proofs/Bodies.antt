@@ -7,11 +7,11 @@ use Rattle.http_requests.specs.Responses.{phrase, response_text}
 use Rattle.values.proofs.Lacking.{after_first-append, before_first-append, decimal_lacks}
 use Rattle.exchanges.specs.Reading.{after, cut_of}
 
--- what stands before the digits of the body's length
+-- the bytes before the digits of the body's length
 abbrev pub head : List ℕ
 head = codes "HTTP/1.1 200 OK\r\ncontent-type: text/plain\r\ncontent-length: "
 
--- what stands behind them and a carriage return
+-- the bytes after these digits and a carriage return
 abbrev pub end : List ℕ
 end = codes "\nconnection: close\r\n\r\n"
 
@@ -27,7 +27,7 @@ sized_found response body same = ap (after head) (same ∙ in_parts body)
 abbrev Cut : Type 0
 Cut = List ℕ × List ℕ
 
--- what stands behind the length
+-- the bytes after the length
 pub rest_found : (sized body : List ℕ) → length body < 2 ^ 64 → sized ≡ decimal (length body) ++ 13 ∷ (end ++ body)
     → option_map (λ (p : Cut). p.1) (cut_of 13 sized) ≡ Some (end ++ body)
 rest_found sized body small same =
@@ -44,7 +44,7 @@ rest_found sized body small same =
     ∙ ap (option_map (λ (p : Cut). p.1)) (cond-true _ found None (lt-ltb _ _ short))
     ∙ ap (λ (r : List ℕ). Some r) back
 
--- what was found is what it is
+-- the found value is the expected one
 pub found_is : (a b : List ℕ) → ◌≡◌ {A = Option (List ℕ)} (Some a) (Some b) → a ≡ b
 found_is a b same = cc
 

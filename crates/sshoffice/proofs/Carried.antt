@@ -1,4 +1,4 @@
--- What is done of the office that was opened is done of the database as it was given.
+-- What a job does to the office that was opened, it does to the database as it was given.
 use Rattle.std.proofs.Common.{◌≡◌, ℕ, List, Bool, Option, Result, Ok, Err, true, false, refl, sym, subst, ◌∙◌}
 use Rattle.std.specs.Prelude.{IsTrue, OnOk}
 use Rattle.sqlite.specs.State.{State}
@@ -17,7 +17,7 @@ use Rattle.sshoffice.specs.Faults.{of_store, run_result}
 use Rattle.sshoffice.specs.Opening.{IsLeft, IsOpened, IsUnopened, TellsOn}
 use Rattle.sshoffice.specs.Applying.{Applies}
 
--- ---- what stays
+-- ---- unchanged databases
 
 pub before_again : (a b c : State) → IsAsBefore a b → IsAsBefore b c → IsAsBefore a c
 before_again a b c first then = record {
@@ -27,7 +27,7 @@ before_again a b c first then = record {
       ∙ first.same (then.was_open is_open) rests;
 }
 
--- what holds of an open connection alone
+-- `IsAsBefore` has to be shown only for an open connection
 pub before_open : (a b : State) → (IsTrue b.is_open → IsAsBefore a b) → IsAsBefore a b
 before_open a b h = record {
   was_open = λ is_open. (h is_open).was_open is_open;
@@ -37,7 +37,7 @@ before_open a b h = record {
 
 -- ---- faults
 
--- what excuses a fault is one of a register
+-- a fault that has its excuse is one of a register
 of_a_register : (A : Type 0) (e : StoreFault) → IsExcused A e → IsOfARegister e
 of_a_register A store.NoMemory h = tt
 of_a_register A store.Device h = tt
@@ -46,7 +46,7 @@ of_a_register A store.NotAnOffice h = h
 of_a_register A store.WrongSchema h = h
 of_a_register A store.Damaged h = h
 
--- a database that wasn't opened is left
+-- a database that wasn't opened is left as it was
 pub unopened_left : (old new : State) (held holds : Option (List ℕ)) (e : StoreFault) → IsUnopened old new e
     → holds ≡ held
     → IsLeft old new held holds e
@@ -56,7 +56,7 @@ unopened_left old new held holds e u same = record {
   only = λ is_open o l m. of_a_register (DiskFailed old new) e (u.only is_open o l m);
 }
 
--- what is left of an opened office is left of the database
+-- what a fault leaves of an opened office, it leaves of the database
 pub left_from : (old mid new : State) (held holds : Option (List ℕ)) (e : StoreFault) → IsOpened old mid
     → IsLeft mid new held holds e → IsLeft old new held holds e
 left_from old mid new held holds e opened left = record {
@@ -82,7 +82,7 @@ prints_from old mid new es held holds fault tells p = record {
 runs_from : (old mid new : State) (es : List Exchange) → TellsOn old mid → OfficeRuns mid new es → OfficeRuns old new es
 runs_from old mid new es tells r = (r.0, λ o l m. r.1 o l (tells o l m))
 
--- nothing was run of an opened office
+-- nothing was run over an opened office
 unrun : (old mid new : State) (held holds : Option (List ℕ)) → IsOpened old mid → new ≡ mid → holds ≡ held
     → IsAsBefore old new × IsLeft old new held holds store.NoMemory
 unrun old mid new held holds opened stays silent = (
@@ -114,7 +114,7 @@ applied (Err run.NoMemory) done es old mid new held holds same opened ok fault w
     subst (λ (d : Result Unit JobFault). Applies es old new held holds d) (sym same)
     (unrun old mid new held holds opened (stays refl) (silent refl))
 
--- an office that wasn't opened has nothing applied
+-- nothing is applied to an office that wasn't opened
 unapplied_of : (e : StoreFault) (es : List Exchange) (old new : State) (held holds : Option (List ℕ))
     → IsUnopened old new e → holds ≡ held → Applies es old new held holds (Err (of_store e))
 unapplied_of store.NoMemory es old new held holds u same =

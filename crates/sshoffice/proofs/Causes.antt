@@ -1,4 +1,4 @@
--- Which faults are met.
+-- Which faults can occur.
 use Rattle.std.proofs.Common.{◌≡◌, ◌≢◌, Result, Ok, Err, refl, subst, sym}
 use Rattle.std.specs.Prelude.{IfErr}
 use Rattle.lines.specs.declared.key_line.LineFault.{LineFault}
@@ -12,7 +12,7 @@ use Rattle.sshoffice.specs.declared.job_fault.JobFault.TheVariants.{File, Write,
 use Rattle.sshoffice.specs.Faults.{IsOfAFile, IsOfAKey, IsOfATrial, IsOfChecking, IsOfExchanges, of_line, of_store}
 use Rattle.sshoffice.specs.Faults.{run_result}
 
--- ---- of a key
+-- ---- reading a key
 
 pub key_file : (e : JobFault) → IsOfAFile e → IsOfAKey e
 key_file File h = tt
@@ -23,7 +23,7 @@ pub key_line : (e : LineFault) → IsOfAKey (of_line e)
 key_line line.NoMemory = tt
 key_line other = tt
 
--- ---- of a list that is asked
+-- ---- checking a list
 
 pub list_file : (e : JobFault) → IsOfAFile e → IsOfChecking e
 list_file File h = tt
@@ -34,7 +34,7 @@ pub verdict : {T : Type 0} (r : Result T JobFault) → IfErr r (λ e. e ≡ Writ
 verdict (Ok x) h = tt
 verdict (Err e) h = subst IsOfChecking (sym h) tt
 
--- ---- of a run over the trial office
+-- ---- a batch over the in-memory office
 
 pub of_file : (e : JobFault) → IsOfExchanges e → IsOfATrial e
 of_file File h = tt
@@ -42,7 +42,7 @@ of_file NoMemory h = tt
 of_file (BadExchange k) h = tt
 of_file other h = absurd h
 
--- no exchange was run
+-- these faults occur before any exchange is run
 pub not_run : (e : JobFault) → IsOfExchanges e → ¬ (e ≡ Fault)
 not_run e h same = subst IsOfExchanges same h
 
@@ -56,7 +56,7 @@ trial_run (Err run.NoMemory) = tt
 trial_run (Err run.Write) = tt
 trial_run (Err run.Fault) = tt
 
--- what was not run printed nothing
+-- a batch that wasn't run printed nothing
 run_silent : (P : Type 0) (r : Result (Unit {0}) RunFault) → (r ≡ Err run.NoMemory → P)
     → IfErr (run_result r) (λ e. e ≢ Write → e ≢ Fault → P)
 run_silent P (Ok done) h = tt

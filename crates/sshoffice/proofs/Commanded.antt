@@ -1,4 +1,4 @@
--- What a job comes to that serves nobody.
+-- The result of a job that isn't a server.
 use Rattle.std.proofs.Common.{◌≡◌, ℕ, List, Option, Some, None, Result, refl}
 use Rattle.sqlite_trees.specs.declared.store.Store as store
 use Rattle.sqlite.specs.Held.{Held}

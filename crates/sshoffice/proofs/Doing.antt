@@ -1,4 +1,4 @@
--- What a job does is what its run was asked.
+-- What a job does is what its run was asked to do.
 use Rattle.std.proofs.Common.{◌≡◌, ◌≢◌, ℕ, zero, suc, List, [], ◌∷◌, inl, inr, false, arith}
 use Rattle.std.proofs.Common.{Option, None, Result, Ok, Err, ap, codes, refl, sym, subst}
 use Rattle.std.specs.Prelude.{All, IsTrue}
@@ -68,7 +68,7 @@ one_fault : (x : Exchange) → all_faults (x ∷ []) ≡ given.Fault ∷ []
 unfolding all_faults
 one_fault x = refl
 
--- the requests for what is printed
+-- the requests whose response is printed
 abbrev get_by : List ℕ → Exchange
 get_by request = record { request = request; moment = 0; nonce = [] }
 
@@ -96,7 +96,7 @@ same_is_unfounded founds old new same = subst (λ (s : State). IsUnfounded found
   crash = λ trees may. inl may;
 })
 
--- an office in which nothing has happened has a history
+-- the empty history is a history of an office
 first_history : (o : Opening) → IsOpening o → IsHistory o []
 first_history o lawful = record {
   office = record { opening = lawful; version = omega arith };
@@ -105,10 +105,10 @@ first_history o lawful = record {
 
 -- ---- each job
 
--- What a run does: an office that was there stays, with the arrivals of what it was asked. A database without tables is
+-- What a run does: an existing office stays, with the arrivals of what the run was asked. A database without tables is
 -- refused.
 module _ (old new : State) where
-  -- where there is no office it is refused
+  -- if there is no office, the job is refused
   abbrev pub Refuses : {A : Type 0} → Result A JobFault → Type 1
   Refuses r =
       list_any is_office_table old.now.schema.tables ≡ false → (r ≡ Err (fault.Store NotAnOffice)) × (new ≡ old)
@@ -119,7 +119,7 @@ module _ (old new : State) where
     none = λ blank. (nothing_given, inr (same_is_unfounded None old new (refuses (no_office old blank)).1));
   }
 
-  -- what was done was done in an office
+  -- a job that was done was done in an office
   not_blank : {A : Type 0} (x : A) → Refuses (Ok x) → (B : Type 0) → IsBlank old → B
   not_blank x refuses B blank = absurd (let none = (refuses (no_office old blank)).0 in cc)
 
@@ -186,9 +186,9 @@ module _ (old new : State) where
   applied es held holds (Err (fault.Opening x)) refuses h = absurd h
   applied es held holds (Err (fault.List x)) refuses h = absurd h
 
-  -- ---- readings, whose tables tell what they told
+  -- ---- readings, which leave the tables' history as it was
 
-  -- the GET of a resource, and what was given to it
+  -- the GET of a resource, and its response or fault
   abbrev pub Shown : Resource → MediaType → (held holds : Option (List ℕ)) → Result (Unit {0}) JobFault → Type 0
   Shown resource media held holds r =
       (asked : Asked) × AsksResource resource media held holds r asked × DoesAsked asked old new
@@ -295,7 +295,7 @@ module _ (old new : State) where
   table_shown held holds (Err (fault.List x)) refuses h = absurd h
   table_shown held holds (Err fault.Fault) refuses h = absurd h
 
-  -- ---- tables that are moved
+  -- ---- migrated tables
 
   moved : IsTrue old.is_open → (r : Result (Unit {0}) JobFault) → Migrates old new r → TellsOn old new
   moved was (Ok done) h = λ o l told. absurd (h.unlike (told.rows was).now.schema)

@@ -1,4 +1,4 @@
--- What is told of a job once its database is closed.
+-- What is printed about a job once its database is closed.
 use Rattle.std.proofs.Common.{◌≡◌, ℕ, List, Option, Result, Ok, Err, refl}
 use Rattle.std.specs.Prelude.{IfErr, IsOk, OnOk}
 use Rattle.std.specs.Io.KnownBytes.{Appends}
@@ -17,7 +17,7 @@ told text held holds (Err e) result fault silent ok only = (fault, silent)
 told text held holds (Ok x) (Ok y) fault silent ok only = ok
 told text held holds (Ok x) (Err e) fault silent ok only = only refl
 
--- what is told of an office's test of itself
+-- what is printed about an office's test of itself
 pub test_told : (text : List ℕ) (held holds : Option (List ℕ)) (tested : Result Unit SelftestFault)
     (result : Result Unit JobFault) → IfErr tested (λ e. result ≡ Err (of_selftest e))
     → IfErr tested (λ _. holds ≡ held) → OnOk result (Appends held holds text)

@@ -1,4 +1,4 @@
--- What is opened for a job, and what is kept of it.
+-- Opening a database for a job, and the office in it afterwards.
 use Rattle.std.proofs.Common.{◌≡◌, Bor, ℕ, List, Result, Ok, Err, refl, subst}
 use Rattle.std.specs.Prelude.{IsTrue}
 use Rattle.sqlite_trees.specs.declared.store.Store as store
@@ -20,7 +20,7 @@ use Rattle.sshoffice.specs.Finding.{Opens, OpensFor, OpensThere, found_open}
 use Rattle.sshoffice.specs.Steps.{Follows}
 use Rattle.sshoffice.specs.Whole.{IsReady, KeepsDatabases}
 
--- a job that makes no office wants one that is there
+-- a job that makes no office opens an existing database
 pub there_for : {W File Conn Incoming Reader Writer : Type 0} (world : Ghosts W File Conn Incoming Reader Writer)
     (path : List ℕ) (job : OfficeJob) (w : W) (found : Result Conn JobFault) (w' : W)
     → ((opening : Bor Opening) → job ≡ Init opening → ⊥) → OpensThere world path w found w'
@@ -28,7 +28,7 @@ pub there_for : {W File Conn Incoming Reader Writer : Type 0} (world : Ghosts W 
 there_for world path (Init opening) w found w' never h = absurd (never opening refl)
 there_for world path other w found w' never h = h
 
--- ---- what is opened is ready
+-- ---- an opened database is ready
 
 one_ok : {A E : Type 0} (found : Result A E) (x y : A) → found ≡ Ok x → found ≡ Ok y → y ≡ x
 one_ok found x y first second = cc
@@ -82,7 +82,7 @@ module _ {W File Tables Incoming Reader Writer : Type 0} (store : store.Ghosts T
       ))
       (subst (λ (r : Result (Unit {0}) EndFault). world.closes between last r w') well closes)
 
-  -- a run that did what it was asked is one of the program
+  -- a run that did what it was asked is a run of the program
   pub ran : (opened between w' : W) (conn last : Held Tables) (closing : Result (Unit {0}) EndFault)
       (Asks : Asked → Type 0) → WasOpened conn opened → StaysClean store conn last
       → (HasCleanDisk (state store last) → IsTrue (state store conn).is_open

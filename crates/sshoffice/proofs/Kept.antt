@@ -1,4 +1,4 @@
--- What databases in files keep.
+-- The facts that hold of databases in files.
 use Rattle.std.proofs.Common.{Option, Some, None, Result, Ok, Err}
 use Rattle.std.specs.Prelude.{IfOk, IsSomeAnd}
 use Rattle.sqlite_disk.specs.declared.Disk.{Ghosts}

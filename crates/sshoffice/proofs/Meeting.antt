@@ -1,4 +1,4 @@
--- What is served of the office that was opened is served of the database as it was given.
+-- Connections served over the office that was opened were served over the database as it was given.
 use Rattle.std.proofs.Common.{◌≡◌, ◌≤◌, ℕ, List, map, Option, Some, None, Result, Ok, Err, refl, sym, subst}
 use Rattle.std.specs.Prelude.{IsTrue}
 use Rattle.std.specs.declared.io.ErrorKind.{ErrorKind}
@@ -21,7 +21,7 @@ use Rattle.sshoffice.proofs.Carried.{before_again}
 use Rattle.sshoffice.specs.declared.job_fault.JobFault.{JobFault}
 use Rattle.sshoffice.specs.declared.job_fault.JobFault.TheVariants as fault
 
--- what a register over a database tells of connections
+-- connections handled over a register are handled over the database of that register
 pub met_over : {S : Type 0} (n : ℕ) (book book' : Option Book) (nonces nonces' : Option (List ℕ)) (r : Ghosts S)
     (a b : S)
     (old new : State)
@@ -46,12 +46,12 @@ met_from n book book' nonces nonces' old mid new tells x = record {
   served = λ honest o l m. x.served honest o l (tells o l m);
 }
 
--- where nothing was done nothing has changed
+-- if nothing was done, nothing has changed
 same_is_unmet : (old new : State) → new ≡ old → IsAsBefore old new × TellsOn old new
 same_is_unmet old new same = subst (λ (s : State). IsAsBefore old s × TellsOn old s) (sym same)
     (record { was_open = λ is. is; rest = λ _ rests. rests; same = λ _ _. refl }, λ o l told. told)
 
--- what is served at a port whose line is printed
+-- connections served at a port whose line is printed
 pub served_at : (n port status : ℕ) (book book' : Option Book) (source first left : Option (List ℕ)) (old new : State)
     (held listening holds : Option (List ℕ)) → Appends held listening (listening_line port) → holds ≡ listening
     → first ≡ source → (status ≡ 0 → MeetsOver n book book' first left old new) → (status ≡ 1 → new ≡ old)
@@ -75,7 +75,7 @@ served_at n port status book book' source first left old new held listening hold
       },
     )
 
--- what is served after an opening is served of what was opened
+-- connections served after an opening are served over the database that was opened
 served_from : (n : ℕ) (source : Option (List ℕ)) (heard : Result (Option Book × ℕ) ErrorKind) (old mid new : State)
     (held holds : Option (List ℕ)) (r : Result ℕ JobFault) → IsAsBefore old mid → TellsOn old mid
     → Serves n source (Some heard) mid new held holds r → Serves n source (Some heard) old new held holds r
@@ -109,7 +109,7 @@ served_from n source heard old mid new held holds (Err (fault.Opening x)) before
 served_from n source heard old mid new held holds (Err (fault.List x)) before tells h = absurd h
 served_from n source heard old mid new held holds (Err fault.Fault) before tells h = absurd h
 
--- the same, of a listener by its book
+-- the same for a listener, through its book
 pub served_of : {Incoming : Type 0} (n : ℕ) (source : Option (List ℕ)) (book : Incoming → Option Book)
     (heard : Result (Incoming × ℕ) ErrorKind) (old mid new : State) (held holds : Option (List ℕ))
     (r : Result ℕ JobFault) → IsAsBefore old mid → TellsOn old mid
@@ -120,7 +120,7 @@ served_of n source book (Ok at) old mid new held holds r before tells h =
 served_of n source book (Err kind) old mid new held holds r before tells h =
     served_from n source (Err kind) old mid new held holds r before tells h
 
--- nobody listens where the office can't be opened
+-- if the office can't be opened, nobody listens
 unopened : (n : ℕ) (source : Option (List ℕ)) (old new : State) (held holds : Option (List ℕ)) (e : StoreFault)
     → IsUnopened old new e → holds ≡ held → Serves n source None old new held holds (Err (of_store e))
 unopened n source old new held holds store.NoMemory h same = (refl, h, same)

@@ -1,4 +1,4 @@
--- The list and the reports, printed of a database.
+-- The list and the reports of a database, as they are printed.
 use Rattle.std.proofs.Common.{◌≡◌, ◌≢◌, ℕ, List, Option, Result, Ok, Err, sym, subst}
 use Rattle.std.specs.Prelude.{IfErr, IsTrue, OnOk}
 use Rattle.std.specs.Io.KnownBytes.{Appends}
@@ -24,7 +24,7 @@ use Rattle.sshoffice.proofs.Carried.{before_again, before_open, left_from, unope
 
 -- ---- the list
 
--- what is known of a database that a fault of the register has left
+-- what a fault of the register leaves of a database
 of_fault : (e : StoreFault) (old new : State) (held holds : Option (List ℕ)) → IsAsBefore old new
     → IsLeft old new held holds e → Lists old new held holds (Err (of_store e))
 of_fault store.NoMemory old new held holds before left = (before, left)
@@ -40,7 +40,7 @@ unlisted e f old new held holds same u silent =
     subst (λ (f : JobFault). Lists old new held holds (Err f)) (sym same)
     (of_fault e old new held holds u.before (unopened_left old new held holds e u silent))
 
--- a fault of the register leaves an open office so
+-- an open office after a fault of the register
 pub left : (mid new : State) (held holds : Option (List ℕ)) (e : StoreFault) → holds ≡ held → TellsOn mid new
     → ((o : Opening) (l : List Arrival) → Tells mid o l → IsOfARegister e) → IsLeft mid new held holds e
 left mid new held holds e silent tells only = record {
@@ -84,7 +84,7 @@ lists_as old new newer held is_held holds is_holds r same before after lists =
 
 -- ---- reports
 
--- a fault of the register, as of a report
+-- a fault of the register, as the result of a report
 pub report_fault : (report : Report) (e : StoreFault) (old new : State) (held holds : Option (List ℕ))
     → IsLeft old new held holds e → IsReport report old new held holds (Err (of_store e))
 report_fault report store.NoMemory old new held holds left = left
@@ -103,7 +103,7 @@ unreported report e f old new held holds same u silent =
           (report_fault report e old new held holds (unopened_left old new held holds e u silent));
     }
 
--- what came of the report of an opened office came of the database's
+-- a report's result for an opened office is its result for the database
 came_from : (report : Report) (old mid new : State) (held holds : Option (List ℕ)) (r : Result Unit JobFault)
     → IsOpened old mid → IsReport report mid new held holds r → IsReport report old new held holds r
 came_from report old mid new held holds (Ok x) opened is = (is.0, is.1, λ o l m. is.2 o l (opened.tells o l m))

@@ -21,16 +21,16 @@ use Rattle.sshoffice.specs.Opening.{IsLeft}
 use Rattle.sshoffice.specs.Reporting.{IsReport, report_text, resource_of}
 use Rattle.sshoffice.proofs.Bodies.{found_is, not_found}
 
--- no request asks two things
+-- a request has at most one reading
 abbrev OneAsk : Type 0
 OneAsk = (bytes : List ℕ) (a b : Ask) → Asks bytes a → Asks bytes b → a ≡ b
 
--- so a body is found in a response
+-- the body of a response with a plain text is found
 abbrev Finds : Option (List ℕ) → (response : List ℕ) → Type 0
 Finds found response = (body : List ℕ) → length body < 2 ^ 64 → response ≡ response_text 200 PlainText body
     → found ≡ Some body
 
--- the answer to what was asked
+-- the specified answer to this request, and the history that is kept if it uses the register
 abbrev Is : Opening → List Arrival → ℕ → (nonce response : List ℕ) → (List Arrival → Type 0) → Ask → Type 0
 Is o l moment nonce response keeps ask =
     (response ≡ answer_text o l ask moment nonce) × (IsOfTheRegister ask → keeps (with_ask l ask moment nonce))
@@ -58,7 +58,7 @@ small response body short same =
     let sized : length response ≡ length head + length body = ap length same ∙ length-append head body in
     omega (arith, sized, short)
 
--- the report is the body that is found, and the tables store the history
+-- the report is the body that is found, and the tables durably represent the history
 found_report : (report : Report) (old new : State) (request : List ℕ) (moment : ℕ) (nonce response looked : List ℕ)
     (found : Option (List ℕ)) → OneAsk → Asks request (get (resource_of report))
     → OfficeAnswers old new request moment nonce response → looked ≡ response → length response < 2 ^ 64
@@ -90,7 +90,7 @@ reported report old new held holds request moment nonce response looked body
     (found_report report old new request moment nonce response looked
     (Some body) one asks answers same short finds o l m).1)
 
--- tables that tell a history give a response with a body
+-- if the tables represent a history, the response has a body
 pub unfound : (report : Report) (old new : State) (held : Option (List ℕ)) (request : List ℕ) (moment : ℕ)
     (nonce response looked : List ℕ) → OneAsk → Asks request (get (resource_of report))
     → OfficeAnswers old new request moment nonce response → looked ≡ response → length response < 2 ^ 64

@@ -1,4 +1,4 @@
--- What is read of a file tells of it.
+-- The bytes read from a file determine how the file is read.
 use Rattle.std.proofs.Common.{◌≡◌, ℕ, ◌+◌, List, take, Option, Some, None, Result, Ok, Err, sym, subst}
 use Rattle.std.specs.Prelude.{IfOk, IfSome}
 use Rattle.exchanges.specs.declared.exchange_reader.TheConstants.{MAX_FILE}
@@ -10,7 +10,7 @@ use Rattle.sshoffice.specs.declared.job_fault.JobFault.{JobFault}
 use Rattle.sshoffice.specs.declared.job_fault.JobFault.TheVariants.{File, NoMemory}
 use Rattle.sshoffice.specs.Faults.{IsOfAFile, IsOfExchanges, of_exchanges}
 
--- the first bytes, so many, were read
+-- the first `MAX_FILE + 1` bytes were read
 pub tells : {T E : Type 0} (items : T → List ℕ) (r : Result T E) (left : Option (List ℕ))
     → IfOk r (λ v. IfSome left (λ bytes. items v ≡ take (MAX_FILE + 1) bytes))
     → IfOk r (λ v. IfSome left (λ file. TellsOf file (items v)))

@@ -1,4 +1,4 @@
--- What is printed in parts.
+-- Text that is printed in parts.
 use Rattle.std.proofs.Common.{◌≡◌, ℕ, List, ◌∷◌, ◌++◌, false, codes, decimal, Option, Result, Ok, Err, ap, subst, ◌∙◌, append_assoc}
 use Rattle.std.specs.Prelude.{OnOk, is_err}
 use Rattle.std.specs.Io.KnownBytes.{Appends}
@@ -7,12 +7,12 @@ use Rattle.lines.specs.Digests.{fingerprint_text}
 use Rattle.office.specs.declared.opening.Opening.{Opening}
 use Rattle.sshoffice.specs.Making.{ready_text}
 
--- no fault was met
+-- if there is no fault, what holds of a success holds
 pub unfailed : {T E : Type 0} (r : Result T E) (P : Type 0) → is_err r ≡ false → OnOk r P → P
 unfailed (Ok x) P same h = h
 unfailed (Err e) P same h = absurd cc
 
--- what stands before the fingerprint
+-- the text before the fingerprint
 abbrev pub serials_text : Opening → List ℕ
 serials_text o = codes "office ready " ++ (decimal o.first ++ (32 ∷ (decimal o.last ++ codes "\nca ")))
 

@@ -1,4 +1,4 @@
--- A database in which an office was made or moved had none of this schema.
+-- A database in which an office was made or migrated had no office of this schema.
 use Rattle.std.proofs.Common.{◌≡◌, ◌≢◌, true, Ok, Err, Result, drop}
 use Rattle.std.specs.List.{list_any}
 use Rattle.sqlite.specs.State.{State}
@@ -6,17 +6,17 @@ use Rattle.store_sql.specs.Look.{first_is_office, is_ca_name, is_office_name, is
 use Rattle.store_sql.specs.Look.{whole_has_ca, whole_has_tables}
 use Rattle.store_sql.specs.Schema.{whole}
 
--- what refuses tables of an office's names refuses an office
+-- if a call that refuses tables with an office's names succeeded, the schema wasn't an office's
 pub had_no_office : {X E : Type 0} (old : State) (r : Result X E) (x : X) (e : E) → r ≡ Ok x
     → (list_any is_office_name old.now.schema.tables ≡ true → r ≡ Err e) → old.now.schema ≢ whole
 had_no_office old r x e done already same =
     absurd (let no = already (rw (same) whole_has_tables) in let yes = done in cc)
 
--- an office's first table is that of the office
+-- the first table of an office is the table `office`
 office_first : list_any is_office_table whole.tables ≡ true
 office_first = first_is_office (drop 1 whole.tables)
 
--- and so does what refuses a table of CAs beside an office's
+-- the same for a call that refuses a table of CAs next to an office's table
 pub had_no_cas : {X E : Type 0} (old : State) (r : Result X E) (x : X) (e : E) → r ≡ Ok x
     → (list_any is_office_table old.now.schema.tables ≡ true → list_any is_ca_name old.now.schema.tables ≡ true
     → r ≡ Err e)

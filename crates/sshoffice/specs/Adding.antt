@@ -1,4 +1,4 @@
--- What a job adds to the history that the tables tell.
+-- What a job adds to the history that the tables represent.
 use Rattle.std.specs.Prelude.{ℕ, List, IsTrue, Option, Result}
 use Rattle.sqlite_trees.specs.declared.store.Store.{Ghosts}
 use Rattle.sqlite.specs.Held.{Held, state}
@@ -9,14 +9,14 @@ use Rattle.sshoffice.specs.Jobs.{Does}
 use Rattle.sshoffice.specs.Serving.{Heard, Serves}
 
 module _ {S : Type 0} (g : Ghosts S) (new : Held S) where
-  -- A job over a connection that was open. Each history that the tables told is told with arrivals after it.
+  -- For a job over an open connection: each history that the tables represented is represented with arrivals after it.
   abbrev pub JobsAddArrivals : Type 0
   JobsAddArrivals =
       (old : Held S) → IsTrue (state g old).is_open
       → (job : OfficeJob) (held holds : Option (List ℕ)) (r : Result (Unit {0}) JobFault)
       → Does job (state g old) (state g new) held holds r → AddsArrivals (state g old) (state g new)
 
-  -- so it is of a server
+  -- the same for a server
   abbrev pub ServersAddArrivals : Type 0
   ServersAddArrivals =
       (old : Held S) → IsTrue (state g old).is_open

@@ -9,9 +9,8 @@ use Rattle.sshoffice.specs.declared.job_fault.JobFault.{JobFault}
 use Rattle.sshoffice.specs.declared.job_fault.JobFault.TheVariants.{Fault, NoMemory, Store, Write}
 use Rattle.sshoffice.specs.Opening.{IsLeft, IsUnopened}
 
--- What came of it. Each exchange is given what is due to it, or some are given a fault, and it is printed. Or the
--- output failed, and all were run. Or nothing was run and nothing is printed: memory was refused, or there is no such
--- office.
+-- The outcome. Each exchange gets its specified response, or some get a fault, and this is printed. Or the output
+-- failed, and all were run. Or nothing was run or printed: memory was refused, or the office wasn't opened.
 abbrev pub Applies : List Exchange → (old new : State) → (held holds : Option (List ℕ)) → Result (Unit {0}) JobFault
     → Type 0
 Applies exchanges old new held holds (Ok done) = OfficePrints old new exchanges held holds false

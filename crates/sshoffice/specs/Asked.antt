@@ -1,4 +1,4 @@
--- What the run of a job was asked and gave, by its result and by what was printed.
+-- What a job's run was asked and what it gave, determined from its result and from what was printed.
 use Rattle.std.specs.Prelude.{◌≡◌, ◌∷◌, ℕ, List, [], length, map, flat_map, false, true, Option, Some, None, Result, Ok, Err}
 use Rattle.std.specs.Io.KnownBytes.{Appends, Consumes}
 use Rattle.http_requests.specs.declared.resource.Resource.{Resource}
@@ -32,30 +32,29 @@ nothing_asked = record { founds = None; exchanges = []; given = [] }
 abbrev pub founding_asked : Opening → Asked
 founding_asked opening = record { founds = Some opening; exchanges = []; given = [] }
 
--- All that exchanges gave is printed, and one of it is a fault or none. Or the output failed, and no more is said of
--- what was printed. Or no response was given, and nothing is printed.
+-- All responses and faults of the exchanges are printed, and `Fault` means that some are faults. Or the output failed,
+-- and nothing is said about what was printed. Or no response was given, and nothing is printed.
 abbrev pub IsGiven : (held holds : Option (List ℕ)) → Result (Unit {0}) JobFault → Asked → Type 0
 IsGiven held holds (Ok done) asked = Appends held holds (all_given_text asked.given) × (has_fault asked.given ≡ false)
 IsGiven held holds (Err Fault) asked = Appends held holds (all_given_text asked.given) × (has_fault asked.given ≡ true)
 IsGiven held holds (Err Write) asked = Unit {0}
 IsGiven held holds (Err other) asked = GivesNone asked × (holds ≡ held)
 
--- these exchanges were asked, and that was given
+-- these exchanges were asked, with these responses and faults
 pub record AsksExchanges (exchanges : List Exchange) (held holds : Option (List ℕ)) (r : Result (Unit {0}) JobFault)
     (asked : Asked) : Type 0 where
   pub founds : asked.founds ≡ None
   pub are_its : asked.exchanges ≡ exchanges
   pub given : IsGiven held holds r asked
 
--- What is printed is the body of the response that was given. Or a fault was given, and nothing is printed, but for an
--- output that failed.
+-- The body of the response is printed. Or the request got a fault, and nothing is printed, unless the output failed.
 abbrev pub IsShown : MediaType → (held holds : Option (List ℕ)) → Result (Unit {0}) JobFault → List Given → Type 0
 IsShown media held holds (Ok done) gave =
     (body : List ℕ) × Appends held holds body × (gave ≡ Answer (response_text 200 media body) ∷ [])
 IsShown media held holds (Err Write) gave = gave ≡ given.Fault ∷ []
 IsShown media held holds (Err other) gave = (gave ≡ given.Fault ∷ []) × (holds ≡ held)
 
--- A GET of this resource was asked, and that was given. The body of its response has this type.
+-- A GET of this resource was asked, with this response or fault. The body of the response has this type.
 pub record AsksResource (wanted : Resource) (media : MediaType) (held holds : Option (List ℕ))
     (r : Result (Unit {0}) JobFault) (asked : Asked) : Type 0 where
   pub founds : asked.founds ≡ None
@@ -64,8 +63,8 @@ pub record AsksResource (wanted : Resource) (media : MediaType) (held holds : Op
   pub one : asked.exchanges ≡ get_of ∷ []
   pub shown : IsShown media held holds r asked.given
 
--- What a job asks of the office in a database. What the list and the reports print is what a GET gets. A move asks
--- nothing that is an exchange.
+-- What a job asks of the office in a database. The list and the reports print the response to a GET. A migration has no
+-- exchanges.
 abbrev pub AsksOffice : OfficeJob → (held holds : Option (List ℕ)) → Result (Unit {0}) JobFault → Asked → Type 0
 AsksOffice (Init opening) held holds r asked = asked ≡ founding_asked opening.now
 AsksOffice (Apply exchanges) held holds r asked = AsksExchanges exchanges.now held holds r asked
@@ -76,11 +75,11 @@ AsksOffice Migrate held holds r asked = asked ≡ nothing_asked
 
 -- ---- servers
 
--- what visits asked and were given
+-- what visits asked and got
 abbrev pub asked_by : List Visit → Asked
 asked_by visits = record { founds = None; exchanges = map exchange_of visits; given = map given_of visits }
 
--- These were the visits of so many connections, which the listener tells, with the next nonces of the source.
+-- These were the visits of `connections` connections, as in the listener's book, with the source's next nonces.
 pub record AreVisited (connections : ℕ) (book : Option Book) (nonces : Option (List ℕ)) (asked : Asked)
     : Type 0 where
   pub visits : List Visit
@@ -91,7 +90,7 @@ pub record AreVisited (connections : ℕ) (book : Option Book) (nonces : Option 
   pub drawn : Consumes nonces left (flat_map drawn_of visits)
   pub are_its : asked ≡ asked_by visits
 
--- Connections were served, each of them if the status is 0, and else none.
+-- Connections were served: each of them if the status is 0, otherwise none.
 pub record AsksServer (connections : ℕ) (nonces : Option (List ℕ)) (heard : Heard) (status : ℕ) (asked : Asked)
     : Type 0 where
   pub book : Option Book
@@ -100,7 +99,7 @@ pub record AsksServer (connections : ℕ) (nonces : Option (List ℕ)) (heard : 
   pub met : status ≡ 0 → AreVisited connections book nonces asked
   pub unmet : status ≡ 1 → asked ≡ nothing_asked
 
--- What a server was asked. One that couldn't serve was asked nothing.
+-- What a server was asked. A server that couldn't serve was asked nothing.
 abbrev pub AsksServing : ℕ → (nonces : Option (List ℕ)) → Heard → Result ℕ JobFault → Asked → Type 0
 AsksServing connections source heard (Ok status) asked = AsksServer connections source heard status asked
 AsksServing connections source heard (Err e) asked = asked ≡ nothing_asked

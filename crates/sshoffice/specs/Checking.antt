@@ -1,4 +1,4 @@
--- What is printed of a certificate.
+-- What is printed about a certificate.
 use Rattle.std.specs.Prelude.{◌≡◌, ◌≢◌, ℕ, List, Bool, Option, Result, Err, IfErr, IfSome, OnOk, codes, if◌then◌else◌}
 use Rattle.std.specs.Io.KnownBytes.{Appends}
 use Rattle.lines.specs.Keys.{key_blob}
@@ -12,14 +12,14 @@ use Rattle.sshoffice.specs.Faults.{IsOfChecking}
 abbrev pub verdict_text : Bool → List ℕ
 verdict_text revoked = if revoked then codes "revoked\n" else codes "clear\n"
 
--- what is printed is the verdict of the list with these bytes on this serial and key id under this CA
+-- the printed text is the verdict of the list with these bytes on this serial and key ID under this CA
 pub record Checks (bytes ca : List ℕ) (serial : ℕ) (key_id : List ℕ) (held holds : Option (List ℕ)) : Type 0 where
   pub revoked : Bool
   pub reads : ReadsList bytes (key_blob ca) serial key_id revoked
   pub printed : Appends held holds (verdict_text revoked)
 
--- What came of a list's file. The verdict is printed, or the first fault of the bytes is told. After any fault but that
--- of the output nothing is printed.
+-- The outcome for a list's file. The verdict is printed, or the first fault of the bytes is reported. After any fault
+-- except the output's, nothing is printed.
 pub record ChecksFile (file : Option (List ℕ)) (ca : List ℕ) (serial : ℕ) (key_id : List ℕ)
     (held holds : Option (List ℕ)) (result : Result (Unit {0}) JobFault) : Type 0 where
   pub ok : OnOk result (IfSome file (λ bytes. Checks bytes ca serial key_id held holds))

@@ -1,5 +1,5 @@
--- What comes of a job, whole: which files are opened and in which order, what is done in the database, what is printed,
--- and the status.
+-- The complete effect of a job: which files are opened and in which order, what is done in the database, what is
+-- printed, and the status.
 use Rattle.std.specs.Prelude.{◌≡◌, ◌⊎◌, ℕ, List, codes, Option, Some, None, Result, Ok, Err, string_bytes}
 use Rattle.std.specs.Io.KnownBytes.{Keeps}
 use Rattle.sqlite_trees.specs.declared.store.Store as store
@@ -28,12 +28,12 @@ use Rattle.sshoffice.specs.Trial.{TriesFile}
 use Rattle.sshoffice.specs.Words.{AnswersWords}
 use Rattle.sshoffice.specs.Whole.{AppliesIn, DoesIn, FoundsIn, IsKeyOf, Prints, ServesIn}
 
--- a server is asked for
+-- the job is a server
 abbrev pub IsServing : Job → Type 0
 IsServing (job.Serve db port connections nonces) = Unit {0}
 IsServing other = ⊥
 
--- The status of a job that was done is 0. Its output may fail as it is flushed, and a fault stays.
+-- A job that was done has status 0, unless flushing its output fails; a fault of the job is kept.
 abbrev pub IsFlushed : Result (Unit {0}) JobFault → Result ℕ JobFault → Type 0
 IsFlushed (Ok done) result = (result ≡ Ok 0) ⊎ (result ≡ Err Write)
 IsFlushed (Err e) result = result ≡ Err e
@@ -47,25 +47,25 @@ pub record Ends (Did : (between : Option (List ℕ)) → Result (Unit {0}) JobFa
   pub kept : Keeps between holds
   pub flushed : IsFlushed done result
 
--- the status: 1 where nothing else is told
+-- the status: 1 for a fault
 abbrev pub status_by : Result ℕ JobFault → ℕ
 status_by (Ok status) = status
 status_by (Err e) = 1
 
--- A world as it was before is `w`, and as it is afterwards `w'`.
+-- The world is `w` before and `w'` after.
 module _ {W File Conn Incoming Reader Writer : Type 0} (world : Ghosts W File Conn Incoming Reader Writer) (w w' : W)
   where
-    -- The trial office served itself a request, and whether it passed is told. Or it couldn't be made.
+    -- The in-memory office served itself a request, and the outcome is reported. Or that office couldn't be made.
     abbrev pub TestsItself : (held holds : Option (List ℕ)) → Result (Unit {0}) JobFault → Type 0
     TestsItself held holds result =
         ((e : StoreFault) × (result ≡ Err (of_store e)) × (w' ≡ w) × (holds ≡ held))
         ⊎ ((tested : Result (Unit {0}) SelftestFault) × world.tests w tested w'
         × Follows (λ _. Prints (codes "selftest ok\n") held holds) (holds ≡ held) (test_result tested) result)
 
--- The same, where a file is left to read so.
+-- The same, with `remaining` for the bytes that a file has left to read.
 module _ {W File Conn Incoming Reader Writer : Type 0} (world : Ghosts W File Conn Incoming Reader Writer)
     (remaining : File → Option (List ℕ)) (w w' : W) where
-  -- With the key of the CA's file, the list at the path was asked about a certificate. Or that file has no key, and
+  -- With the key of the CA's file, the list at the path was checked for a certificate. Or that file has no key, and
   -- nothing is opened after it.
   pub record ChecksIn (list : List ℕ) (serial : ℕ) (key_id : List ℕ) (ca held holds : Option (List ℕ))
       (result : Result (Unit {0}) JobFault) : Type 0 where
@@ -76,16 +76,16 @@ module _ {W File Conn Incoming Reader Writer : Type 0} (world : Ghosts W File Co
         (λ bytes opened r. (w' ≡ opened) × ChecksFile bytes k.key serial key_id held holds r) (holds ≡ held))
         ((w' ≡ w) × (holds ≡ held)) key result
 
--- The same, where a listener tells of its connections so.
+-- The same, with `book` for a listener's record of its connections.
 module _ {W File Tables Incoming Reader Writer : Type 0} (store : store.Ghosts Tables)
     (world : Ghosts W File (Held Tables) Incoming Reader Writer) (remaining : File → Option (List ℕ))
     (book : Incoming → Option Book) (w w' : W) where
-  -- a job that asks the office in a database, which has to be there
+  -- a job that asks the office in a database, which has to exist
   abbrev pub Asks : OfficeJob → (db : List ℕ) → (held holds : Option (List ℕ)) → Result (Unit {0}) JobFault → Type 0
   Asks asked db held holds result =
       DoesIn store world book w w' (OpensThere world db) (Does asked) (AsksOffice asked) (told_text asked) held holds result
 
-  -- What each job does. No server is asked for.
+  -- The effect of each job except a server.
   abbrev pub DoesJob : Job → (held holds : Option (List ℕ)) → Result (Unit {0}) JobFault → Type 0
   DoesJob (job.Init db ca root station first last) held holds result =
       WithFile world remaining w w' (string_bytes ca)
@@ -109,7 +109,7 @@ module _ {W File Tables Incoming Reader Writer : Type 0} (store : store.Ghosts T
   DoesJob job.Selftest held holds result = TestsItself world w w' held holds result
   DoesJob other held holds result = ⊥
 
-  -- What each job comes to.
+  -- The effect of each job.
   abbrev pub Runs : Job → (held holds : Option (List ℕ)) → Result ℕ JobFault → Type 0
   Runs (job.Serve db port connections nonces) held holds result =
       WithFile world remaining w w' (string_bytes nonces)
@@ -117,20 +117,20 @@ module _ {W File Tables Incoming Reader Writer : Type 0} (store : store.Ghosts T
       (holds ≡ held) result
   Runs other held holds result = Ends (DoesJob other held) holds result
 
-  -- the same, by its status
+  -- the same, with the status
   pub record RunsJob (job : Job) (held holds : Option (List ℕ)) (status : ℕ) : Type 0 where
     pub result : Result ℕ JobFault
     pub runs : Runs job held holds result
     pub is_its : status ≡ status_by result
 
-  -- The words name a job, and that is what it came to. Or they name none, nothing was asked of the world, and that is
-  -- what they are answered with.
+  -- The arguments name a job, and this was its effect. Or they name none, nothing was asked of the world, and this is
+  -- what they were answered with.
   abbrev pub RunsWords : (words : List (List ℕ)) → (held holds : Option (List ℕ)) → (status : ℕ) → Type 0
   RunsWords words held holds status =
       ((job : Job) × Names words job × RunsJob job held holds status)
       ⊎ ((fault : WordsFault) × IsFaultOf words fault × (w' ≡ w) × AnswersWords fault held holds status)
 
--- The same in a world of which this holds afterwards.
+-- The same in a world with this property afterwards.
 pub record RunsWordsOver {W File Tables Incoming Reader Writer : Type 0} (store : store.Ghosts Tables)
     (world : Ghosts W File (Held Tables) Incoming Reader Writer) (remaining : File → Option (List ℕ))
     (book : Incoming → Option Book) (Left : W → Type 0) (words : List (List ℕ)) (held holds : Option (List ℕ))

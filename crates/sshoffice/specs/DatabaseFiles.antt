@@ -1,4 +1,4 @@
--- A connection to the two files of a database, as it is opened, and what its close leaves of them.
+-- A connection to the two files of a database, when it is opened, and what closing it leaves of them.
 use Rattle.std.specs.Prelude.{IfErr, IfOk, IsTrue, Result}
 use Rattle.sqlite_disk.specs.declared.Disk.{Ghosts}
 use Rattle.sqlite_disk.specs.declared.Files.{Files}
@@ -16,20 +16,20 @@ use Rattle.restart.specs.Ending.{AreEnded, EndsRuns}
 use Rattle.restart.specs.Runs.{IsBlankIfNone, TellsWhatIsHeld}
 
 module _ {D : Type 0} {g : Ghosts D} where
-  -- It is new. If its disk has returned what was written, it tells each history whose office the files held, and is
-  -- blank if they held none.
+  -- The connection is new. If its disk has returned what was written, it represents each history whose office the files
+  -- held, and is blank if they held none.
   pub record OpensFiles (image : Image) (conn : Held (FileStore D g)) : Type 0 where
     pub new : IsNew conn
     pub opened : HasCleanDisk (file_state conn) → IsOpened conn
     pub told : HasCleanDisk (file_state conn) → TellsWhatIsHeld image (file_state conn)
     pub blank : HasCleanDisk (file_state conn) → IsBlankIfNone image (file_state conn)
 
-  -- what came of opening it: such a connection, or an error of an open
+  -- the outcome of opening the files: such a connection, or an error of an open
   abbrev pub OpensOrNot : Image → Result (Held (FileStore D g)) Error → Type 0
   OpensOrNot image found = IfOk found (OpensFiles image) × IfErr found (λ e. IsTrue (is_open_error e))
 
-  -- The last commit is in the database file alone, or the connection was given up, or its log wasn't copied. What was
-  -- done over the connection was a run of the program, whatever a crash makes of the files.
+  -- The last commit is in the database file alone, or the connection was given up, or its log wasn't copied. The work
+  -- over the connection was a run of the program, whatever a crash makes of the files.
   pub record ClosesFiles (conn : Held (FileStore D g)) (closed : Result (Unit {0}) EndFault) (files : Files D)
       : Type 0 where
     pub ended : AreEnded conn closed files
@@ -39,6 +39,6 @@ module _ {D : Type 0} {g : Ghosts D} where
   abbrev pub AreCleanOf : Held (FileStore D g) → Files D → Type 0
   AreCleanOf conn files = AreClean g files.log files.db
 
-  -- a crash may make this of its files
+  -- a crash may turn its files into these
   abbrev pub MayBecome : Held (FileStore D g) → Files D → Image → Type 0
   MayBecome conn files image = outcomes g files.log files.db image

@@ -1,4 +1,4 @@
--- The fault of a job by the fault that it met.
+-- A job's fault for each fault of one of its parts.
 use Rattle.std.specs.Prelude.{◌≡◌, Result, Ok, Err}
 use Rattle.std.specs.declared.io.ErrorKind.{ErrorKind}
 use Rattle.std.specs.declared.io.ErrorKind.TheVariants.{OutOfMemory}
@@ -22,83 +22,83 @@ use Rattle.sshoffice.specs.declared.job_fault.JobFault.{JobFault}
 use Rattle.sshoffice.specs.declared.job_fault.JobFault.TheVariants.{File, Write, Socket, Connection, Mismatch, NoMemory}
 use Rattle.sshoffice.specs.declared.job_fault.JobFault.TheVariants.{BadExchange, Line, List, Opening, Store, Fault}
 
--- of a file that can't be read as exchanges
+-- for a file that can't be read as exchanges
 abbrev pub of_exchanges : ExchangesFault → JobFault
 of_exchanges (exchanges.BadExchange k) = BadExchange k
 of_exchanges exchanges.NoMemory = NoMemory
 
--- of exchanges that were not run and printed well
+-- for exchanges that were not run, or not printed without a fault
 abbrev pub of_run : RunFault → JobFault
 of_run run.NoMemory = NoMemory
 of_run run.Write = Write
 of_run run.Fault = Fault
 
--- what came of a run, as of a job
+-- the result of a batch, as that of a job
 abbrev pub run_result : Result (Unit {0}) RunFault → Result (Unit {0}) JobFault
 run_result (Ok done) = Ok done
 run_result (Err fault) = Err (of_run fault)
 
--- of a text that is no key line
+-- for a text that isn't a public-key line
 abbrev pub of_line : LineFault → JobFault
 of_line line.NoMemory = NoMemory
 of_line other = Line other
 
--- of a register that did not answer
+-- for a register that didn't answer
 abbrev pub of_store : StoreFault → JobFault
 of_store store.NoMemory = NoMemory
 of_store other = Store other
 
--- of a list that was not written
+-- for a list that wasn't written
 abbrev pub of_publishing : PublishFault → JobFault
 of_publishing (publish.Store fault) = of_store fault
 of_publishing publish.Write = Write
 
--- what came of publishing, as of a job
+-- the result of publishing, as that of a job
 abbrev pub publish_result : Result (Unit {0}) PublishFault → Result (Unit {0}) JobFault
 publish_result (Ok done) = Ok done
 publish_result (Err fault) = Err (of_publishing fault)
 
--- of a port at which nobody listens
+-- for a listener that couldn't be made, or whose port couldn't be printed
 abbrev pub of_listening : ListenFault → JobFault
 of_listening listening.Socket = Socket
 of_listening listening.Write = Write
 
--- of an office that did not pass its own test
+-- for an office that didn't pass its own test
 abbrev pub of_selftest : SelftestFault → JobFault
 of_selftest (selftest.Unserved fault) = Connection fault
 of_selftest selftest.Mismatch = Mismatch
 
--- what came of that test, as of a job
+-- the result of that test, as that of a job
 abbrev pub test_result : Result (Unit {0}) SelftestFault → Result (Unit {0}) JobFault
 test_result (Ok done) = Ok done
 test_result (Err fault) = Err (of_selftest fault)
 
--- of a file that can't be opened or read, by the kind of the error
+-- for a file that can't be opened or read, from the kind of the error
 abbrev pub of_file : ErrorKind → JobFault
 of_file OutOfMemory = NoMemory
 of_file _ = File
 
--- What is met where a file is read.
+-- The faults of reading a file.
 abbrev pub IsOfAFile : JobFault → Type 0
 IsOfAFile File = Unit {0}
 IsOfAFile NoMemory = Unit {0}
 IsOfAFile other = ⊥
 
--- What is met where a file of exchanges is read.
+-- The faults of reading a file of exchanges.
 abbrev pub IsOfExchanges : JobFault → Type 0
 IsOfExchanges File = Unit {0}
 IsOfExchanges NoMemory = Unit {0}
 IsOfExchanges (BadExchange k) = Unit {0}
 IsOfExchanges other = ⊥
 
--- What is met where a key is read.
+-- The faults of reading a key.
 abbrev pub IsOfAKey : JobFault → Type 0
 IsOfAKey File = Unit {0}
 IsOfAKey NoMemory = Unit {0}
 IsOfAKey (Line fault) = Unit {0}
 IsOfAKey other = ⊥
 
--- What is met where a list is asked about a certificate.
+-- The faults of checking a list for a certificate.
 abbrev pub IsOfChecking : JobFault → Type 0
 IsOfChecking File = Unit {0}
 IsOfChecking NoMemory = Unit {0}
@@ -106,7 +106,7 @@ IsOfChecking Write = Unit {0}
 IsOfChecking (List fault) = Unit {0}
 IsOfChecking other = ⊥
 
--- What is met where a file of exchanges is applied to the trial office.
+-- The faults of applying a file of exchanges to the in-memory office.
 abbrev pub IsOfATrial : JobFault → Type 0
 IsOfATrial File = Unit {0}
 IsOfATrial NoMemory = Unit {0}
@@ -116,13 +116,13 @@ IsOfATrial Write = Unit {0}
 IsOfATrial Fault = Unit {0}
 IsOfATrial other = ⊥
 
--- What is met where an opening is made: want of memory, or the fault that is due.
+-- The faults of making an initial configuration: lack of memory, or the specified fault.
 abbrev pub IsOfAnOpening : Result Begun OpeningFault → JobFault → Type 0
 IsOfAnOpening due NoMemory = Unit {0}
 IsOfAnOpening due (Opening fault) = due ≡ Err fault
 IsOfAnOpening due other = ⊥
 
--- What is met where a database is opened or closed.
+-- The faults of opening or closing a database.
 abbrev pub IsOfADatabase : JobFault → Type 0
 IsOfADatabase NoMemory = Unit {0}
 IsOfADatabase (Store fault) = fault ≡ store.Device

@@ -1,4 +1,4 @@
--- Files opened, and databases looked for or made, and opened.
+-- Opening files, and finding or making databases and opening them.
 use Rattle.std.specs.Prelude.{◌≡◌, ℕ, List, Bool, false, true, Option, Result, Ok, Err}
 use Rattle.std.specs.declared.io.ErrorKind.{ErrorKind}
 use Rattle.std.specs.declared.io.ErrorKind.TheVariants.{OutOfMemory}
@@ -20,18 +20,18 @@ abbrev pub found_file : {A : Type 0} → Result A ErrorKind → Result A JobFaul
 found_file (Ok file) = Ok file
 found_file (Err kind) = Err (of_file kind)
 
--- of a database that nobody can look for, or that can't be made, by the kind of the error
+-- for a database that can't be looked up or made, from the kind of the error
 abbrev pub of_look : ErrorKind → JobFault
 of_look OutOfMemory = NoMemory
 of_look _ = Store Device
 
--- it is there, or the fault
+-- the database exists, or this is the fault
 abbrev pub of_looking : Result Bool ErrorKind → Result (Unit {0}) JobFault
 of_looking (Ok true) = Ok tt
 of_looking (Ok false) = Err (Store NotAnOffice)
 of_looking (Err kind) = Err (of_look kind)
 
--- it is made, or the fault
+-- the database is made, or this is the fault
 abbrev pub of_making : Result (Unit {0}) ErrorKind → Result (Unit {0}) JobFault
 of_making (Ok done) = Ok done
 of_making (Err kind) = Err (of_look kind)
@@ -45,20 +45,20 @@ found_open (Err error) = Err (of_database error)
 
 module _ {W File Conn Incoming Reader Writer : Type 0} (world : Ghosts W File Conn Incoming Reader Writer)
     (path : List ℕ) where
-  -- the file at the path was opened, and that is what came of it
+  -- the file at the path was opened, with this result
   pub record Reads (w : W) (file : Result File JobFault) (w' : W) : Type 0 where
     pub got : Result File ErrorKind
     pub is_opened : world.reads w path got w'
     pub came : file ≡ found_file got
 
-  -- the database at the path was opened, and that is what came of it
+  -- the database at the path was opened, with this result
   pub record Opens (w : W) (found : Result Conn JobFault) (w' : W) : Type 0 where
     pub got : Result Conn Error
     pub is_opened : world.opens w path got w'
     pub came : found ≡ found_open got
 
-  -- Something was done first. Where it went well the database was opened. Otherwise its fault is what came of it, and
-  -- nothing was opened.
+  -- A first step, and then the database was opened. If the first step failed, its fault is the result, and nothing was
+  -- opened.
   pub record OpensAfter (First : W → Result (Unit {0}) JobFault → W → Type 0) (w : W)
       (found : Result Conn JobFault) (w' : W) : Type 0 where
     pub first : Result (Unit {0}) JobFault
@@ -66,27 +66,27 @@ module _ {W File Conn Incoming Reader Writer : Type 0} (world : Ghosts W File Co
     pub is_ready : First w first ready
     pub opened : Follows (λ _ found. Opens ready found w') (w' ≡ ready) first found
 
-  -- it was looked for, and opened if it is there
+  -- the database was looked up, and opened if it exists
   abbrev pub OpensThere : W → Result Conn JobFault → W → Type 0
   OpensThere =
       OpensAfter (λ w first ready.
       (there : Result Bool ErrorKind) × world.finds w path there ready × (first ≡ of_looking there))
 
-  -- it was made, if it wasn't there, and opened
+  -- the database was made, if it didn't exist, and opened
   abbrev pub OpensNew : W → Result Conn JobFault → W → Type 0
   OpensNew =
       OpensAfter (λ w first ready.
       (made : Result (Unit {0}) ErrorKind) × world.makes w path made ready × (first ≡ of_making made))
 
-  -- That of a new office is made if it isn't there. Any other has to be there.
+  -- The database of a new office is made if it doesn't exist. Any other has to exist.
   abbrev pub OpensFor : OfficeJob → W → Result Conn JobFault → W → Type 0
   OpensFor (Init opening) = OpensNew
   OpensFor other = OpensThere
 
--- A world as it was before is `w`, and as it is afterwards `w'`. A file is left to read so.
+-- The world is `w` before and `w'` after, and `remaining` is what a file has left to read.
 module _ {W File Conn Incoming Reader Writer : Type 0} (world : Ghosts W File Conn Incoming Reader Writer)
     (remaining : File → Option (List ℕ)) (w w' : W) where
-  -- The file at a path was opened first, and what it gives was used. Or it wasn't opened, and nothing else was done.
+  -- The file at a path was opened first, and its contents were used. Or it wasn't opened, and nothing else was done.
   pub record WithFile {A : Type 0} (path : List ℕ)
       (Used : (text : Option (List ℕ)) → (opened : W) → Result A JobFault → Type 0) (Nothing : Type 0)
       (result : Result A JobFault) : Type 0 where

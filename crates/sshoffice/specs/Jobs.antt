@@ -13,7 +13,7 @@ use Rattle.sshoffice.specs.Listing.{Lists}
 use Rattle.sshoffice.specs.Making.{Makes, Migrates, ready_text}
 use Rattle.sshoffice.specs.Reporting.{Reports}
 
--- an office is made of a lawful opening
+-- an office is made with a valid initial configuration
 abbrev pub IsLawful : OfficeJob → Type 0
 IsLawful (Init opening) = IsOpening opening.now
 IsLawful other = Unit {0}
@@ -23,11 +23,11 @@ abbrev pub IsMaking : OfficeJob → Type 0
 IsMaking (Init opening) = Unit {0}
 IsMaking other = ⊥
 
--- there is no office, and the connection is what it was
+-- there is no office, and the connection is unchanged
 abbrev pub RefusesNone : {A C : Type 0} → (conn last : C) → Result A JobFault → Type 0
 RefusesNone conn last r = (r ≡ Err (Store NotAnOffice)) × (last ≡ conn)
 
--- What a job does between these tables and this output and those, with this result.
+-- The effect of a job on the tables and on the output, with this result.
 abbrev pub Does : OfficeJob → (old new : State) → (held holds : Option (List ℕ)) → Result (Unit {0}) JobFault → Type 0
 Does (Init opening) old new held holds r = Makes opening.now old new r × (holds ≡ held)
 Does (Apply exchanges) old new held holds r = Applies exchanges.now old new held holds r
@@ -36,7 +36,7 @@ Does Signers old new held holds r = Reports report.Signers old new held holds r
 Does Table old new held holds r = Reports report.Table old new held holds r
 Does Migrate old new held holds r = Migrates old new r × (holds ≡ held)
 
--- what is printed once it is done and its database is closed
+-- the text that is printed once the job is done and its database is closed
 abbrev pub told_text : OfficeJob → List ℕ
 told_text (Init opening) = ready_text opening.now
 told_text Migrate = codes "migrated 1 2\n"

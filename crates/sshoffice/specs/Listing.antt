@@ -12,17 +12,17 @@ use Rattle.sshoffice.specs.declared.job_fault.JobFault.{JobFault}
 use Rattle.sshoffice.specs.declared.job_fault.JobFault.TheVariants.{NoMemory, Store, Write}
 use Rattle.sshoffice.specs.Opening.{IsLeft}
 
--- what is printed is the list of the history that the tables tell, and they store that history
+-- the printed bytes are the list of the history that the tables represent, and they durably represent that history
 abbrev pub IsListed : (old new : State) → (held holds : Option (List ℕ)) → Type 0
 IsListed old new held holds =
     (bytes : List ℕ) × Appends held holds bytes
     × ((o : Opening) (l : List Arrival) → Tells old o l → IsList o l bytes × Stores new o l)
 
--- the tables store what they told
+-- the tables durably represent what they represented
 abbrev pub IsStored : (old new : State) → Type 0
 IsStored old new = (o : Opening) (l : List Arrival) → Tells old o l → Stores new o l
 
--- what came of it, where nothing of the tables has changed
+-- the outcome, in which no table has changed
 abbrev pub Lists : (old new : State) → (held holds : Option (List ℕ)) → Result (Unit {0}) JobFault → Type 0
 Lists old new held holds (Ok done) = IsAsBefore old new × IsListed old new held holds
 Lists old new held holds (Err Write) = IsAsBefore old new × IsStored old new

@@ -1,4 +1,4 @@
--- Offices made in a database, and moved from the schema before.
+-- Offices made in a database, and migrated from the previous schema.
 use Rattle.std.specs.Prelude.{◌≢◌, ◌++◌, ◌∷◌, [], ℕ, List, codes, decimal, IsOk, IsTrue, Result, Ok, Err}
 use Rattle.sqlite.specs.State.{State, Survives}
 use Rattle.lines.specs.Digests.{fingerprint_text}
@@ -23,24 +23,24 @@ use Rattle.sshoffice.specs.declared.job_fault.JobFault.TheVariants.{NoMemory, St
 
 -- ---- an office made
 
--- what an office with this CA is to begin with, or the first fault of it
+-- the initial configuration of an office with this CA, or its first fault
 abbrev pub due_opening : Founding → List ℕ → Result Opening OpeningFault
 due_opening f ca = made_opening ca f.root.now f.station.now f.first f.last
 
--- a crash in the midst leaves the database as it was, or with the whole office
+-- a crash in the middle leaves the database as it was, or with the whole office
 abbrev pub IsMadeWhole : Opening → (old new : State) → Type 0
 IsMadeWhole opening old new =
     Survives old new (Leaves (λ _. IsBare no_schema) (λ (_ : Unit {0}). office_contents opening []) old)
 
--- the database had no office, and one without tables has the tables of the office in which nothing has happened
+-- the tables weren't those of schema 2; if there were none, they are now those of an office with an empty history
 pub record IsMade (opening : Opening) (old new : State) : Type 0 where
   pub unlike : old.now.schema ≢ whole
   pub made : IsBlank old → Tells new opening []
   pub is_open : IsTrue new.is_open
   pub crash : IsMadeWhole opening old new
 
--- Nothing is made; of a database without tables that is for want of memory, or the database failed. An office that is
--- there stays.
+-- Nothing is made; if the database had no tables, the reason is lack of memory, or the database failed. An existing
+-- office stays.
 pub record IsUnmade (opening : Opening) (old new : State) (e : StoreFault) : Type 0 where
   pub before : IsAsBefore old new
   pub blank : IsBlank old → IsTrue new.is_open → IsBlank new
@@ -60,13 +60,13 @@ ready_text o =
     codes "office ready "
     ++ (decimal o.first ++ (32 ∷ (decimal o.last ++ (codes "\nca " ++ (fingerprint_text o.ca ++ (10 ∷ []))))))
 
--- ---- an office moved
+-- ---- an office migrated
 
--- a crash in the midst leaves the tables as they were, or as they are when it is done
+-- a crash in the middle leaves the tables as they were, or as they are at the end
 abbrev pub IsMovedWhole : (old new : State) → Type 0
 IsMovedWhole old new = Survives old new (Leaves Had migrated old)
 
--- the tables weren't those of schema 2; those of schema 1 have become these, row by row, and tell what they told
+-- the tables weren't those of schema 2; tables of schema 1 were migrated row by row, and still represent the same
 pub record IsMoved (old new : State) : Type 0 where
   pub unlike : old.now.schema ≢ whole
   pub judged : (c : Contents) → Rests (Had c) old → IsOk (ca_of c.offices)
@@ -75,7 +75,7 @@ pub record IsMoved (old new : State) : Type 0 where
   pub is_open : IsTrue new.is_open
   pub crash : IsMovedWhole old new
 
--- They have not, and this fault has its cause. An office of schema 2 stays.
+-- They were not migrated, and this fault has its cause. An office of schema 2 stays.
 pub record IsUnmoved (old new : State) (e : StoreFault) : Type 0 where
   pub judged : (c : Contents) → Rests (Had c) old → Judges c (HasStopped c old new) (Err e)
   pub only : IsTrue old.is_open → (o : Opening) (l : List Arrival) → IsHistory o l → TellsBefore old o l

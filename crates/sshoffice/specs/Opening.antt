@@ -11,7 +11,7 @@ use Rattle.store.specs.Transactions.{IsAsBefore}
 use Rattle.store.specs.Migrating.{IsExcused}
 use Rattle.store.specs.Meaning.{DiskFailed, Looks, Tells, opened_by}
 
--- these tables tell each history that those told
+-- the new tables represent each history that the old ones represented
 abbrev pub TellsOn : (old new : State) → Type 0
 TellsOn old new = (o : Opening) (l : List Arrival) → Tells old o l → Tells new o l
 
@@ -22,15 +22,15 @@ pub record IsOpened (old new : State) : Type 0 where
   pub before : IsAsBefore old new
   pub tells : TellsOn old new
 
--- For this fault it was not opened, and nothing has changed: the row says so, or the database failed.
+-- The office was not opened, with this fault, and nothing has changed: its row is the reason, or the database failed.
 pub record IsUnopened (old new : State) (e : StoreFault) : Type 0 where
   pub refused : (rows : List OfficeRow) → HasOffices rows old.now → Looks rows (DiskFailed old new) (Err e)
   pub only : IsTrue old.is_open → (o : Opening) (l : List Arrival) → Tells old o l → IsExcused (DiskFailed old new) e
   pub before : IsAsBefore old new
   pub tells : TellsOn old new
 
--- This fault was met before anything was printed. The tables tell what they told, and of those that told a history it
--- is want of memory or `Device`.
+-- This fault occurred before anything was printed. The tables represent what they represented, and if that is a
+-- history, the fault is lack of memory or `Device`.
 pub record IsLeft (old new : State) (held holds : Option (List ℕ)) (e : StoreFault) : Type 0 where
   pub unprinted : holds ≡ held
   pub tells : TellsOn old new

@@ -19,7 +19,7 @@ use Rattle.sshoffice.specs.declared.reporting.Report.TheVariants.{Signers, Table
 use Rattle.sshoffice.specs.Opening.{IsLeft}
 use Rattle.sshoffice.specs.Listing.{IsStored}
 
--- the resource of a report, whose response has it as its body
+-- the resource of a report; the report is the body of its response
 abbrev pub resource_of : Report → Resource
 resource_of Signers = resource.Signers
 resource_of Table = resource.Table
@@ -29,13 +29,13 @@ abbrev pub report_text : Report → State → List ℕ
 report_text Signers s = signers_report s
 report_text Table s = table_report s
 
--- what is printed is the report of the office after the history that the tables tell, and they store that history
+-- the report of the office after the history that the tables represent is printed, and they durably represent it
 abbrev pub IsReported : Report → (old new : Connection) → (held holds : Option (List ℕ)) → Type 0
 IsReported report old new held holds =
     (text : List ℕ) × Appends held holds text
     × ((o : Opening) (l : List Arrival) → Tells old o l → (text ≡ report_text report (state o l)) × Stores new o l)
 
--- what came of it, if nothing of the tables has changed
+-- the outcome, apart from the fact that no table has changed
 abbrev pub IsReport : Report → (old new : Connection) → (held holds : Option (List ℕ)) → Result (Unit {0}) JobFault
     → Type 0
 IsReport report old new held holds (Ok done) = IsReported report old new held holds
@@ -44,7 +44,7 @@ IsReport report old new held holds (Err NoMemory) = IsLeft old new held holds st
 IsReport report old new held holds (Err (Store e)) = IsLeft old new held holds e
 IsReport report old new held holds (Err other) = ⊥
 
--- Nothing of the tables has changed, whatever they mean, and that came of the report.
+-- No table has changed, whatever the tables mean, and this is the outcome of the report.
 pub record Reports (report : Report) (old new : Connection) (held holds : Option (List ℕ))
     (result : Result (Unit {0}) JobFault) : Type 0 where
   pub before : IsAsBefore old new

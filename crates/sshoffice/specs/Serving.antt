@@ -14,8 +14,8 @@ use Rattle.sshoffice.specs.declared.job_fault.JobFault.{JobFault}
 use Rattle.sshoffice.specs.declared.job_fault.JobFault.TheVariants.{NoMemory, Socket, Store, Write}
 use Rattle.sshoffice.specs.Opening.{IsUnopened, TellsOn}
 
--- What so many connections did, one after the other, over these tables and those. Each was given what is due to it, or
--- a fault. Where one was answered since the last fault, the tables tell the history and the connection is open.
+-- What `connections` connections did, in order, between the old and the new tables. Each got its specified response, or
+-- a fault. If one was answered since the last fault, the tables represent the history and the connection is open.
 pub record MeetsOver (connections : ℕ) (book book' : Option Book) (nonces nonces' : Option (List ℕ)) (old new : State)
     : Type 0 where
   pub visits : List Visit
@@ -25,7 +25,7 @@ pub record MeetsOver (connections : ℕ) (book book' : Option Book) (nonces nonc
   pub served : HasCleanDisk new → AllServed (Tells old) (Tells new) (λ o l. Tells new o l × IsTrue new.is_open)
       (map exchange_of visits) (map given_of visits)
 
--- The connections that the listener tells were met, each with the response that is due or a fault. Or there was no
+-- The connections in the listener's book were handled, each with the specified response or a fault. Or there was no
 -- memory to begin with, and nothing has changed.
 pub record IsServed (connections : ℕ) (book : Option Book) (nonces : Option (List ℕ)) (old new : State) (status : ℕ)
     : Type 0 where
@@ -35,11 +35,11 @@ pub record IsServed (connections : ℕ) (book : Option Book) (nonces : Option (L
   pub served : Extends connections (Tells old) (Tells new)
   pub lawful : status ≤ 1
 
--- What came of listening: nobody tried, or there is a listener with this book at a port, or there is none.
+-- The result of listening: nobody tried, or there is a listener with this book at a port, or there is none.
 abbrev pub Heard : Type 0
 Heard = Option (Result (Option Book × ℕ) ErrorKind)
 
--- What came of it. Nobody listens before the office is open. Then the line of the port is printed, and the listener's
+-- The outcome. Nobody listens before the office is open. Then the line of the port is printed, and the listener's
 -- connections are served.
 abbrev pub Serves : (connections : ℕ) → (source : Option (List ℕ)) → Heard → (old new : State)
     → (held holds : Option (List ℕ)) → Result ℕ JobFault → Type 0

@@ -12,8 +12,8 @@ use Rattle.sshoffice.specs.declared.job_fault.JobFault.TheVariants as job
 use Rattle.sshoffice.specs.Faults.{IsOfATrial}
 use Rattle.sshoffice.specs.TrialOffice.{opening_of, trial_arrival}
 
--- The file is the text of exchanges. What is printed behind what the output held are the responses that are due to them
--- from the trial office, whose department is there. An exchange that met a fault is no part of the history.
+-- The file is the text of exchanges. Their specified responses from the in-memory office, with its one department, are
+-- printed after the earlier output. An exchange that had a fault is not part of the history.
 pub record AppliesToTrial (file : List ℕ) (old new : Option (List ℕ)) (fault : Bool) : Type 0 where
   pub exchanges : List Exchange
   pub are : AreExchanges exchanges
@@ -24,8 +24,8 @@ pub record AppliesToTrial (file : List ℕ) (old new : Option (List ℕ)) (fault
   pub printed : Appends old new (all_given_text given)
   pub faults : has_fault given ≡ fault
 
--- What came of a file. Each exchange is answered, or some are given a fault, and this is printed. Or the file is none
--- of exchanges. After any fault but that of an exchange or of the output nothing is printed.
+-- The outcome for a file. Each exchange is answered, or some get a fault, and this is printed. Or the file isn't
+-- an exchange file. After any fault except that of an exchange or of the output, nothing is printed.
 pub record TriesFile (file held holds : Option (List ℕ)) (result : Result (Unit {0}) JobFault) : Type 0 where
   pub ok : OnOk result (IfSome file (λ text. AppliesToTrial text held holds false))
   pub fault : result ≡ Err job.Fault → IfSome file (λ text. AppliesToTrial text held holds true)

@@ -1,4 +1,4 @@
--- The trial office: an opening, and the arrival that comes first.
+-- The in-memory office (trial office): an initial configuration, and the arrival that comes first.
 use Rattle.std.specs.Prelude.{ℕ, codes, ◌++◌, [], ◌∷◌, List, OnOk, Result}
 use Rattle.sqlite.specs.State.{State}
 use Rattle.office.specs.declared.opening.Opening.{Opening}
@@ -7,7 +7,7 @@ use Rattle.office.specs.declared.store_fault.StoreFault.{StoreFault}
 use Rattle.store.specs.Meaning.{Tells}
 use Rattle.sshoffice.specs.declared.trial.TheConstants.{CA_KEY, MESSAGE, NO_NONCE}
 
--- what an office of these serials begins with
+-- the initial configuration of an office with these serials
 abbrev pub opening_of : ℕ → ℕ → Opening
 opening_of first last = record {
   ca = CA_KEY;
@@ -17,7 +17,7 @@ opening_of first last = record {
   last = last;
 }
 
--- the department `web`, put by root
+-- the message by which root makes the department `web`
 abbrev pub trial_arrival : Arrival
 trial_arrival = record {
   caller = codes "root";
@@ -27,7 +27,7 @@ trial_arrival = record {
   nonce = NO_NONCE;
 }
 
--- after success the tables tell each history that they told, with that arrival
+-- after success the tables represent each history that they represented, with that arrival
 abbrev pub TellsTrial : (old new : State) → Result (Unit {0}) StoreFault → Type 0
 TellsTrial old new r =
     OnOk r ((o : Opening) (l : List Arrival) → Tells old o l → Tells new o (l ++ trial_arrival ∷ []))

@@ -1,5 +1,5 @@
--- The whole of what is done in a world: what is opened, made, listened at and closed, in which order, and what is done
--- in between.
+-- The complete effect on a world: what is opened, made, listened at and closed, in which order, and what is done in
+-- between.
 use Rattle.std.specs.Prelude.{◌≡◌, ◌⊎◌, ◌∷◌, ℕ, List, [], Option, Some, None, Result, Ok, Err, IfOk, IfSome, IsTrue}
 use Rattle.std.specs.declared.io.ErrorKind.{ErrorKind}
 use Rattle.std.specs.declared.net.socket_addr.SocketAddrV4.{SocketAddrV4}
@@ -44,17 +44,17 @@ pub record IsReady {S : Type 0} (store : store.Ghosts S) (conn : Held S) : Type 
   pub unlimited : IsUnlimited store conn
   pub rests : HasCleanDisk (state store conn) → IsTrue (state store conn).is_open × IsAtRest (state store conn)
 
--- A disk that has returned what was written had done so before, and a connection that is open tells each history that
--- was told, with arrivals after it.
+-- A disk that is faithful at the end was faithful at the beginning, and a connection that is open at the end represents
+-- each history that was represented, with arrivals after it.
 abbrev pub Adds : {S : Type 0} → store.Ghosts S → (opened last : Held S) → Type 0
 Adds store opened last =
     HasCleanDisk (state store last) → HasCleanDisk (state store opened)
     × (IsTrue (state store last).is_open → AddsArrivals (state store opened) (state store last))
 
--- What a world's databases keep. What is opened is ready. If arrivals were added to it and it closed well, then all
--- that a crash may leave of the files holds the office that they held, with arrivals after it. And if what was asked
--- was done over it, and it was closed well or given up, then this was a run of the program, whatever a crash makes of
--- the files. That is said of a disk that has returned what was written.
+-- The guarantees of a world's databases. An opened database is ready. If arrivals were added to it and it closed well,
+-- then anything that a crash may leave of the files holds the office that they held, with arrivals after it. And if
+-- what was asked was done over it, and it was closed well or given up, then this was a run of the program, whatever a
+-- crash makes of the files. All this assumes a disk that has returned what was written.
 pub record KeepsDatabases {W File Tables Incoming Reader Writer : Type 0} (store : store.Ghosts Tables)
     (world : Ghosts W File (Held Tables) Incoming Reader Writer) : Type 0 where
   pub ready : (w : W) (path : List ℕ) (found : Result (Held Tables) Error) (w' : W) → world.opens w path found w'
@@ -73,7 +73,7 @@ abbrev pub Prints : List ℕ → (held holds : Option (List ℕ)) → Result (Un
 Prints told held holds (Ok done) = Appends held holds told
 Prints told held holds (Err e) = e ≡ Write
 
--- ---- what files hold
+-- ---- the contents of files
 
 -- the exchanges of this file, or why it has none
 abbrev pub AreOf : Option (List ℕ) → Result (List Exchange) JobFault → Type 0
@@ -85,7 +85,7 @@ abbrev pub IsKeyOf : Option (List ℕ) → Result KeyLine JobFault → Type 0
 IsKeyOf file (Ok k) = IfSome file (λ text. IsKeyText text k)
 IsKeyOf file (Err e) = IsOfAKey e
 
--- the opening that is due with the key of this file, or why there is none
+-- the initial configuration that is specified for the key of this file, or why there is none
 abbrev pub Begins : Option (List ℕ) → (due : List ℕ → Result Opening OpeningFault) → Result Opening JobFault → Type 0
 Begins file due (Ok o) = (k : KeyLine) × IfSome file (λ text. IsKeyText text k) × (due k.key ≡ Ok o)
 Begins file due (Err e) =
@@ -93,24 +93,24 @@ Begins file due (Err e) =
 
 -- ---- listening
 
--- at this port of 127.0.0.1
+-- the address 127.0.0.1 with this port
 pub record IsLoopback (at : ℕ) (address : SocketAddrV4) : Type 0 where
   pub ip : ipv4_octets (v4_ip address) ≡ 127 ∷ 0 ∷ 0 ∷ 1 ∷ []
   pub port : v4_port address ≡ at
 
--- what came of it, by the listener's book
+-- the result of listening, with the listener's book
 abbrev pub heard_of : {Incoming : Type 0} → (Incoming → Option Book) → Option (Result (Incoming × ℕ) ErrorKind) → Heard
 heard_of book None = None
 heard_of book (Some (Err kind)) = Some (Err kind)
 heard_of book (Some (Ok at)) = Some (Ok (book at.0, at.1))
 
 module _ {W File Conn Incoming Reader Writer : Type 0} (world : Ghosts W File Conn Incoming Reader Writer) where
-  -- what of listening at this port
+  -- listening at this port had this result
   abbrev pub Listens : ℕ → W → Result (Incoming × ℕ) ErrorKind → W → Type 0
   Listens port before heard after =
       (address : SocketAddrV4) × IsLoopback port address × world.listens before address heard after
 
-  -- where it was tried
+  -- the same, if it was tried
   abbrev pub MayListen : ℕ → W → Option (Result (Incoming × ℕ) ErrorKind) → W → Type 0
   MayListen port before None after = after ≡ before
   MayListen port before (Some heard) after = Listens port before heard after
@@ -125,7 +125,7 @@ module _ {W File Tables Incoming Reader Writer : Type 0} (store : store.Ghosts T
     pub serves : On store (λ old new. Serves connections nonces (heard_of book (Some heard)) old new held holds) conn
         last result
 
-  -- The office was opened, and then served so. Nobody listened before it was open.
+  -- The office was opened, and then served like that. Nobody listened before it was open.
   pub record ServesAt (port connections : ℕ) (nonces held holds : Option (List ℕ)) (before after : W)
       (conn last : Held Tables) (result : Result ℕ JobFault) : Type 0 where
     pub heard : Option (Result (Incoming × ℕ) ErrorKind)
@@ -135,12 +135,12 @@ module _ {W File Tables Incoming Reader Writer : Type 0} (store : store.Ghosts T
 
 -- ---- jobs
 
--- A world as it was before is `w`, and as it is afterwards `w'`. A listener tells of its connections so.
+-- The world is `w` before and `w'` after, and `book` is a listener's record of its connections.
 module _ {W File Tables Incoming Reader Writer : Type 0} (store : store.Ghosts Tables)
     (world : Ghosts W File (Held Tables) Incoming Reader Writer) (book : Incoming → Option Book) (w w' : W) where
-  -- This was done over the connection, and what it left was closed. A fault of either is what came of it. Whatever a
-  -- crash makes of the files, what was done so is a run of the program that was asked this, and goes on with each life
-  -- that has left the files as they were opened: all is due in it.
+  -- This was done over the connection, and then the connection was closed. A fault of either is the result. Whatever a
+  -- crash makes of the files, this is a run of the program that was asked this, and it continues each lifetime that has
+  -- left the files as they were opened: everything in that lifetime is as specified.
   pub record RunsOver {A : Type 0} (Did : W → W → Held Tables → Held Tables → Result A JobFault → Type 0)
       (Asks : (before after : W) (conn last : Held Tables) (r : Result A JobFault) → Did before after conn last r
       → Asked → Type 0)
@@ -157,7 +157,7 @@ module _ {W File Tables Incoming Reader Writer : Type 0} (store : store.Ghosts T
         → RunsOn (Asks opened between conn last outcome did) world.image end (world.leaves w' last)
     pub came : result ≡ closed outcome closing
 
-  -- The database was opened so, once, and this was done over its connection. Or it wasn't opened, and nothing was done.
+  -- The database was opened once, like this, and this was done over the connection. Or it wasn't, and nothing was done.
   pub record RunsIn {A : Type 0} (Opens : W → Result (Held Tables) JobFault → W → Type 0)
       (Did : W → W → Held Tables → Held Tables → Result A JobFault → Type 0)
       (Asks : (before after : W) (conn last : Held Tables) (r : Result A JobFault) → Did before after conn last r
@@ -173,7 +173,7 @@ module _ {W File Tables Incoming Reader Writer : Type 0} (store : store.Ghosts T
       → Result (Unit {0}) JobFault → Type 0
   Quietly Did before after conn last result = (after ≡ before) × On store Did conn last result
 
-  -- The same, and once the database was closed what is told of it is printed.
+  -- The same, and after the database was closed, the job's message is printed.
   pub record DoesIn (Opens : W → Result (Held Tables) JobFault → W → Type 0)
       (Did : State → State → Option (List ℕ) → Option (List ℕ) → Result (Unit {0}) JobFault → Type 0)
       (Asks : Option (List ℕ) → Option (List ℕ) → Result (Unit {0}) JobFault → Asked → Type 0)
@@ -184,7 +184,7 @@ module _ {W File Tables Incoming Reader Writer : Type 0} (store : store.Ghosts T
         Asks held between r) (between ≡ held) done
     pub told_of : Follows (λ _. Prints told between holds) (holds ≡ between) done result
 
-  -- The exchanges of the file were applied. Or it has none, and then nothing was looked for or opened, and nothing is
+  -- The exchanges of the file were applied. Or it has none, and then nothing was looked up or opened, and nothing is
   -- printed.
   pub record AppliesIn (db : List ℕ) (file held holds : Option (List ℕ)) (result : Result (Unit {0}) JobFault)
       : Type 0 where
@@ -193,8 +193,8 @@ module _ {W File Tables Incoming Reader Writer : Type 0} (store : store.Ghosts T
     pub applied : Follows (λ es. DoesIn (OpensThere world db) (Applies es) (AsksExchanges es) [] held holds) ((w' ≡ w) × (holds ≡ held))
         exchanges result
 
-  -- The office with the key of the file was made, and is told of. Or there is none, and then nothing was made or
-  -- opened, and nothing is printed.
+  -- The office with the key of the file was made, and this is reported. Or there is no initial configuration, and then
+  -- nothing was made or opened, and nothing is printed.
   pub record FoundsIn (db : List ℕ) (due : List ℕ → Result Opening OpeningFault) (file held holds : Option (List ℕ))
       (result : Result (Unit {0}) JobFault) : Type 0 where
     pub opening : Result Opening JobFault

@@ -21,7 +21,7 @@ use std::alloc::Global;
 use std::io::{Read, Write};
 use web::Exchange;
 
-// What came of a run, as of a job.
+// The result of a batch, as that of a job.
 fn of_a_run(done: Result<(), RunFault>) -> Result<(), JobFault>
     ensures { result ≡ run_result done }
 {
@@ -31,7 +31,7 @@ fn of_a_run(done: Result<(), RunFault>) -> Result<(), JobFault>
     }
 }
 
-/// Runs exchanges over the office in a database, and prints what each is given.
+/// Runs exchanges over the office in a database, and prints what each one got.
 pub fn apply_over<S: Alter, W: Write>(
     alloc: Global,
     conn: Connection<S>,
@@ -44,7 +44,7 @@ pub fn apply_over<S: Alter, W: Write>(
         conn result.1 result.0 }
     ensures honest { StaysClean S.Store conn result.1 }
 
-    // A database without the table of an office is refused, and stays.
+    // A database without an office's table is refused and left unchanged.
     ensures none { list_any is_office_table (tables_of S.Store conn) ≡ false
         → result ≡ record { 0 = Err (JobFault.Store StoreFault.NotAnOffice); 1 = conn } }
 {
@@ -58,26 +58,26 @@ pub fn apply_over<S: Alter, W: Write>(
     }
 }
 
-/// Runs the exchanges that a file's reader gives over the trial office, and prints what each was given.
+/// Runs the exchanges from a file's reader over the in-memory office, and prints what each one got.
 #[tactic(auto, using(crate::proofs::Causes::of_file, crate::proofs::Causes::not_run, crate::proofs::Causes::of_office))]
 pub fn apply_to_trial<R: Read + Drop, W: Write>(
     alloc: Global,
     file: R,
     out: &mut W,
 ) -> Result<(), JobFault>
-    // Each exchange is answered, and each answer is the one that is due.
+    // Each exchange is answered, and each answer is the specified one.
     ensures ok { OnOk result (IfSome (R.remaining file) (λ text. AppliesToTrial text (W.contents out.old)
         (W.contents out.new) false)) }
 
-    // All is printed, and an exchange was given a fault.
+    // Everything is printed, and an exchange got no response.
     ensures fault { result ≡ Err JobFault.Fault → IfSome (R.remaining file) (λ text. AppliesToTrial text
         (W.contents out.old) (W.contents out.new) true) }
 
-    // The file is none of exchanges.
+    // The file isn't an exchange file: this is its first bad record.
     ensures bad { (k : ℕ) → result ≡ Err (JobFault.BadExchange k)
         → IfSome (R.remaining file) (λ text. IsBadRecord text k) }
 
-    // After any fault but these two, nothing is printed.
+    // After any fault except `Write` and `Fault`, nothing is printed.
     ensures only { IfErr result IsOfATrial }
     ensures silent { IfErr result (λ e. e ≢ JobFault.Write → e ≢ JobFault.Fault → out.new ≡ out.old) }
 {

@@ -1,4 +1,4 @@
-//! A list asked about a certificate.
+//! Checking a list for a certificate.
 
 ghost use Rattle.std.specs.Prelude.{◌≡◌, ◌≢◌, Err, IfErr, IfSome, OnOk};
 ghost use Rattle.std.specs.Io.KnownBytes.{Appends};
@@ -25,7 +25,7 @@ fn print_verdict<W: Write>(out: &mut W, revoked: bool) -> Result<(), JobFault>
     write_out(out, verdict.as_bytes())
 }
 
-/// Prints whether the list that a reader gives revokes the certificate of this serial and key id, under this CA.
+/// Prints whether the list from a reader revokes the certificate with this serial and key ID, under this CA.
 #[tactic(auto, using(crate::proofs::Causes::list_file, crate::proofs::Causes::verdict))]
 pub fn check_list<R: Read + Drop, W: Write>(
     alloc: Global,
@@ -35,7 +35,7 @@ pub fn check_list<R: Read + Drop, W: Write>(
     key_id: &[u8],
     out: &mut W,
 ) -> Result<(), JobFault>
-    // What is printed is the verdict of the list.
+    // The printed text is the verdict of the list.
     ensures ok { OnOk result (IfSome (R.remaining list) (λ bytes. Checks bytes ca.now serial key_id.now
         (W.contents out.old) (W.contents out.new))) }
 
@@ -43,7 +43,7 @@ pub fn check_list<R: Read + Drop, W: Write>(
     ensures fault { (f : KrlFault) → result ≡ Err (JobFault.List f)
         → IfSome (R.remaining list) (λ bytes. FirstFault bytes f) }
 
-    // After any fault but that of the output, nothing is printed.
+    // After any fault except the output's, nothing is printed.
     ensures only { IfErr result IsOfChecking }
     ensures silent { IfErr result (λ e. e ≢ JobFault.Write → out.new ≡ out.old) }
 {
@@ -54,7 +54,7 @@ pub fn check_list<R: Read + Drop, W: Write>(
     }
 }
 
-// The list of the file at a path, asked so.
+// Checks the list in the file at a path in the same way.
 fn check_at<W: World + AllocGlobal, O: Write>(
     world: &mut W,
     ca: &[u8; 32],
@@ -74,7 +74,7 @@ fn check_at<W: World + AllocGlobal, O: Write>(
     }
 }
 
-/// Prints whether the list of the file at a path revokes the certificate of this serial and key id, under the CA of a
+/// Prints whether the list in the file at a path revokes the certificate with this serial and key ID, under the CA of a
 /// file.
 pub(crate) fn check_in<W: World + AllocGlobal, O: Write>(
     world: &mut W,

@@ -1,4 +1,4 @@
-//! Jobs done, in a world.
+//! Doing jobs, in a world.
 
 ghost use Rattle.std.specs.Prelude.{◌≡◌, ◌≤◌, ℕ, List, Option, IfOk, map, string_bytes};
 ghost use Rattle.std.specs.Io.KnownBytes.{Appends, Keeps};
@@ -26,10 +26,10 @@ use command_line::{Job, WordsFault, read_words};
 use sqlite::{Alter, Connection};
 use std::io::{ErrorKind, Write};
 
-/// The status of bad words.
+/// The status for invalid arguments.
 pub const BAD_WORDS: u8 = 2;
 
-// An office made with the key of the file at a path.
+// Makes an office with the key of the file at a path.
 fn found_at<S: Alter, W: World<Conn = Connection<S>> + AllocGlobal, O: Write>(
     world: &mut W,
     db: &str,
@@ -48,7 +48,7 @@ fn found_at<S: Alter, W: World<Conn = Connection<S>> + AllocGlobal, O: Write>(
     }
 }
 
-// The exchanges of the file at a path, applied to the office in a database.
+// Applies the exchanges of the file at a path to the office in a database.
 fn apply_at<S: Alter, W: World<Conn = Connection<S>> + AllocGlobal, O: Write>(
     world: &mut W,
     db: &str,
@@ -66,7 +66,7 @@ fn apply_at<S: Alter, W: World<Conn = Connection<S>> + AllocGlobal, O: Write>(
     }
 }
 
-// The exchanges of the file at a path, applied to the trial office.
+// Applies the exchanges of the file at a path to the in-memory office.
 fn try_at<W: World + AllocGlobal, O: Write>(
     world: &mut W,
     file: &str,
@@ -82,7 +82,7 @@ fn try_at<W: World + AllocGlobal, O: Write>(
     }
 }
 
-// The list of a file, asked about a certificate under the CA of the file at a path.
+// Checks the list of a file for a certificate, under the CA of the file at a path.
 fn check_by<W: World + AllocGlobal, O: Write>(
     world: &mut W,
     ca: &str,
@@ -101,7 +101,7 @@ fn check_by<W: World + AllocGlobal, O: Write>(
     }
 }
 
-/// Has the trial office serve itself one request, and prints that it was answered as is due.
+/// Has the in-memory office serve itself one request, and prints that the answer was the specified one.
 fn test_itself<W: World + AllocGlobal, O: Write>(world: &mut W, out: &mut O) -> Result<(), JobFault>
     ensures { TestsItself W.World world.old world.new (O.contents out.old) (O.contents out.new) result }
 {
@@ -116,7 +116,7 @@ fn test_itself<W: World + AllocGlobal, O: Write>(world: &mut W, out: &mut O) -> 
     }
 }
 
-// An office served with the nonces of the file at a path.
+// Serves an office with the nonces of the file at a path.
 fn serve_at<S: Alter, W: World<Conn = Connection<S>> + AllocGlobal, O: Write, E: Write>(
     world: &mut W,
     db: &str,
@@ -138,7 +138,7 @@ fn serve_at<S: Alter, W: World<Conn = Connection<S>> + AllocGlobal, O: Write, E:
     }
 }
 
-// What came of a job, once its output is flushed. The status of one that was done is 0.
+// The result of a job, once its output is flushed. The status of a job that was done is 0.
 fn ended<O: Write>(done: Result<(), JobFault>, out: O) -> (Result<u8, JobFault>, O)
     ensures kept { Keeps (O.contents out) (O.contents result.1) }
     ensures flushed { IsFlushed done result.0 }
@@ -150,7 +150,7 @@ fn ended<O: Write>(done: Result<(), JobFault>, out: O) -> (Result<u8, JobFault>,
     }
 }
 
-// Does a job in a world, but doesn't serve.
+// Does a job in a world, except serving.
 fn done_by<S: Alter, W: World<Conn = Connection<S>> + AllocGlobal, O: Write>(
     world: &mut W,
     job: &Job,
@@ -238,8 +238,8 @@ fn run_job<S: Alter, W: World<Conn = Connection<S>> + AllocGlobal, O: Write, E: 
     }
 }
 
-/// Does a job in a world: opens the files and the database that the job names, in its order, does it, closes, prints
-/// what it gives to `out`, and the name of a fault to `err`. Answers the status and `out`.
+/// Does a job in a world: opens its files, then its database, does the job, closes the database, and prints the result
+/// to `out`, or the name of a fault to `err`. Returns the status and `out`.
 pub fn do_job<S: Alter, W: World<Conn = Connection<S>> + AllocGlobal, O: Write, E: Write>(
     world: &mut W,
     job: &Job,
@@ -251,7 +251,7 @@ pub fn do_job<S: Alter, W: World<Conn = Connection<S>> + AllocGlobal, O: Write, 
         (O.contents result.1) result.0 }
     ensures status { result.0 ≤ 1 }
 
-    // Of a job that was done nothing is told but by a server.
+    // If a job was done, only a server prints anything to `err`.
     ensures silent { (IsServing job.now → ⊥) → result.0 ≡ 0 → err.new ≡ err.old }
 {
     match run_job(world, job, out, err) {
@@ -270,7 +270,7 @@ fn show<O: Write, E: Write>(text: &String, out: &mut O, err: &mut E) -> u8
     status_of(err, flushed(out, shown))
 }
 
-// What is answered to words that ask for no job: the text of clap, or a fault.
+// The answer to arguments that ask for no job: clap's text, or a fault.
 fn answer_words<O: Write, E: Write>(fault: WordsFault, out: &mut O, err: &mut E) -> u8
     ensures answers { AnswersWords fault (O.contents out.old) (O.contents out.new) result }
     ensures status { result ≤ BAD_WORDS }
@@ -286,7 +286,7 @@ fn answer_words<O: Write, E: Write>(fault: WordsFault, out: &mut O, err: &mut E)
     }
 }
 
-/// Does the job that the words ask for, or shows the text of clap. Answers the status and `out`.
+/// Does the job that the arguments ask for, or prints clap's text. Returns the status and `out`.
 pub fn do_words<S: Alter, W: World<Conn = Connection<S>> + AllocGlobal, O: Write, E: Write>(
     world: &mut W,
     words: &[String],
@@ -308,7 +308,7 @@ pub fn do_words<S: Alter, W: World<Conn = Connection<S>> + AllocGlobal, O: Write
     }
 }
 
-/// The status where the words can't be had: memory was refused, or a word isn't UTF-8.
+/// The status if the arguments can't be read: memory was refused, or one isn't UTF-8.
 pub fn do_no_words<E: Write>(fault: ErrorKind, err: &mut E) -> u8
     ensures { result ≡ status_of_no_words fault }
 {

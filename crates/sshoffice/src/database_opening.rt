@@ -1,4 +1,4 @@
-//! Databases opened for a job. That of a new office is made if it isn't there, and any other has to be there.
+//! Opening databases for a job. A new office's database is made if it doesn't exist, and any other has to exist.
 
 ghost use Rattle.std.specs.Prelude.{◌≡◌};
 ghost use Rattle.sshoffice.specs.Finding.{Opens, OpensFor, OpensNew, OpensThere, of_look, of_looking, of_making};
@@ -10,7 +10,7 @@ use crate::world::World;
 use office::StoreFault;
 use std::io::ErrorKind;
 
-// The fault of a database that nobody can look for, or that can't be made.
+// The fault for a database that can't be looked up or made.
 fn unfound_fault(kind: ErrorKind) -> JobFault
     ensures { result ≡ of_look kind }
 {
@@ -20,7 +20,7 @@ fn unfound_fault(kind: ErrorKind) -> JobFault
     }
 }
 
-// What looking for a database came to: it is there, or that is the fault.
+// The result of looking up a database: it exists, or this is the fault.
 fn looked_for(there: Result<bool, ErrorKind>) -> Result<(), JobFault>
     ensures { result ≡ of_looking there }
 {
@@ -31,7 +31,7 @@ fn looked_for(there: Result<bool, ErrorKind>) -> Result<(), JobFault>
     }
 }
 
-// What making a database came to.
+// The result of making a database.
 fn made(done: Result<(), ErrorKind>) -> Result<(), JobFault>
     ensures { result ≡ of_making done }
 {
@@ -50,7 +50,7 @@ fn opened<W: World>(world: &mut W, path: &str) -> Result<W::Conn, JobFault>
     }
 }
 
-/// Opens the database at a path, which has to be there. If it isn't, nothing is opened.
+/// Opens the database at a path, which has to exist. If it doesn't, nothing is opened.
 pub(crate) fn open_there<W: World>(world: &mut W, path: &str) -> Result<W::Conn, JobFault>
     ensures { OpensThere W.World path.now world.old result world.new }
 {
@@ -60,7 +60,7 @@ pub(crate) fn open_there<W: World>(world: &mut W, path: &str) -> Result<W::Conn,
     }
 }
 
-/// Opens the database at a path, which is made if it isn't there. If it can't be made, nothing is opened.
+/// Opens the database at a path, which is made if it doesn't exist. If it can't be made, nothing is opened.
 pub(crate) fn open_new<W: World>(world: &mut W, path: &str) -> Result<W::Conn, JobFault>
     ensures { OpensNew W.World path.now world.old result world.new }
 {
@@ -70,7 +70,7 @@ pub(crate) fn open_new<W: World>(world: &mut W, path: &str) -> Result<W::Conn, J
     }
 }
 
-/// Opens the database of a job.
+/// Opens the database for a job.
 pub(crate) fn open_for<W: World>(
     world: &mut W,
     path: &str,

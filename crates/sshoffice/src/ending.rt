@@ -1,4 +1,4 @@
-//! How jobs end.
+//! The end of a job.
 
 ghost use Rattle.std.specs.Prelude.{◌≡◌, Err, IfErr, IsOk, Ok, OnOk};
 ghost use Rattle.std.specs.Io.KnownBytes.{Appends, Keeps};
@@ -21,10 +21,10 @@ use std::io::Write;
 /// The status of a job that was done.
 const DONE: u8 = 0;
 
-/// The status where a fault was met.
+/// The status of a job with a fault.
 const FAULT: u8 = 1;
 
-/// The fault of a database that was not opened or closed.
+/// The fault for a database that was not opened or closed.
 pub fn database_fault(error: Error) -> JobFault
     ensures value { result ≡ of_database error }
     ensures only { IsOfADatabase result }
@@ -35,7 +35,7 @@ pub fn database_fault(error: Error) -> JobFault
     }
 }
 
-// The fault of a database that was given up, or whose log wasn't copied.
+// The fault for a database that was given up, or whose log wasn't copied.
 fn end_fault(fault: EndFault) -> JobFault
     ensures { result ≡ of_end fault }
 {
@@ -45,8 +45,8 @@ fn end_fault(fault: EndFault) -> JobFault
     }
 }
 
-/// What comes of a job and of the closing of its database. A fault of the job is kept, and where the job went well, one
-/// of the closing is told.
+/// The result of a job and of the closing of its database. A fault of the job is kept; if the job succeeded, a fault of
+/// the closing is reported.
 pub fn closed<T: Copy>(
     done: Result<T, JobFault>,
     closing: Result<(), EndFault>,
@@ -75,7 +75,7 @@ fn tell_opening<W: Write>(out: &mut W, opening: &Opening) -> Result<(), JobFault
     write_out(out, b"\n")
 }
 
-// What is told of a job that was done.
+// Prints the message for a job that was done.
 fn tell<W: Write>(out: &mut W, job: &OfficeJob<'_>) -> Result<(), JobFault>
     ensures ok { OnOk result (Appends (W.contents out.old) (W.contents out.new) (told_text job.now)) }
     ensures only { IfErr result (λ e. e ≡ JobFault.Write) }
@@ -87,7 +87,7 @@ fn tell<W: Write>(out: &mut W, job: &OfficeJob<'_>) -> Result<(), JobFault>
     }
 }
 
-/// Prints what is told of a job once its database is closed, where it was done.
+/// Prints the message for a job once its database is closed, if the job was done.
 pub fn finish<W: Write>(
     out: &mut W,
     job: &OfficeJob<'_>,
@@ -102,7 +102,7 @@ pub fn finish<W: Write>(
     tell(out, job)
 }
 
-/// Prints that an office passed its own test, where it did.
+/// Prints that an office passed its own test, if it did.
 pub fn test_ended<W: Write>(out: &mut W, tested: Result<(), SelftestFault>) -> Result<(), JobFault>
     ensures fault { IfErr tested (λ e. result ≡ Err (of_selftest e)) }
     ensures silent { IfErr tested (λ _. out.new ≡ out.old) }
@@ -115,7 +115,7 @@ pub fn test_ended<W: Write>(out: &mut W, tested: Result<(), SelftestFault>) -> R
     }
 }
 
-/// What was done, once all is written. Nothing more is printed.
+/// The result of a job, once its output is flushed. Nothing more is printed.
 pub fn flushed<W: Write>(out: &mut W, done: Result<(), JobFault>) -> Result<(), JobFault>
     ensures fault { IfErr done (λ e. result ≡ Err e) }
     ensures ok { IsOk done → IfErr result (λ e. e ≡ JobFault.Write) }
@@ -128,7 +128,7 @@ pub fn flushed<W: Write>(out: &mut W, done: Result<(), JobFault>) -> Result<(), 
     }
 }
 
-/// The status of what was done. A fault is printed by its name, and nothing where there was none.
+/// The status of a result. If it is a fault, its name is printed, otherwise nothing.
 pub fn status_of<W: Write>(err: &mut W, done: Result<(), JobFault>) -> u8
     ensures status { result ≡ status done }
     ensures silent { IsOk done → err.new ≡ err.old }

@@ -1,4 +1,4 @@
-//! What files hold.
+//! Reading the contents of files.
 
 ghost use Rattle.std.specs.IoError.{error_kind};
 ghost use Rattle.std.specs.Prelude.{◌≡◌, ◌<◌, ◌≤◌, ℕ, Err, IfErr, IfOk, IfSome, take, vec_len};
@@ -15,13 +15,13 @@ use std::io;
 use std::io::Read;
 use web::Exchange;
 
-/// The most bytes of a file with a key line: some KiB more than any has.
+/// The greatest size of a public-key file: some KiB more than any has.
 const MAX_KEY_FILE: u64 = 8192;
 
-/// The most bytes of a list: a header of 44 bytes, and a section of 4294967295 with its type and length.
+/// The greatest size of a list: a header of 44 bytes, and a section of 4294967295 with its type and length.
 const MAX_LIST: u64 = 4_294_967_344;
 
-/// The fault of a file that can't be opened or read.
+/// The fault for a file that can't be opened or read.
 pub fn file_fault(error: &io::Error) -> JobFault
     ensures value { result ≡ of_file (error_kind error.now) }
     ensures only { IsOfAFile result }
@@ -29,7 +29,7 @@ pub fn file_fault(error: &io::Error) -> JobFault
     kind_fault(error.kind())
 }
 
-/// The first bytes that a reader gives, `most` of them where it gives so many.
+/// The first bytes from a reader: `most` of them, or fewer if it ends before.
 fn read_first<R: Read + Drop>(alloc: Global, reader: R, most: u64) -> Result<Vec<u8>, JobFault>
     ensures first { IfOk result (λ v. IfSome (R.remaining reader) (λ bytes. v.items ≡ take most bytes)) }
     ensures only { IfErr result IsOfAFile }
@@ -41,7 +41,7 @@ fn read_first<R: Read + Drop>(alloc: Global, reader: R, most: u64) -> Result<Vec
     }
 }
 
-/// All that a reader gives. It is a fault of the file if that is more than `most` bytes.
+/// All bytes from a reader. More than `most` bytes are a fault of the file.
 fn read_whole<R: Read + Drop>(alloc: Global, reader: R, most: u64) -> Result<Vec<u8>, JobFault>
     requires { most < u64.MAX }
     ensures size { IfOk result (λ v. vec_len v ≤ most) }
@@ -63,7 +63,7 @@ pub fn read_list<R: Read + Drop>(alloc: Global, reader: R) -> Result<Vec<u8>, Jo
     read_whole(alloc, reader, MAX_LIST)
 }
 
-/// The bytes of an exchange file. A longer one than any of exchanges is read to where its first bad record is sure.
+/// The bytes of an exchange file, or a prefix of a longer file in which the first bad record is certain.
 fn read_exchanges_of<R: Read + Drop>(alloc: Global, reader: R) -> Result<Vec<u8>, JobFault>
     ensures tells { IfOk result (λ v. IfSome (R.remaining reader) (λ file. TellsOf file v.items)) }
     ensures only { IfErr result IsOfAFile }
@@ -90,7 +90,7 @@ pub fn read_exchanges_from<R: Read + Drop>(
     }
 }
 
-// The key that a text holds: a key line, and then a line feed or nothing.
+// The key in a text: a public-key line, and then a line feed or nothing.
 #[tactic(auto, using(crate::proofs::Causes::key_line))]
 fn key_in(alloc: Global, text: &[u8]) -> Result<KeyLine, JobFault>
     ensures key { IfOk result (IsKeyText text.now) }
@@ -103,7 +103,7 @@ fn key_in(alloc: Global, text: &[u8]) -> Result<KeyLine, JobFault>
     }
 }
 
-/// The key of a file with a key line, whose last line feed may be left out.
+/// The key in a file with a public-key line, whose final line feed is optional.
 #[tactic(auto, using(crate::proofs::Causes::key_file))]
 pub fn read_key<R: Read + Drop>(alloc: Global, reader: R) -> Result<KeyLine, JobFault>
     ensures key { IfOk result (λ k. IfSome (R.remaining reader) (λ text. IsKeyText text k)) }

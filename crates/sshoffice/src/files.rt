@@ -1,4 +1,4 @@
-//! Files, opened and made.
+//! Opening and making files.
 
 ghost use Rattle.std.specs.Prelude.{◌≡◌, IfErr};
 ghost use Rattle.sshoffice.specs.Faults.{IsOfAFile, of_file};
@@ -11,10 +11,10 @@ use std::io::{self, ErrorKind};
 use std::os::unix::fs::{OpenOptionsExt, PermissionsExt};
 use std::rt::Files;
 
-/// The mode of a file that its owner alone may read and write.
+/// The mode of a file that only its owner may read and write.
 const OWNER_ALONE: u32 = 0o600;
 
-/// Makes an empty file that its owner alone may read and write, if nothing has the name. What is there stays as it is.
+/// Makes an empty file that only its owner may read and write, if the name is free. An existing file stays as it is.
 pub(crate) fn make_file<R: Files<File = File>>(rt: &R, path: &str) -> io::Result<()> {
     match OpenOptions::new()
         .write(true)
@@ -22,14 +22,14 @@ pub(crate) fn make_file<R: Files<File = File>>(rt: &R, path: &str) -> io::Result
         .mode(OWNER_ALONE)
         .open(rt, path)
     {
-        // The umask may have taken away what the owner is to have.
+        // The umask may have removed permissions that the owner needs.
         Ok(file) => file.set_permissions(Permissions::from_mode(OWNER_ALONE)),
         Err(error) if error.kind() == ErrorKind::AlreadyExists => Ok(()),
         Err(error) => Err(error),
     }
 }
 
-/// The fault of a file that can't be opened or read.
+/// The fault for a file that can't be opened or read.
 pub(crate) fn kind_fault(kind: ErrorKind) -> JobFault
     ensures value { result ≡ of_file kind }
     ensures only { IsOfAFile result }

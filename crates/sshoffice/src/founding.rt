@@ -1,4 +1,4 @@
-//! An office made in a new database.
+//! Making an office in a new database.
 
 ghost use Rattle.std.specs.Prelude.{◌≡◌, Err, IfErr, IfOk, IsTrue, Ok};
 ghost use Rattle.std.specs.List.{list_any};
@@ -15,12 +15,12 @@ use std::alloc::Global;
 use store::Store;
 use text::NoMemory;
 
-/// What an office is to begin with, beside the key of its CA.
+/// The initial configuration of an office, except for the key of its CA.
 #[derive(Clone, Copy)]
 pub struct Founding<'a> {
-    /// The caller that may do everything but deliver signatures.
+    /// The caller who may send everything but signatures.
     pub root: &'a str,
-    /// The caller that delivers signatures.
+    /// The caller who delivers signatures.
     pub station: &'a str,
     /// The first serial.
     pub first: u64,
@@ -28,7 +28,7 @@ pub struct Founding<'a> {
     pub last: u64,
 }
 
-/// The opening of an office with this CA, these callers and these serials, or its first fault.
+/// The initial configuration with this CA, these callers and these serials, or its first fault.
 pub fn opening_of(alloc: Global, ca: [u8; 32], founding: &Founding<'_>) -> Result<Opening, JobFault>
     ensures made { IfOk result (λ o. made_opening ca founding.now.root.now founding.now.station.now founding.now.first
         founding.now.last ≡ Ok o) }
@@ -44,7 +44,7 @@ pub fn opening_of(alloc: Global, ca: [u8; 32], founding: &Founding<'_>) -> Resul
     }
 }
 
-/// Makes the office of an opening in a database without tables.
+/// Makes the office of an initial configuration in a database without tables.
 pub fn make_over<S: Alter>(
     alloc: Global,
     conn: Connection<S>,
@@ -56,7 +56,7 @@ pub fn make_over<S: Alter>(
     ensures makes { On S.Store (Makes opening.now) conn result.1 result.0 }
     ensures honest { StaysClean S.Store conn result.1 }
 
-    // A database with a table of an office's names is refused, and stays.
+    // A database with a table that has one of an office's names is refused and left unchanged.
     ensures already { IsTrue (list_any is_office_name (tables_of S.Store conn))
         → result ≡ record { 0 = Err (JobFault.Store StoreFault.AlreadyAnOffice); 1 = conn } }
 {

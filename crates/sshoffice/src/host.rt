@@ -1,6 +1,6 @@
 //! The world of the program: the system's files, clock and sockets, and databases in files.
 //!
-//! Each call is one of the system's or of a crate's. Of what the system answers nothing is proved.
+//! Each call goes to the system or to a crate. Nothing is proved about the system's answers.
 
 ghost use Rattle.std.specs.Prelude.{◌≡◌, ◌≤◌, IsSomeAnd, map, string_bytes};
 ghost use Rattle.sqlite_wal.specs.Files.{image_at};
@@ -25,7 +25,7 @@ use std::net::{SocketAddr, SocketAddrV4, TcpListener};
 /// A connection to the files at a path.
 type FileConnection<S> = Connection<FileStore<FileFrom<S>>>;
 
-/// Opens the database at a path, or makes one without tables. `start` stands for what its files hold.
+/// Opens the database at a path, or makes one without tables. `start` represents the contents of its files.
 fn open_files<S: Start>(rt: &HostRuntime, path: &str, start: S) -> Result<FileConnection<S>, Error>
     ensures { OpensOrNot (image_at S.Start) result }
 {
@@ -35,25 +35,25 @@ fn open_files<S: Start>(rt: &HostRuntime, path: &str, start: S) -> Result<FileCo
     }
 }
 
-/// Whether SQLite takes this for something else than a path, so that opening it refuses it. Then no file is made.
+/// Whether SQLite takes this for something other than a path and refuses to open it. Then no file is made.
 fn is_no_path(path: &str) -> bool {
     path == ":memory:" || path.starts_with("file:")
 }
 
-/// The system, of which one database is opened, once.
+/// The system, in which at most one database is opened, and only once.
 #[derive(Drop)]
 pub struct Host<'a, S: Start> {
     rt: &'a HostRuntime,
-    // What stands for what the database's files hold, until they are opened.
+    // Represents the contents of the database's files, until they are opened.
     start: Option<S>,
-    // The files as the close left them, whether it went well or not.
+    // The files as the close left them, whether it succeeded or not.
     left: Option<Files<FileFrom<S>>>,
-    // The place of the listener, which its connections outlive.
+    // The cell for the listener, which outlives its connections.
     listener: &'a OnceCell<TcpListener>,
 }
 
 impl<'a, S: Start> Host<'a, S> {
-    /// The system, before anything is asked of it. `start` stands for what the files of the database hold.
+    /// The system, before any call. `start` represents the contents of the database's files.
     pub fn new(rt: &'a HostRuntime, start: S, listener: &'a OnceCell<TcpListener>) -> Host<'a, S> {
         Host {
             rt,
@@ -137,7 +137,7 @@ impl<'a, S: Start> World for Host<'a, S> {
     }
 }
 
-// Listens at an address, with a listener that is kept in the cell.
+// Listens at an address. The listener is kept in the cell.
 fn listen_in<'a>(
     rt: &'a HostRuntime,
     cell: &'a OnceCell<TcpListener>,
@@ -152,9 +152,9 @@ fn listen_in<'a>(
     }
 }
 
-/// Does what the words ask for in the world of the system, and answers the status, `out`, and the files of the job's
-/// database as they are left, if it was opened. `start` stands for what they hold. Only here is a job done over a file's
-/// connection: such a call takes half a minute to prove.
+/// Does what the arguments ask for in the world of the system. Returns the status, `out`, and the files of the job's
+/// database as they are left, if it was opened. `start` represents their contents. Only this function does a job over a
+/// file's connection: such a call takes half a minute to prove.
 pub fn run<S: Start, O: Write, E: Write>(
     rt: &HostRuntime,
     start: S,
@@ -162,7 +162,7 @@ pub fn run<S: Start, O: Write, E: Write>(
     out: O,
     err: &mut E,
 ) -> (u8, O, Option<Files<FileFrom<S>>>)
-    // This came of the words in a world whose database is left in these files.
+    // The arguments had this effect in a world whose database is left in these files.
     ensures runs { RunsWordsOver over_files ⟦<Host<'static, S> as World>⟧
         ⟦<fs::File as Read>⟧.remaining ⟦<Loopback<'static, HostRuntime> as Listener>⟧.book (λ host. host.left ≡ result.2)
         (map string_bytes words.now) (O.contents out) (O.contents result.1) result.0 }

@@ -1,4 +1,4 @@
-//! What is asked of the office in a database, and its doing.
+//! The jobs for the office in a database, and doing them.
 
 ghost use Rattle.std.specs.Prelude.{◌≡◌, false};
 ghost use Rattle.std.specs.List.{list_any};
@@ -18,12 +18,12 @@ use std::alloc::Global;
 use std::io::Write;
 use web::Exchange;
 
-/// What is asked of the office in a database.
+/// A job for the office in a database.
 #[derive(Clone, Copy)]
 pub enum OfficeJob<'a> {
     /// Makes an office in a new database.
     Init(&'a Opening),
-    /// Runs exchanges and prints the answers.
+    /// Runs exchanges and prints the responses.
     Apply(&'a [Exchange]),
     /// Prints the revocation list.
     Krl,
@@ -31,11 +31,11 @@ pub enum OfficeJob<'a> {
     Signers,
     /// Prints the table of certificates.
     Table,
-    /// Brings a database of schema 1 to schema 2.
+    /// Migrates a database from schema 1 to schema 2.
     Migrate,
 }
 
-/// What a job came to, with the connection and the output that it was given.
+/// The result of a job, with the connection and the output that it was given.
 pub struct Done<S: Alter, W> {
     /// Whether it was done.
     pub outcome: Result<(), JobFault>,
@@ -45,7 +45,7 @@ pub struct Done<S: Alter, W> {
     pub out: W,
 }
 
-/// Does a job over the connection to its database. No transaction may be open, and queries may have no limit on their
+/// Does a job over the connection to its database. No transaction may be open, and queries must have no limit on their
 /// steps.
 pub fn do_on<S: Alter, W: Write>(
     alloc: Global,
@@ -60,7 +60,7 @@ pub fn do_on<S: Alter, W: Write>(
         conn result.conn result.outcome }
     ensures honest { StaysClean S.Store conn result.conn }
 
-    // A database without the table of an office is refused, and stays, if none is to be made.
+    // A database without an office's table is refused and left unchanged, unless the job makes an office.
     ensures none { (IsMaking job.now → ⊥) → list_any is_office_table (tables_of S.Store conn) ≡ false
         → RefusesNone conn result.conn result.outcome }
 {

@@ -11,7 +11,7 @@ use std::fmt;
 /// Why a job was not done. It is printed as its name.
 #[derive(Clone, Copy, Debug, PartialEq, Eq)]
 pub enum JobFault {
-    /// A file can't be read, or one with a key line or a list is longer than any of its kind.
+    /// A file can't be read, or a public-key file or a list is longer than any may be.
     File,
     /// The output can't be written.
     Write,
@@ -19,21 +19,21 @@ pub enum JobFault {
     Socket,
     /// The connection to the office itself wasn't served.
     Connection(server::Fault),
-    /// The office answered itself something else than is due.
+    /// The office's answer to its own request isn't the specified one.
     Mismatch,
-    /// A growth was refused.
+    /// An allocation failed.
     NoMemory,
-    /// This record of an exchange file, from 1, is the first bad one.
+    /// This record of an exchange file, counted from 1, is the first bad one.
     BadExchange(usize),
-    /// The CA file holds no key line.
+    /// The CA file holds no public-key line.
     Line(LineFault),
-    /// No office can begin so.
+    /// No office can begin with this configuration.
     Opening(OpeningFault),
-    /// The bytes are no list that is read here.
+    /// The bytes aren't a list that this program can read.
     List(KrlFault),
-    /// The register did not answer.
+    /// The register didn't answer, or its database can't be opened, made, migrated or closed.
     Store(StoreFault),
-    /// An exchange was given no response.
+    /// An exchange got no response.
     Fault,
 }
 

@@ -1,4 +1,4 @@
-//! The key revocation list, printed.
+//! Printing the key revocation list.
 
 ghost use Rattle.std.specs.Prelude.{◌≡◌, Err, false};
 ghost use Rattle.std.specs.List.{list_any};
@@ -17,7 +17,7 @@ use std::alloc::Global;
 use std::io::Write;
 use wire::FromWrite;
 
-// What came of publishing, as of a job.
+// The result of publishing, as that of a job.
 fn of_publishing(done: Result<(), PublishFault>) -> Result<(), JobFault>
     ensures { result ≡ publish_result done }
 {
@@ -35,7 +35,7 @@ pub fn list_over<S: Alter, W: Write>(alloc: Global, conn: Connection<S>, out: W)
         conn result.conn result.outcome }
     ensures honest { StaysClean S.Store conn result.conn }
 
-    // A database without the table of an office is refused, and stays.
+    // A database without an office's table is refused and left unchanged.
     ensures none { list_any is_office_table (tables_of S.Store conn) ≡ false
         → result ≡ record { outcome = Err (JobFault.Store StoreFault.NotAnOffice); conn = conn; out = out } }
 {

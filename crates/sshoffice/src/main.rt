@@ -1,14 +1,14 @@
-//! The program: words, and what each command does.
+//! The program: its arguments, and what each command does.
 //!
 //! What a command does is proved over any database, output, reader and listener, from the opening of a database to its
-//! closing. `run_in` does what is asked of a database. In between `do_on` does what is asked of the office in the
-//! database, from the connection as it is given to that which is handed back: it makes an office, applies exchanges,
-//! prints the list or a report, or moves tables. `closed` keeps a fault of the job or tells one of the closing, and
-//! `finish` then prints what is told. `serve_over` serves an office, and `check_list` asks a list about a certificate.
+//! closing. In between, `do_on` does a job for the office in the database, from the connection as it is given to the
+//! one that is returned: it makes an office, applies exchanges, prints the list or a report, or migrates tables.
+//! `closed` keeps a fault of the job or reports one of the closing, and `finish` then prints the job's message.
+//! `serve_over` serves an office, and `check_list` checks a list for a certificate.
 //!
-//! `do_words` reads the words, opens what they name, and closes it. Of a database's files is proved what an open finds
-//! in them, by what they held, and what a close leaves. Other files, the console and sockets are the system's, and
-//! nothing is proved of them.
+//! `do_words` reads the arguments, opens the files and the database that they name, and closes the database. For a
+//! database's files it is proved what an open finds in them, given what they held, and what a close leaves. Other
+//! files, the console and sockets are the system's, and nothing is proved about them.
 #![tactic(auto)]
 
 mod adding;

@@ -1,4 +1,4 @@
-//! An office of the schema before, moved to this one.
+//! Migrating an office from the previous schema.
 
 ghost use Rattle.std.specs.Prelude.{◌≡◌, Err, false, true};
 ghost use Rattle.std.specs.List.{list_any};
@@ -12,7 +12,7 @@ use sqlite::{Alter, Connection};
 use std::alloc::Global;
 use store::Store;
 
-/// Moves the tables of schema 1 in a database to schema 2.
+/// Migrates the tables of a database from schema 1 to schema 2.
 pub fn migrate_over<S: Alter>(
     alloc: Global,
     conn: Connection<S>,
@@ -22,7 +22,7 @@ pub fn migrate_over<S: Alter>(
     ensures migrates { On S.Store Migrates conn result.1 result.0 }
     ensures honest { StaysClean S.Store conn result.1 }
 
-    // A database without an office, and one that was moved, is refused and stays.
+    // A database without an office, or one that was migrated, is refused and left unchanged.
     ensures none { list_any is_office_table (tables_of S.Store conn) ≡ false
         → result ≡ record { 0 = Err (JobFault.Store StoreFault.NotAnOffice); 1 = conn } }
     ensures already { list_any is_office_table (tables_of S.Store conn) ≡ true

@@ -1,4 +1,4 @@
-//! The office of a database, opened.
+//! Opening the office in a database.
 
 ghost use Rattle.std.specs.Prelude.{◌≡◌, Err, IfErr, IfOk, false};
 ghost use Rattle.std.specs.List.{list_any};
@@ -11,7 +11,7 @@ use sqlite::{Alter, Connection};
 use std::alloc::Global;
 use store::Store;
 
-/// Opens the office that a database has. A fault gives the connection back.
+/// Opens the office in a database. A fault returns the connection.
 pub fn open_office<S: Alter>(
     alloc: Global,
     conn: Connection<S>,
@@ -23,7 +23,7 @@ pub fn open_office<S: Alter>(
     ensures honest { IfOk result (λ s. StaysClean S.Store conn s.conn) }
     ensures honest_back { IfErr result (λ e. StaysClean S.Store conn e.1) }
 
-    // A database without the table of an office is refused, and stays.
+    // A database without an office's table is refused and left unchanged.
     ensures none { list_any is_office_table (tables_of S.Store conn) ≡ false
         → result ≡ Err (record { 0 = StoreFault.NotAnOffice; 1 = conn }) }
 {

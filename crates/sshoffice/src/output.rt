@@ -1,4 +1,4 @@
-//! Bytes written to an output.
+//! Writing bytes to an output.
 
 ghost use Rattle.std.specs.Prelude.{◌≡◌, IfErr, OnOk};
 ghost use Rattle.std.specs.Io.KnownBytes.{Appends};

@@ -1,4 +1,4 @@
-//! Reports of an office, printed.
+//! Printing reports of an office.
 
 ghost use Rattle.std.specs.Prelude.{◌≡◌, ◌==◌, ◌<◌, ◌^◌, ℕ, List, length, None, Some, Err, false};
 ghost use Rattle.std.specs.Prelude.{option_copied, option_map};
@@ -22,7 +22,7 @@ use std::alloc::Global;
 use std::io::Write;
 use store::Store;
 
-/// A report, by the request for it.
+/// A report: the body of the response to a GET of its resource.
 #[derive(Clone, Copy)]
 pub enum Report {
     /// The allowed signers.
@@ -42,7 +42,7 @@ impl Report {
     }
 }
 
-// What follows these bytes.
+// The bytes after this prefix.
 fn after<'a>(text: &'a [u8], head: &[u8]) -> Option<&'a [u8]>
     ensures { option_copied result ≡ after head.now text.now }
 {
@@ -55,7 +55,7 @@ fn first_place(text: &[u8], byte: u8) -> Option<usize>
     text.iter().position(|b| *b == byte)
 }
 
-// What stands before the first such byte, and what stands behind it.
+// The bytes before the first occurrence of this byte, and the bytes after it.
 fn cut_at(text: &[u8], byte: u8) -> Option<(&[u8], &[u8])>
     ensures { option_map (λ p. (p.0.now, p.1.now)) result ≡ cut_of byte text.now }
 {
@@ -65,7 +65,7 @@ fn cut_at(text: &[u8], byte: u8) -> Option<(&[u8], &[u8])>
     Some((&text[..place], &text[place + 1..]))
 }
 
-// What stands behind it.
+// The bytes after the first occurrence of this byte.
 fn past(text: &[u8], byte: u8) -> Option<&[u8]>
     ensures { option_copied result ≡ option_map (λ p. p.1) (cut_of byte text.now) }
 {
@@ -75,7 +75,7 @@ fn past(text: &[u8], byte: u8) -> Option<&[u8]>
     }
 }
 
-// The body of a response of status 200 with a plain text.
+// The body of a plain-text response with status 200.
 fn body_of(response: &[u8]) -> Option<&[u8]>
     ensures { (body : List ℕ) → length body < 2 ^ 64 → response.now ≡ response_text 200 PlainText body
         → option_copied result ≡ Some body }
@@ -126,7 +126,7 @@ pub fn report_over<S: Alter, W: Write>(
         conn result.1 result.0 }
     ensures honest { StaysClean S.Store conn result.1 }
 
-    // A database without the table of an office is refused, and stays.
+    // A database without an office's table is refused and left unchanged.
     ensures none { list_any is_office_table (tables_of S.Store conn) ≡ false
         → result ≡ record { 0 = Err (JobFault.Store StoreFault.NotAnOffice); 1 = conn } }
 {

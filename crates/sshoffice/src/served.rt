@@ -1,4 +1,4 @@
-//! An office served.
+//! Serving an office.
 
 ghost use Rattle.std.specs.Prelude.{◌≡◌, ◌≤◌, ◌+◌, IfErr, IfOk, OnOk, false};
 ghost use Rattle.std.specs.List.{list_any};
@@ -24,8 +24,8 @@ use std::net::{Ipv4Addr, SocketAddrV4};
 use store::Store;
 use wire::{FromRead, Source};
 
-/// Serves so many connections of a listener over an open office, and gives its connection back with the status: 0, or 1
-/// where there was no memory to begin with.
+/// Serves `connections` connections of a listener over an open office, and returns its connection with the status: 0,
+/// or 1 if there was no memory to begin with.
 pub fn serve_over<R: AllocGlobal, S: Alter, L: Listener, N: Source, O: Write, E: Write>(
     rt: &R,
     store: Store<S>,
@@ -38,8 +38,8 @@ pub fn serve_over<R: AllocGlobal, S: Alter, L: Listener, N: Source, O: Write, E:
     requires { N.failed nonces.old + connections ≤ u64.MAX }
     ensures status { result.0 ≤ 1 }
 
-    // Each connection is given the response that is due to its request after the arrivals of those before it, or it is
-    // closed with a fault.
+    // Each connection gets the response that is specified for its request after the arrivals of the earlier ones, or it
+    // is closed with a fault.
     ensures met { result.0 ≡ 0 → MeetsOver connections (L.book listener.old) (L.book listener.new)
         (N.remaining nonces.old) (N.remaining nonces.new) (state S.Store store.conn) (state S.Store result.1) }
     ensures served { Between S.Store (λ old new. Extends connections (Tells old) (Tells new)) store.conn result.1 }
@@ -58,7 +58,7 @@ fn listen_on<W: World>(world: &mut W, port: u16) -> Result<(W::Incoming, u16), E
     world.listen(SocketAddrV4::new(Ipv4Addr::LOCALHOST, port))
 }
 
-// Prints the line of a port.
+// Prints the line with a port.
 fn print_line<O: Write>(out: &mut O, port: u16) -> io::Result<()>
     ensures { OnOk result (Appends (O.contents out.old) (O.contents out.new) (listening_line port)) }
 {
@@ -66,7 +66,7 @@ fn print_line<O: Write>(out: &mut O, port: u16) -> io::Result<()>
     out.flush()
 }
 
-// Prints the line of a port at which a server listens.
+// Prints the line with the port at which a server listens.
 fn print_port<O: Write>(out: &mut O, port: u16) -> Result<(), JobFault>
     ensures ok { OnOk result (Appends (O.contents out.old) (O.contents out.new) (listening_line port)) }
     ensures only { IfErr result (λ e. e ≡ JobFault.Write) }
@@ -131,7 +131,7 @@ pub fn serve_at_port<S: Alter, W: World<Conn = Connection<S>> + AllocGlobal, O: 
     ensures honest { StaysClean S.Store conn result.1 }
     ensures status { IfOk result.0 (λ status. status ≤ 1) }
 
-    // A database without the table of an office is refused, and stays.
+    // A database without an office's table is refused and left unchanged.
     ensures none { list_any is_office_table (tables_of S.Store conn) ≡ false
         → RefusesNone conn result.1 result.0 }
 {

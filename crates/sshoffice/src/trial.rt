@@ -1,7 +1,6 @@
-//! The trial office: an office in memory for exchanges that keep none, with one CA and one department.
+//! The in-memory office (trial office): an office for exchanges that needs no database, with one CA and one department.
 //!
-//! Its opening and the arrival that puts its department are constants, and what it tells is that opening and that
-//! arrival.
+//! Its initial configuration and the arrival that makes its department are constants, and it represents exactly these.
 
 ghost use Rattle.std.specs.Prelude.{◌≡◌, ◌++◌, [], ◌∷◌, IfOk};
 ghost use Rattle.sqlite.specs.Held.{state};
@@ -22,7 +21,7 @@ use values::LAST_SERIAL;
 
 const CA_KEY: [u8; 32] = [0x11; 32];
 
-// The arrival issues nothing.
+// The arrival issues no certificate.
 const NO_NONCE: [u8; 32] = [0; 32];
 
 const FIRST_SERIAL: u64 = 1;
@@ -39,7 +38,7 @@ const MESSAGE: &str = "department web\n\
 /// An office in memory.
 pub type MemoryOffice = Store<MemStore>;
 
-/// An opening with the trial office's CA and names, or `Damaged` where these are no serials.
+/// An initial configuration with the in-memory office's CA and names, or `Damaged` if the serials are invalid.
 pub fn opening_of(alloc: Global, first: u64, last: u64) -> Result<Opening, StoreFault>
     ensures lawful { IfOk result IsOpening }
     ensures ok { IfOk result (λ o. o ≡ opening_of first last) }
@@ -64,7 +63,7 @@ fn trial_arrival(alloc: Global) -> Result<Arrival, NoMemory>
     })
 }
 
-/// Puts the trial office's department.
+/// Makes the in-memory office's department.
 pub fn put_department<S: Alter>(store: &mut Store<S>, alloc: Global) -> Result<(), StoreFault>
     ensures { On S.Store TellsTrial store.old.conn store.new.conn result }
 {
@@ -75,7 +74,7 @@ pub fn put_department<S: Alter>(store: &mut Store<S>, alloc: Global) -> Result<(
     }
 }
 
-/// An office of this opening in memory, in which nothing has happened.
+/// An office in memory with this initial configuration, in which nothing has happened.
 pub fn office_in_memory(alloc: Global, opening: &Opening) -> Result<MemoryOffice, StoreFault>
     requires { IsOpening opening.now }
     ensures { IfOk result (λ s. Tells (state over_memory s.conn) opening.now []) }
@@ -89,7 +88,7 @@ pub fn office_in_memory(alloc: Global, opening: &Opening) -> Result<MemoryOffice
     }
 }
 
-/// The trial office: the opening, and then the department.
+/// The in-memory office: the initial configuration, and then the department.
 pub fn trial_office(alloc: Global) -> Result<MemoryOffice, StoreFault>
     ensures { IfOk result (λ s. Tells (state over_memory s.conn) (opening_of 1 LAST_SERIAL) (trial_arrival ∷ [])) }
 {

@@ -1,7 +1,7 @@
 //! Whole jobs in a world, from the opening of files and of a database to its closing.
 //!
-//! Files are opened first. A database is opened once, or not at all where a file can't be read or the database isn't
-//! there. What is left of its connection is closed.
+//! Files are opened first. A database is opened once, or not at all if a file can't be read or the database doesn't
+//! exist. The connection that remains is closed.
 
 ghost use Rattle.std.specs.Prelude.{◌≤◌, IfOk};
 ghost use Rattle.office.specs.Openings.{IsOpening};
@@ -24,7 +24,7 @@ use sqlite::{Alter, Connection};
 use std::alloc::Global;
 use std::io::{Read, Write};
 
-/// Does a job in the database at a path, closes it, and then prints what is told of the job. The output is given back.
+/// Does a job in the database at a path, closes it, and then prints the job's message. The output is returned.
 pub(crate) fn do_in<S: Alter, W: World<Conn = Connection<S>> + AllocGlobal, O: Write>(
     world: &mut W,
     db: &str,
@@ -49,7 +49,7 @@ pub(crate) fn do_in<S: Alter, W: World<Conn = Connection<S>> + AllocGlobal, O: W
     }
 }
 
-/// Applies the exchanges of a file to the office in the database at a path. The output is given back.
+/// Applies the exchanges of a file to the office in the database at a path. The output is returned.
 pub(crate) fn apply_in<S: Alter, W: World<Conn = Connection<S>> + AllocGlobal, O: Write>(
     world: &mut W,
     db: &str,
@@ -66,7 +66,7 @@ pub(crate) fn apply_in<S: Alter, W: World<Conn = Connection<S>> + AllocGlobal, O
     }
 }
 
-// What an office with the key of a file and with these callers and serials is to begin with.
+// The initial configuration of an office with the key of a file and with these callers and serials.
 fn opening_from<R: Read + Drop>(
     alloc: Global,
     ca: R,
@@ -81,7 +81,7 @@ fn opening_from<R: Read + Drop>(
     }
 }
 
-/// Makes an office in a new database, with the key of a file. The output is given back.
+/// Makes an office in a new database, with the key of a file. The output is returned.
 pub(crate) fn found_in<S: Alter, W: World<Conn = Connection<S>> + AllocGlobal, O: Write>(
     world: &mut W,
     db: &str,
@@ -99,13 +99,13 @@ pub(crate) fn found_in<S: Alter, W: World<Conn = Connection<S>> + AllocGlobal, O
     }
 }
 
-/// Serves the office in a database at a port of the loopback interface, and closes the database. Answers the status of
-/// the serving, which has told of its own faults.
+/// Serves the office in a database at a port of the loopback interface, and closes the database. Returns the status of
+/// the server, which has reported its own faults.
 ///
 /// # Errors
 ///
-/// Why nobody could be served: the database isn't there or can't be opened, it isn't that of an office, or nobody
-/// listens at the port. `NoMemory` or `Device` is also answered where all were served and the database couldn't be
+/// Why nobody could be served: the database doesn't exist or can't be opened, it isn't that of an office, or there
+/// is no listener at the port. `NoMemory` or `Device` is also returned if all were served and the database couldn't be
 /// closed well.
 pub(crate) fn serve_in<S: Alter, W: World<Conn = Connection<S>> + AllocGlobal, O: Write, E: Write>(
     world: &mut W,

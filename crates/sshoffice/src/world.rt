@@ -1,4 +1,4 @@
-//! What a job meets outside itself: files, databases, a listener, the trial of the program.
+//! The environment of a job: files, databases, a listener, and the program's test of itself.
 
 ghost use Rattle.std.specs.Prelude.{Bool, List, Result, ℕ, ⊤};
 ghost use Rattle.std.specs.declared.io.ErrorKind.{ErrorKind as Kind};
@@ -15,7 +15,7 @@ use sqlite::Error;
 use std::io::{ErrorKind, Read};
 use std::net::SocketAddrV4;
 
-/// What a job meets. All that a job opens, makes, closes and listens at, it asks of a world.
+/// The environment of a job. Everything that a job opens, makes, closes and listens at goes through it.
 pub trait World {
     /// A file that was opened.
     type File: Read + Drop;
@@ -26,7 +26,7 @@ pub trait World {
     /// A listener.
     type Incoming: Listener + Drop;
 
-    // What each call below may give, with the world before it and after it.
+    // The possible results of each call below, with the world before it and after it.
     ghost reads: { Self → List ℕ → Result Self.File Kind → Self → Type 0 } = { λ _ _ _ _. ⊤ };
 
     ghost finds: { Self → List ℕ → Result Bool Kind → Self → Type 0 } = { λ _ _ _ _. ⊤ };
@@ -39,8 +39,8 @@ pub trait World {
 
     ghost listens: { Self → Address → Result (Self.Incoming × ℕ) Kind → Self → Type 0 } = { λ _ _ _ _. ⊤ };
 
-    // What the files of the database that is opened hold; and, of a connection that was closed or given up, whether its
-    // disk had returned what was written, and what a crash may leave of its files.
+    // The contents of the files of the database that is opened; and, for a connection that was closed or given up,
+    // whether its disk had returned what was written, and what a crash may leave of its files.
     ghost image: { Image };
 
     ghost is_clean: { Self → Self.Conn → Type 0 };
@@ -49,7 +49,7 @@ pub trait World {
 
     ghost tests: { Self → Result (Unit {0}) TestFault → Self → Type 0 } = { λ _ _ _. ⊤ };
 
-    /// Opens the file at a path, to be read.
+    /// Opens the file at a path for reading.
     ///
     /// # Errors
     ///
@@ -57,11 +57,11 @@ pub trait World {
     fn open_file(&mut self, path: &str) -> Result<Self::File, ErrorKind>
         ensures { reads self.old path.now result self.new };
 
-    /// Says whether there is a database at a path, and makes nothing.
+    /// Returns whether there is a database at a path, and makes nothing.
     ///
     /// # Errors
     ///
-    /// The kind of the error, if nobody can say.
+    /// The kind of the error, if this can't be determined.
     fn has_database(&mut self, path: &str) -> Result<bool, ErrorKind>
         ensures { finds self.old path.now result self.new };
 
@@ -85,11 +85,11 @@ pub trait World {
     ///
     /// # Errors
     ///
-    /// Why it can't be closed well. It is closed all the same.
+    /// Why it can't be closed well. It is closed anyway.
     fn close_database(&mut self, conn: Self::Conn) -> Result<(), EndFault>
         ensures { closes self.old conn result self.new };
 
-    /// Listens at an address, and says at which port: at one that the system chooses, where the address has port 0.
+    /// Listens at an address, and returns the port: one that the system chooses, if the address has port 0.
     ///
     /// # Errors
     ///
@@ -101,7 +101,7 @@ pub trait World {
     ///
     /// # Errors
     ///
-    /// Why it wasn't served, or that its answer isn't the one that is due.
+    /// Why it wasn't served, or that its answer isn't the specified one.
     fn test_office(&mut self, office: &mut MemoryOffice) -> Result<(), SelftestFault>
         ensures { tests self.old result self.new };
 }

@@ -1,4 +1,4 @@
--- An arrival that is accepted now.
+-- A received request that is accepted now.
 use Rattle.std.proofs.Common.{◌≡◌, ℕ, ◌+◌, ◌<◌, ◌≤◌, List, [], ◌∷◌, ◌++◌, length, Result, Ok, Err, refl, sym, ap}
 use Rattle.std.proofs.Common.{subst, ◌∙◌, arith}
 use Rattle.std.specs.Prelude.{IsOkAnd, ◌^◌}
@@ -34,7 +34,7 @@ use Rattle.store.proofs.Settled.{goes_on, rows_with, shown_at}
 use Rattle.office.proofs.Judged.{step_gives}
 use Rattle.office.proofs.Sizes.{last_of}
 
--- ---- what is decided
+-- ---- the decision
 
 pub decided_accepted : (p : Past) (a : Arrival) (m : Message) (d : Decision) (v : View) → IsNew a m p
     → Decided (Ok d) (state_at p) a.caller m a.moment a.nonce → HasRoom d.change (state_at p) → Agrees v (state_at p) m
@@ -55,13 +55,13 @@ decided_accepted p a m d v is decided room agrees small =
       version = small;
     }
 
--- ---- what is written
+-- ---- the written rows
 
 pub ok_from_is_ok_and : {T E : Type 0} {Q : T → Type 0} (r : Result T E) → IsOkAnd r Q → (x : T) × (r ≡ Ok x) × Q x
 ok_from_is_ok_and (Ok x) h = (x, refl, h)
 ok_from_is_ok_and (Err y) h = absurd h
 
--- the outcome is due, and the office with the arrival shows what is written
+-- the outcome is the specified one, and the rows written are those of the office after the request
 pub accepted : (p : Past) (a : Arrival) (d : Decision) (cas : List Ca) → IsHistory p.0 p.1 → IsAccepted a d cas p
     → (outcome.Accepted d.reply ≡ due p.0 p.1 a)
     × Shows (written d (state_at p)) (kept_at p ++ kept_of a d.reply ∷ []) p.0 (p.1 ++ a ∷ [])
@@ -83,7 +83,7 @@ accepted p a d cas h is =
 small : LATEST_MOMENT < 2 ^ 63
 small = omega arith
 
--- its counters are numbers that a column holds
+-- its counters are numbers that a column can hold
 fits : (p : Past) (a : Arrival) (d : Decision) (cas : List Ca) → IsHistory p.0 p.1 → IsAccepted a d cas p → Fits d
 fits p a d cas h is =
     let l = p.1 ++ a ∷ [] in
@@ -111,7 +111,7 @@ is_due p a d cas db is = record {
   means = is.means;
 }
 
--- what is written is the office with the arrival
+-- the rows written are those of the office after the request
 pub settles_written : (a : Arrival) (d : Decision) (cas : List Ca) (old new : Connection) → length a.nonce ≡ 32
     → Makes {X = Unit {0}} {E = Fault} (IsDue d cas) (contents_after d a) old new (Ok tt)
     → Settles a (IsAccepted a d cas) old new (Ok (outcome.Accepted d.reply))
@@ -124,7 +124,7 @@ settles_written a d cas old new size makes = λ p after.
       subst (λ (c : Contents). Goes old new c) (rows_with a p x kept s.1) q.1,
     )
 
--- a crash in the midst of what is written commits nothing
+-- a crash during the writes commits nothing
 pub waits_written : (a : Arrival) (d : Decision) (cas : List Ca) (old new : Connection)
     → Survives old new (Waits (IsDue d cas) old) → Survives old new (Waits (IsAfter (IsAccepted a d cas)) old)
 waits_written a d cas old new one =

@@ -1,4 +1,4 @@
--- What an accepted message adds is new: no row has its number or its key, and the department of a certificate is there.
+-- An accepted message adds only new rows: no row has their number or key, and the department of a certificate exists.
 use Rattle.std.proofs.Common.{◌≡◌, ◌⊎◌, inl, inr, ℕ, suc, ◌+◌, ◌≤◌, List, [], ◌∷◌, length, map, Bool, true, false, Some}
 use Rattle.std.proofs.Common.{refl, sym, ap, ◌∙◌, arith, ◌-◌, ◌++◌, length-append, not, Option, None, subst}
 use Rattle.std.specs.List.{AllByRecursion, list_any}
@@ -46,7 +46,7 @@ use Rattle.store.proofs.Lawful.{of_either}
 
 -- ---- the request
 
--- its caller has not used its key
+-- its caller has not used its request ID before
 pub request_new : (a : Arrival) (kept : List Kept) → list_any (has_key a) kept ≡ false
     → HasOne (λ k. (k.caller ≡ a.caller) × (k.key ≡ a.key)) (map request_row kept) → ⊥
 request_new a [] none (k, here, same) = here
@@ -70,7 +70,7 @@ serial_new first next (x ∷ cs) up is (d, inl row, same) =
 serial_new first next (x ∷ cs) up is (d, inr here, same) =
     serial_new (suc first) next cs up.1 (omega (arith, is)) (d, here, same)
 
--- a department that is found has a row
+-- a department that was found has a row
 named_row : (name : List ℕ) (es : List (List ℕ × Department)) (d : Department)
     → AllByRecursion IsEntry es → find (slice_cmp nat_cmp) name es ≡ Some d
     → HasOne (λ r. r.name ≡ name) (map (λ e. department_row e.1) es)
@@ -112,7 +112,7 @@ no_longer xs ys a same e = omega (arith, same, ap length e, length-append xs (a 
 
 -- ---- the message
 
--- the message, which is new, which no refusal holds, and what it makes
+-- the message, its new request ID, the fact that no refusal applies, and its effect
 pub record IsStep (a : Arrival) (d : Decision) (p : Past) : Type 0 where
   pub message : Message
   pub text : message_with_text a.bytes ≡ Some message
@@ -133,13 +133,13 @@ step_of p a d serving is =
       made = found.2.2 ∙ ap (λ (x : Arrival). after (state_at p) f.message x.moment x.nonce) found.2.0;
     }
 
--- a department that passes a test which none doesn't
+-- a department exists if it passes a test that `None` fails
 is_there : (test : Option Department → Bool) → test None ≡ true → (o : Option Department) → test o ≡ false
     → (d : Department) × (o ≡ Some d)
 is_there test none (Some d) e = (d, refl)
 is_there test none None e = absurd (let wrong : true ≡ false = sym none ∙ e in cc)
 
--- a certificate that is made has the next serial, and its department is there
+-- a new certificate has the next serial, and its department exists
 module _ (s : State) (lawful : IsLawful s) (caller : List ℕ) (moment : ℕ) (nonce : List ℕ) (cert : Certificate) where
   abbrev HasOwn : Type 0
   HasOwn = HasOne (λ r. r.name ≡ cert.department) (map (λ e. department_row e.1) s.departments)
@@ -184,7 +184,7 @@ module _ (s : State) (lawful : IsLawful s) (caller : List ℕ) (moment : ℕ) (n
 
 -- ---- a CA
 
--- a CA that is made is none of those that are there
+-- a new CA is none of the existing ones
 module _ (s : State) (caller : List ℕ) (moment : ℕ) (nonce : List ℕ) (ca : Ca) where
   abbrev IsNewCa : Type 0
   IsNewCa = (is_ca s.cas ca.key ≡ false) × (length ca.key ≡ 32)

@@ -1,4 +1,4 @@
--- What a reading call of the register answers of tables that tell a history.
+-- The answer of a register's reading call, if the tables represent a history.
 use Rattle.std.proofs.Common.{◌≡◌, inl, inr, Bool, true, false, List, Ok, Err, Result, IsTrue, refl, subst, sym}
 use Rattle.std.proofs.Common.{arith}
 use Rattle.std.specs.Prelude.{IfOk, IfErr, OnOk}
@@ -20,7 +20,7 @@ use Rattle.store.specs.Showing.{Reading, ShowsOffice}
 use Rattle.store.proofs.Reading.{At}
 use Rattle.store.proofs.Telling.{disk_failed, tells_still}
 
--- what is promised of a call that shows this
+-- the contract of a call that shows this
 pub record Answered {X : Type 0} (Shown : State → List Kept → X → Type 0) (old new : Connection)
     (q : Result X StoreFault) : Type 0 where
   pub honest : HasCleanDisk new → HasCleanDisk old
@@ -33,7 +33,7 @@ pub record Answered {X : Type 0} (Shown : State → List Kept → X → Type 0) 
   pub only : HasCleanDisk new → IfErr q (λ e. (o : Opening) (l : List Arrival) → Tells old o l → IsOfARegister e)
 
 module _ {X : Type 0} (Shown : State → List Kept → X → Type 0) (old new : Connection) where
-  -- no fault but want of memory and a failure
+  -- lack of memory and a failure of the database are the only faults
   of_a_register : (f : Fault) → OnlyReads {X = X} old new (Err f) → ShowsOffice Shown old new (Err f)
       → (o : Opening) (l : List Arrival) → Tells old o l → IsOfARegister (fault_of f)
   of_a_register NoMemory was shows o l tells = tt

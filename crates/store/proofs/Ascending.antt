@@ -1,4 +1,4 @@
--- Lists that ascend, with one more in its place.
+-- Ascending lists, with one more element inserted in order.
 use Rattle.std.proofs.Common.{◌≡◌, ℕ, List, [], ◌∷◌, Less, Equal, Greater, Ordering, true, refl, sym, ap, subst, ◌∙◌}
 use Rattle.std.specs.List.{AllByRecursion}
 use Rattle.std.specs.Ordering.{is_eq, nat_cmp, ordering_reverse}
@@ -25,9 +25,9 @@ tied xs ys e =
 turned : (xs ys : List ℕ) → cmp xs ys ≡ Greater → cmp ys xs ≡ Less
 turned xs ys e = nat_list_cmp_total.antisymm ys xs ∙ ap ordering_reverse e
 
--- ---- one more in its place
+-- ---- one more element in its place
 
--- whatever its place is, what holds of all holds of all
+-- a property of all elements still holds of all, whatever the place of the new one
 all_step : {A : Type 0} (P : A → Type 0) (o : Ordering) (new e same : A) (es rest : List A) → P new
     → (o ≡ Equal → P same) → AllByRecursion P (e ∷ es) → AllByRecursion P rest
     → AllByRecursion P (by_order o (new ∷ e ∷ es) (same ∷ es) (e ∷ rest))
@@ -35,7 +35,7 @@ all_step P Less new e same es rest is tie all later = (is, all)
 all_step P Equal new e same es rest is tie all later = (tie refl, all.1)
 all_step P Greater new e same es rest is tie all later = (all.0, later)
 
--- and what ascends ascends
+-- and an ascending list still ascends
 up_step : {A : Type 0} (R : A → A → Type 0) (o : Ordering) (new e same : A) (es rest : List A)
     → (o ≡ Less → AllByRecursion (R new) (e ∷ es)) → (o ≡ Equal → AllByRecursion (R same) es)
     → (o ≡ Greater → AllByRecursion (R e) rest) → IsAscending R (e ∷ es) → IsAscending R rest
@@ -44,7 +44,7 @@ up_step R Less new e same es rest less tie more up later = (less refl, up)
 up_step R Equal new e same es rest less tie more up later = (tie refl, up.1)
 up_step R Greater new e same es rest less tie more up later = (more refl, later)
 
--- what comes before a text comes before all that come after it
+-- a text that comes before another comes before all that follow the other
 before_all : {A : Type 0} (key : A → List ℕ) (xs ys : List ℕ) (es : List A) → cmp xs ys ≡ Less
     → AllByRecursion (λ e. cmp ys (key e) ≡ Less) es → AllByRecursion (λ e. cmp xs (key e) ≡ Less) es
 before_all key xs ys es lt all =
@@ -53,11 +53,11 @@ before_all key xs ys es lt all =
 
 -- ---- departments by name
 
--- a lawful department under its name
+-- a valid department under its name
 abbrev pub IsEntry : List ℕ × Department → Type 0
 IsEntry e = (is_department e.1 ≡ true) × (e.0 ≡ e.1.name)
 
--- the one's name comes before the other's
+-- the first name comes before the second
 abbrev pub AreInOrder : List ℕ × Department → List ℕ × Department → Type 0
 AreInOrder a b = cmp a.1.name b.1.name ≡ Less
 
@@ -84,7 +84,7 @@ names_put d (e ∷ es) named up =
     (λ is. subst (λ n. AllByRecursion (λ e. cmp n e.1.name ≡ Less) es) (sym (tied d.name e.0 is ∙ named.0.1)) up.0)
     (λ is. under_put e.1.name d es (rw named.0.1 at (turned d.name e.0 is)) up.0) up (names_put d es named.1 up.1)
 
--- ---- key ids
+-- ---- key IDs
 
 follow_put : (n t : List ℕ) (ts : List (List ℕ)) → cmp n t ≡ Less → AllByRecursion (λ u. cmp n u ≡ Less) ts
     → AllByRecursion (λ u. cmp n u ≡ Less) (put_text t ts)

@@ -1,4 +1,4 @@
--- The certificates between two serials are a batch.
+-- The certificates between the two serials of a batch are that batch.
 use Rattle.std.proofs.Common.{◌≡◌, ℕ, zero, suc, ◌+◌, ◌-◌, ◌<◌, ◌≤◌, List, [], ◌∷◌, length, filter, take, drop, true}
 use Rattle.std.proofs.Common.{false, leb, refl, sym, ap, ◌∙◌, arith, inl, inr}
 use Rattle.std.specs.Prelude.{◌&&◌}
@@ -18,7 +18,7 @@ use Rattle.store.specs.Meaning.{IsHistory}
 use Rattle.store.proofs.Lawful.{lawful_after}
 use Rattle.store.proofs.OfHistory.{of_history}
 
--- none has a serial up to one below the first
+-- no certificate has a serial in a range that ends below the first
 none_below : (first lo hi : ℕ) (cs : List Certificate) → hi < first → AreCounted first cs
     → filter (lies_within lo hi) cs ≡ []
 none_below first lo hi [] below counted = refl
@@ -31,7 +31,7 @@ none_below first lo hi (c ∷ cs) below counted =
     by_last true e = e
     by_last false e = refl
 
--- those up to a serial are the first
+-- the certificates up to a serial are the first ones
 first_ones : (first lo hi : ℕ) (cs : List Certificate) → lo ≤ first → AreCounted first cs
     → filter (lies_within lo hi) cs ≡ take (suc hi - first) cs
 first_ones first lo hi [] low counted = sym (take_all (suc hi - first) [] (omega arith))
@@ -47,7 +47,7 @@ first_ones first lo hi (c ∷ cs) low counted = elim (cases_lt hi first) [
       (first_ones (suc first) lo hi cs (omega (arith, low)) counted.1))
 ]
 
--- those from the serial at a place on, up to a serial
+-- the certificates from a place on, up to a serial
 from_place : (first place hi : ℕ) (cs : List Certificate) → AreCounted first cs
     → filter (lies_within (first + place) hi) cs ≡ take (suc hi - (first + place)) (drop place cs)
 from_place first zero hi cs counted =
@@ -60,7 +60,7 @@ from_place first (suc place) hi (c ∷ cs) counted =
     rw before (ap (λ (n : ℕ). filter (lies_within n hi) cs) later ∙ from_place (suc first) place hi cs counted.1
     ∙ ap (λ (n : ℕ). take (suc hi - n) (drop place cs)) (sym later))
 
--- a thousand from a place on
+-- a thousand certificates from a place on
 batch_at : (first place : ℕ) (cs : List Certificate) → AreCounted first cs → first + length cs ≤ 9223372036854775807
     → filter (lies_within (numbered first place) (numbered first (place + 999))) cs ≡ take 1000 (drop place cs)
 batch_at first place cs counted few = elim (cases_lt (first + place) 9223372036854775807) [
@@ -86,7 +86,7 @@ batch_at first place cs counted few = elim (cases_lt (first + place) 92233720368
       ∙ ap (take 1000) (sym gone))
 ]
 
--- so it is in an office after a history
+-- the same for an office after a history
 pub batch_is : (o : Opening) (l : List Arrival) → IsHistory o l → (place : ℕ)
     → (let first = (state o l).opening.first in
     filter (lies_within (numbered first place) (numbered first (place + 999))) (state o l).certificates)

@@ -1,4 +1,4 @@
--- What leaves a database as it was, whatever its tables mean.
+-- Calls that leave a database as it was, whatever its tables represent.
 use Rattle.std.proofs.Common.{◌≡◌, inl, inr, IsTrue, refl, sym, ◌∙◌}
 use Rattle.std.specs.Prelude.{Result, Ok, Err, OnErr}
 use Rattle.sqlite.specs.State.{State}
@@ -31,7 +31,7 @@ ended a b c d opened begun was keeps end = record {
       let mid = end.was_open still in end.now still ∙ (keeps mid ∙ (begun (was mid) ∙ sym rests.1));
 }
 
--- a transaction that is begun and ends with a fault, if its part ends none
+-- a transaction that is begun and ends with a fault, if its part doesn't end it
 pub concludes_before : {X E : Type 0} (a b c d : State) (r q : Result X E)
     → Begins {X = Unit {0}} {E = Fault} a b (Ok tt)
     → Stays b c r → Concludes r c d q → OnErr q (IsAsBefore a d)

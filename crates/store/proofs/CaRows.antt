@@ -1,4 +1,4 @@
--- The rows of CAs ascend by number, and are read again.
+-- The rows of CAs ascend by number, and reading them gives the CAs back.
 use Rattle.std.proofs.Common.{◌≡◌, ℕ, suc, ◌<◌, List, [], ◌∷◌, length, Some, refl, sym, arith, Less, nat_cmp}
 use Rattle.std.specs.List.{AllByRecursion}
 use Rattle.std.specs.Cmp.{nat_cmp_is}

@@ -1,4 +1,4 @@
--- The row of a certificate is that of no other, and it is read again.
+-- The row of a certificate is that of no other, and reading it gives the certificate back.
 use Rattle.std.proofs.Common.{◌≡◌, ℕ, suc, ◌<◌, true, List, [], ◌∷◌, length, map, filter, arith}
 use Rattle.std.proofs.Common.{Less, nat_cmp, refl, sym, ap, subst, ◌∙◌, eqb, eq-eqb, inl, inr, Option, Some, None}
 use Rattle.std.specs.Prelude.{IfOk, IfSome, Result, Ok, Err}
@@ -55,7 +55,7 @@ row_is : (row : CertRow) (serial : ℕ) (key_id : List ℕ) (signature : Option 
     → row ≡ record row { serial = serial; key_id = key_id; signature = signature }
 row_is row serial key_id signature s k g = rw (sym s, sym k, sym g) refl
 
--- what is made of a row has this row
+-- the certificate built from a row has this row
 with_row : (row : CertRow) (fields : CertFields) (signature : Option Signature) → IsCertFields fields
     → row.body ≡ body_text fields → fits row fields ≡ true → signature_in row.signature ≡ Some signature
     → IsCertificate (certificate_with row fields signature) × (row ≡ cert_row (certificate_with row fields signature))
@@ -102,7 +102,7 @@ pub certs_again : (cs : List Certificate) → AllByRecursion (λ c. IsCertificat
 certs_again [] all = refl
 certs_again (c ∷ cs) all = rw (certificate_again c all.0.0 all.0.1, certs_again cs all.1) refl
 
--- ---- those between two serials
+-- ---- the certificates between two serials
 
 -- they ascend
 pub within_rise : (n lo hi : ℕ) (cs : List Certificate) → AreCounted n cs
@@ -111,7 +111,7 @@ within_rise n lo hi cs counted =
     ascending-filter (λ a b. nat_cmp a.serial b.serial ≡ Less) (rows_within lo hi) (map cert_row cs)
     (certs_rise n cs counted)
 
--- and they are read again
+-- and reading them gives the certificates back
 pub within_again : (lo hi : ℕ) (cs : List Certificate) → AllByRecursion (λ c. IsCertificate c × IsSigned c) cs
     → each certificate_in (filter (rows_within lo hi) (map cert_row cs)) ≡ Some (filter (lies_within lo hi) cs)
 within_again lo hi cs all =

@@ -1,4 +1,4 @@
--- The contents of schema 1 become those of schema 2.
+-- Migration from the contents of schema 1 to those of schema 2.
 use Rattle.std.proofs.Common.{◌≡◌, Bool, true, false, List, [], ◌∷◌, map, Ok, Err, refl, sym, ap, ◌∙◌, arith}
 use Rattle.std.specs.Prelude.{◌==◌, if◌then◌else◌, IsPermutation, All}
 use Rattle.std.proofs.lemmas.List.Sorted.{length_permutation, All-permutation}
@@ -12,7 +12,7 @@ use Rattle.store_sql.specs.Contents.{Contents, MeansWithoutCa}
 use Rattle.store_sql.specs.Changes.{with_ca, with_schema}
 use Rattle.store.specs.Former.{ca_of, first_ca, migrated}
 
--- where there is no table of CAs there is no CA
+-- without a table of CAs there is no CA
 none_of : (cas : List CaRow) → IsPermutation (map ca_cells cas) [] → cas ≡ []
 none_of [] p = refl
 none_of (ca ∷ cas) p = absurd (let many = length_permutation (map ca_cells (ca ∷ cas)) [] p in omega arith)
@@ -20,7 +20,7 @@ none_of (ca ∷ cas) p = absurd (let many = length_permutation (map ca_cells (ca
 pub no_cas : (db : Database) (c : Contents) → MeansWithoutCa db c → c.cas ≡ []
 no_cas db c means = none_of c.cas means.holds.cas.same
 
--- the order of the rows is nothing
+-- the order of the rows doesn't matter
 pub ca_same : (xs ys : List OfficeRow) → IsPermutation xs ys → ca_of xs ≡ ca_of ys
 ca_same [] [] p = refl
 ca_same [] (y ∷ ys) p = absurd (let many = length_permutation [] (y ∷ ys) p in omega arith)
@@ -45,7 +45,7 @@ only_ca [] ca e = absurd cc
 only_ca (o ∷ []) ca e = ap (λ (x : CaRow). x ∷ []) (one_of o (o.schema == 1) (o.id == 1) ca e)
 only_ca (o ∷ p ∷ offices) ca e = absurd cc
 
--- the rows that are put in make the contents of schema 2
+-- inserting the rows gives the contents of schema 2
 pub put_in : (c : Contents) (ca : CaRow) → ca_of c.offices ≡ Ok ca → c.cas ≡ []
     → with_schema 2 (with_ca ca c) ≡ migrated c
 put_in c ca is none = ap (λ (cas : List CaRow). with_schema 2 (record c { cas = cas }))

@@ -1,4 +1,4 @@
--- The row of a department is that of no other, and it is read again.
+-- The row of a department is that of no other, and reading it gives the department back.
 use Rattle.std.proofs.Common.{◌≡◌, ℕ, Bool, true, false, inl, inr, List, [], ◌∷◌, ◌++◌, eqb, refl, sym, ap, ap₂, subst}
 use Rattle.std.proofs.Common.{◌∙◌, Option, Some, None, append-nil, append_assoc, map, ◌+◌, ◌<◌, ◌≤◌, length, drop, get_or}
 use Rattle.std.specs.Prelude.{Result, Ok, Err, IfOk, IsTrue}
@@ -28,7 +28,7 @@ use Rattle.cert.proofs.BodyParts.{kind_again, kind_found}
 
 -- ---- texts joined by commas
 
--- texts, each behind a comma
+-- texts, each after a comma
 abbrev pub following : List (List ℕ) → List ℕ
 following [] = []
 following (t ∷ ts) = 44 ∷ (t ++ following ts)
@@ -37,7 +37,7 @@ pub joined_first : (t : List ℕ) (ts : List (List ℕ)) → t ++ following ts �
 joined_first t [] = append-nil t
 joined_first t (u ∷ ts) = ap (λ (x : List ℕ). t ++ 44 ∷ x) (joined_first u ts)
 
--- one text more stands behind a comma
+-- one more text follows, after a comma
 pub following_more : (texts : List (List ℕ)) (k : ℕ) (text bytes comma more : List ℕ) → k < length texts
     → text ≡ get_or texts k text → comma ≡ bytes ++ 44 ∷ [] → more ≡ comma ++ text
     → more ++ following (drop (k + 1) texts) ≡ bytes ++ following (drop k texts)
@@ -129,7 +129,7 @@ row_found row d e = go (kind_of row.kind) refl e
         let lawful = lawful_found (parts_of row k) d h in
         (lawful.0, sym (ap department_row (sym lawful.1) ∙ row_of_parts row k (sym (kind_found row.kind k is))))
 
--- ---- what is read of a row
+-- ---- the values of a row
 
 pub reads_found : (row : DepartmentRow) (r : Result Department Fault) → IsRead (department_in row) r
     → IfOk r (λ d. IsTrue (is_department d) × (row ≡ department_row d))

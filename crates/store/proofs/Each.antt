@@ -1,4 +1,4 @@
--- The values of rows, one after the other.
+-- The values of rows, read one after the other.
 use Rattle.std.proofs.Common.{◌≡◌, ℕ, ◌+◌, ◌<◌, ◌≤◌, List, [], ◌∷◌, ◌++◌, length, drop, get_or, Option, Some, None}
 use Rattle.std.proofs.Common.{append-nil, append_assoc, refl, sym, ap, ◌∙◌}
 use Rattle.std.specs.Prelude.{Err}
@@ -9,7 +9,7 @@ use Rattle.store_sql.specs.declared.table_fault.Fault.TheVariants.{Damaged, Devi
 use Rattle.store.specs.Reading.{IsRead, each}
 
 module _ {R X : Type 0} (value : R → Option X) (rows : List R) where
-  -- these are the values of the first rows, and behind them are those of the others
+  -- these are the values of the first rows; those of the other rows follow
   abbrev pub AreFirst : ℕ → List X → Type 0
   AreFirst k first = each value rows ≡ option_map (λ xs. first ++ xs) (each value (drop k rows))
 
@@ -40,7 +40,7 @@ module _ {R X : Type 0} (value : R → Option X) (rows : List R) where
       so_far ∙ ap (λ rs. option_map (λ xs. first ++ xs) (each value rs)) (drop_all k rows past)
       ∙ ap Some (append-nil first)
 
-  -- a row without a value leaves none of all
+  -- a fault of reading one row is a fault of reading all of them
   pub first_fault : (k : ℕ) (first : List X) (row : R) (f : Fault) → k < length rows → row ≡ get_or rows k row
       → IsRead (value row) (Err f) → AreFirst k first → IsRead (each value rows) (Err f)
   first_fault k first row NoMemory within is read so_far = tt

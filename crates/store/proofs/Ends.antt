@@ -1,4 +1,4 @@
--- The interval with the runs that touch or overlap it, by the last run that begins before each of its ends.
+-- An interval merged with the runs that touch or overlap it, found from the last runs that begin before its ends.
 use Rattle.std.proofs.Common.{◌≡◌, ℕ, ◌+◌, ◌-◌, ◌<◌, ◌≤◌, List, [], ◌∷◌, Bool, true, false}
 use Rattle.std.proofs.Common.{◌&&◌, Option, Some, None, sym, ap, ◌∙◌, arith, inl, inr}
 use Rattle.std.specs.Prelude.{min, max, nat_le, filter}
@@ -11,16 +11,16 @@ use Rattle.store_sql.proofs.LastRun.{Has, IsLast, all_from, all_has, has_filtere
 use Rattle.store.proofs.RunsApart.{AreApart}
 use Rattle.store.specs.Ranges.{joined_high, joined_low}
 
--- from the least end of an interval and of runs up to the greatest
+-- from the least start of an interval and of runs up to the greatest end
 abbrev pub spanning : ℕ → ℕ → List RunRow → RunRow
 spanning lo hi [] = record { lo = lo; hi = hi }
 spanning lo hi (r ∷ rs) = spanning (min lo r.lo) (max hi r.hi) rs
 
--- the run ends at the serial below the interval or later, and begins at the one above it or earlier
+-- the run overlaps or touches the interval
 abbrev pub touches : ℕ → ℕ → RunRow → Bool
 touches lo hi q = nat_le (lo - 1) q.hi && nat_le q.lo (hi + 1)
 
--- ---- the least begin and the greatest end
+-- ---- the least start and the greatest end
 
 least_low : (lo hi : ℕ) (rs : List RunRow)
     → ((spanning lo hi rs).lo ≤ lo) × AllByRecursion (λ r. (spanning lo hi rs).lo ≤ r.lo) rs
@@ -148,7 +148,7 @@ module _ (lo hi : ℕ) (rows : List RunRow) (apart : AreApart rows) (order : lo 
       ] in
       omega (arith, under, over)
 
-  -- a run that begins within the whole touches or overlaps the interval
+  -- a run that begins within the merged run touches or overlaps the interval
   low_end : (o : Option RunRow) → IsLast lo rows o → (q : RunRow) → Has rows q → joined_low lo o ≤ q.lo → lo ≤ q.hi + 1
   low_end None last q here le = omega (arith, (apart q q here here).0, le)
   low_end (Some x) last q here le = elim (cases_Bool (nat_le lo (x.hi + 1))) [
@@ -176,7 +176,7 @@ module _ (lo hi : ℕ) (rows : List RunRow) (apart : AreApart rows) (order : lo 
       → whole ≡ record { lo = joined_low lo o; hi = joined_high hi p }
   whole_is o p low high = λ i. record { lo = low_is o low i; hi = high_is p high i }
 
-  -- those that touch or overlap the interval are those that begin within the whole
+  -- the runs that touch or overlap the interval are exactly those that begin within the merged run
   pub begin_within : (o p : Option RunRow) → IsLast lo rows o → IsLast (hi + 1) rows p → (q : RunRow) → Has rows q
       → touches lo hi q ≡ begins (record { lo = joined_low lo o; hi = joined_high hi p }) q
   begin_within o p low high q here =

@@ -1,4 +1,4 @@
--- A stop of a part is one of the whole.
+-- A part that was stopped stops the whole transaction.
 use Rattle.std.proofs.Common.{inl, inr, ◌≤◌}
 use Rattle.sqlite.specs.Tree.{Trees}
 use Rattle.sqlite.specs.State.{State, HasCleanDisk, Survives}

@@ -1,4 +1,4 @@
--- What a search for those that pass a test finds.
+-- The result of a search for rows that pass a test.
 use Rattle.std.proofs.Common.{◌≡◌, List, [], ◌∷◌, filter, Bool, false, Option, Some, None, sym, ◌∙◌, arith}
 use Rattle.std.specs.Prelude.{is_some}
 use Rattle.std.specs.List.{list_any}
@@ -11,7 +11,7 @@ module _ {X : Type 0} (test : X → Bool) (xs : List X) where
   pub none_passes : list_any test xs ≡ false → filter test xs ≡ []
   none_passes none = filter_none test xs (none_from_any test xs none)
 
-  -- one is found where one passes
+  -- a row is found if and only if one passes
   pub any_found : (found : Option X) → IsOneOf (filter test xs) found → is_some found ≡ list_any test xs
   any_found None is = sym (not-true (list_any test xs) (sym (rw is at (none_counted test xs))))
   any_found (Some x) is =

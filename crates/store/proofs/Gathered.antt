@@ -1,4 +1,4 @@
--- What is found of what a message concerns.
+-- Values found for the subject of a message.
 use Rattle.std.proofs.Common.{◌≡◌, ℕ, List, Bool, Option, Some, None, refl, sym, ap, ◌∙◌, IsTrue, true, false}
 use Rattle.std.specs.Prelude.{◌↔◌}
 use Rattle.std.specs.Option.{option_and_then}
@@ -20,7 +20,7 @@ pub certificate_found : (s : State) (m : Message) (n : ℕ) (found : Option Cert
     → found ≡ certificate_of s n → found ≡ certificate_concerned s m
 certificate_found s m n found is found_is = found_is ∙ sym (ap (option_and_then (certificate_of s)) is)
 
--- where no certificate is concerned, the department is that of the name, if there is one
+-- if the message concerns no certificate, the department is the one that it names, if there is one
 pub department_found : (s : State) (m : Message) (name : Option (List ℕ)) → certificate_concerned s m ≡ None
     → named_department m ≡ name → option_and_then (department_named s) name ≡ department_concerned s m
 department_found s m name none is =
@@ -35,7 +35,7 @@ pub all_say : (flag : Bool) (s : State) (m : Message) (r : SerialRange) → is_m
 all_say flag s m r lawful none is says =
     range_says flag s m r none is (range_flag flag s r (range_order m r lawful is) says)
 
--- where neither a serial nor a range is named, and where the message asks for no key id
+-- for a message that names neither a serial nor a range, the flag is false
 pub none_says : (s : State) (m : Message) → named_serial m ≡ None → named_range m ≡ None → SaysRevoked false s m
 none_says s (message.Renew r) serial range = absurd cc
 none_says s (message.Deliver d) serial range = absurd cc

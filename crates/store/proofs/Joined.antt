@@ -1,4 +1,4 @@
--- The rows of runs once a range is put among them.
+-- The rows of runs (maximal ranges of revoked serials) after a range is added.
 use Rattle.std.proofs.Common.{◌≡◌, ℕ, ◌+◌, ◌<◌, ◌≤◌, ◌^◌, List, [], ◌∷◌, ◌++◌, length, length-append, map, Bool}
 use Rattle.std.proofs.Common.{true, false, ◌&&◌, ◌||◌, refl, sym, ap, ap₂, subst, ◌∙◌, arith, IsPermutation}
 use Rattle.std.specs.Prelude.{not, min, max, filter}
@@ -36,7 +36,7 @@ within_counted : (n lo hi first count : ℕ) → first ≤ lo → hi < first + c
     → is_within n (record { lo = lo; hi = hi }) ≡ true → is_counted first count n ≡ true
 within_counted n lo hi first count p q e = grind (arith, nat_tests)
 
--- the runs of the revoked serials, the range among them
+-- the runs of the revoked serials, including the range
 pub runs_after : (s : State) (r : SerialRange) → r.lo ≤ r.hi → s.opening.first ≤ r.lo → r.hi < next_serial s
     → next_serial s ≤ 2 ^ 64 → joined r.lo r.hi (revoked_runs s) ≡ revoked_runs (with_range s r)
 runs_after s r le low high fits =
@@ -66,7 +66,7 @@ whole_run s r = record {
   hi = joined_high r.hi (last_at (r.hi + 1) (map run_row (revoked_runs s)));
 }
 
--- the range and the runs that touch or overlap it as one, and the other runs, are the runs of the state with the range
+-- the range merged with the runs that touch or overlap it, and the other runs, are the runs of the state with the range
 rows_spanned : (s : State) (r : SerialRange) → is_range r ≡ true → s.opening.first ≤ r.lo → r.hi < next_serial s
     → next_serial s ≤ 2 ^ 64
     → IsPermutation (spanning r.lo r.hi (filter (touches r.lo r.hi) (map run_row (revoked_runs s)))
@@ -84,7 +84,7 @@ rows_spanned s r is low high fits =
     (joined r.lo r.hi rs)
     (spanned r.lo r.hi 0 rs order.0 order.1 (runs_in_runs s.revoked s.opening.first (length s.certificates) fits)))
 
--- so they are where the ends of the one are had from the last runs that begin before its ends
+-- the same, if the ends of the merged run come from the last runs that begin before the range's ends
 pub rows_joined : (s : State) (r : SerialRange) → is_range r ≡ true → s.opening.first ≤ r.lo → r.hi < next_serial s
     → next_serial s ≤ 2 ^ 64
     → IsPermutation (whole_run s r ∷ filter (λ q. not (begins (whole_run s r) q)) (map run_row (revoked_runs s)))
@@ -105,7 +105,7 @@ rows_joined s r is low high fits =
     subst (λ (l : List RunRow). IsPermutation l (map run_row (revoked_runs (with_range s r))))
     (ap₂ (λ (x : RunRow) (xs : List RunRow). x ∷ xs) whole others) (rows_spanned s r is low high fits)
 
--- ---- a certificate more
+-- ---- one more certificate
 
 counted_more : (first count n : ℕ) (revoked : Bool) → (revoked ≡ true → n < first + count)
     → (is_counted first count n && revoked) ≡ (is_counted first (count + 1) n && revoked)
@@ -116,7 +116,7 @@ counted_more first count n true h =
 counted_more first count n false h =
     and-false (is_counted first count n) ∙ sym (and-false (is_counted first (count + 1) n))
 
--- where only serials that were handed out are revoked the next one makes no run
+-- if only issued serials are revoked, issuing the next one changes no run
 pub runs_still : (s : State) (c : Certificate) → ((n : ℕ) → s.revoked n ≡ true → n < next_serial s)
     → next_serial (with_certificate s c) ≤ 2 ^ 64 → revoked_runs s ≡ revoked_runs (with_certificate s c)
 runs_still s c issued fits =

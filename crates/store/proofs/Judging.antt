@@ -1,4 +1,4 @@
--- What is answered, and why.
+-- Answers of a migration, and the causes of its faults.
 use Rattle.std.proofs.Common.{◌≡◌, inl, inr, Bool, true, false, List, [], ◌∷◌, Ok}
 use Rattle.std.proofs.Common.{Err, Result, IfErr, refl, sym, subst, ◌∙◌, arith}
 use Rattle.std.specs.Prelude.{◌==◌, ◌≤◌, if◌then◌else◌, IsOk, IsPermutation}
@@ -41,7 +41,7 @@ judged_fault old new c table.NoMemory h = tt
 judged_fault old new c table.Device h = inl h
 judged_fault old new c table.Damaged h = absurd h
 
--- CA 1 was put, or was not
+-- CA 1 was inserted, or was not
 judged_put : (old new : State) (c : Contents) (ca : CaRow) (r : Result (Unit {0}) Fault) → ca_of c.offices ≡ Ok ca
     → Means old.now c → IfErr r (λ f. (d : Contents) → Means old.now d → HasCauseOr (IsRefused ca d) old new f)
     → Judges c (HasStopped c old new) (told r)
@@ -51,7 +51,7 @@ judged_put old new c ca (Err table.Device) is means h =
     elim (h c means) [ inl failed ↦ inl failed | inr refused ↦ inr (ca, is, refused) ]
 judged_put old new c ca (Err table.Damaged) is means h = absurd (h c means)
 
--- the same after the rows were read
+-- the same after reading the rows
 pub judged_filled : (P : Trees → Type 0) (a b d : State) (c : Contents) (rows : List OfficeRow) (ca : CaRow)
     (r : Result (Unit {0}) Fault) → Survives a b P → HasCleanDisk b → b.faults ≤ d.faults → Means a.now c
     → IsUnchanged a b × IsPermutation c.offices rows → ca_of rows ≡ Ok ca
@@ -72,19 +72,19 @@ never_device [] e = cc
 never_device (o ∷ []) e = not_device o (o.schema == 1) (o.id == 1) e
 never_device (o ∷ p ∷ rows) e = cc
 
--- what the rows say of their office
+-- the answer that the office's rows specify
 pub judged_rows : (c : Contents) (P : Type 0) (rows : List OfficeRow) (e : StoreFault) → IsPermutation c.offices rows
     → IsCaDue (ca_of rows) (Err e) → Judges c P (Err e)
 judged_rows c P rows NoMemory same h = tt
 judged_rows c P rows Device same h = absurd (never_device rows h)
 judged_rows c P rows _ same h = ca_same c.offices rows same ∙ h
 
--- what was moved was so inside of the transaction
+-- a successful migration is still inside its transaction
 abbrev IsInside : Result (Unit {0}) StoreFault → State → Type 0
 IsInside (Ok x) s = s.in_transaction ≡ true
 IsInside (Err e) s = Unit {0}
 
--- the end of what was moved, or was not
+-- the end of a migration that succeeded or failed
 judged_end : (mid new : State) (c : Contents) (P Q : Type 0) (moved r : Result (Unit {0}) StoreFault)
     → (P → Q) → (HasFailed mid new → Q) → Judges c P moved → IsInside moved mid → TellsEnd moved mid new r
     → Judges c Q r
@@ -118,7 +118,7 @@ judged_whole P Q a b m d c moved r one clean two mild le rests begun makes judge
     (λ failed. inl (failed_late P a b d one clean through (failed_late Q b m d two mild le failed)))
     (judges c had) (still_inside b m c moved begun.1.mode had makes) tells
 
--- of the tables of an office that tell a history there is no other fault
+-- if the tables of an office represent a history, there is no other fault
 pub excused : (o : Opening) (l : List Arrival) (stopped : Type 0) (e : StoreFault)
     → Judges (former_contents o l) stopped (Err e) → IsExcused stopped e
 excused o l stopped NoMemory h = tt

@@ -1,4 +1,4 @@
--- The kept request of a caller and a key.
+-- The stored request with a given caller and request ID.
 use Rattle.std.proofs.Common.{◌≡◌, ℕ, List, [], ◌∷◌, map, filter, true, false, cond, inl, inr, Option, Some, None, refl}
 use Rattle.std.proofs.Common.{ap, subst, ◌∙◌}
 use Rattle.std.specs.Prelude.{find, is_some}
@@ -21,7 +21,7 @@ use Rattle.store.specs.Finding.{kept_in}
 use Rattle.store.specs.Histories.{AreApart, is_kept_for}
 use Rattle.store.proofs.OneRow.{found_row, rows_of}
 
--- ---- one request has this caller and this key
+-- ---- at most one request has this caller and this request ID
 
 others_apart : (caller key : List ℕ) (k : Kept) (kept : List Kept) → is_kept_for caller key k ≡ true
     → list_any (is_kept_for k.caller k.key) kept ≡ false → list_any (is_kept_for caller key) kept ≡ false
@@ -42,7 +42,7 @@ back_again : (o : Option Kept) → option_map kept_in (option_map request_row o)
 back_again None = refl
 back_again (Some k) = refl
 
--- the request that is found is the kept one
+-- the request found in the tables is the stored one
 pub kept_found : (s : State) (kept : List Kept) (caller key : List ℕ) (found : Option RequestRow) → AreApart kept
     → IsOneOf (requests_for caller key (contents_of s kept)) found
     → option_map kept_in found ≡ find (is_kept_for caller key) kept
@@ -51,9 +51,9 @@ kept_found s kept caller key found apart is =
     (subst (λ (l : List RequestRow). IsOneOf l found) (one_kept caller key kept apart) is))
     ∙ back_again (find (is_kept_for caller key) kept)
 
--- ---- what it says of an arrival
+-- ---- its meaning for a received request
 
--- a request of the arrival's caller and key is kept
+-- a request with the same caller and request ID is stored
 pub known_by_kept : (a : Arrival) (kept : List Kept)
     → list_any (has_key a) kept ≡ is_some (find (is_kept_for a.caller a.key) kept)
 known_by_kept a [] = refl
@@ -67,7 +67,7 @@ abbrev pub reply_of : Arrival → Option Kept → Option (List ℕ)
 reply_of a None = None
 reply_of a (Some k) = cond (bytes_eq k.bytes a.bytes) (Some k.reply) None
 
--- no request of its caller and key is kept
+-- no stored request has its caller and request ID
 pub no_repeat : (a : Arrival) (kept : List Kept) → list_any (has_key a) kept ≡ false → reply_kept kept a ≡ None
 no_repeat a [] none = refl
 no_repeat a (k ∷ kept) none =
@@ -75,7 +75,7 @@ no_repeat a (k ∷ kept) none =
     let first : has_key a k ≡ false = parts.0 in
     rw first (no_repeat a kept parts.1)
 
--- the reply that the same message got
+-- the reply to the same message
 pub reply_by_kept : (a : Arrival) (kept : List Kept) → AreApart kept
     → reply_kept kept a ≡ reply_of a (find (is_kept_for a.caller a.key) kept)
 reply_by_kept a [] apart = refl

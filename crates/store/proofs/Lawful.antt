@@ -1,4 +1,4 @@
--- The state of an office is lawful after every history.
+-- The state of an office is valid after every history.
 use Rattle.std.proofs.Common.{◌≡◌, ℕ, zero, suc, ◌-◌, List, [], ◌∷◌, length, Bool, true, false, cond, Option, Some}
 use Rattle.std.proofs.Common.{None, ◌+◌, ◌++◌, not, refl, sym, subst, arith, Result, Ok, Err}
 use Rattle.std.specs.Prelude.{IfSome, slice_get, nat_lt}
@@ -43,9 +43,9 @@ use Rattle.store.specs.Lawful.{IsLawful}
 use Rattle.store.proofs.Ascending.{IsEntry, entries_put, names_put, texts_put}
 use Rattle.store.specs.Meaning.{IsHistory}
 
--- ---- what a lawful state has
+-- ---- parts of a valid state
 
--- whichever of two states it is
+-- for either of two states
 pub of_either : (P : State → Type 0) (b : Bool) (s t : State) → P s → P t → P (cond b s t)
 of_either P true s t p q = p
 of_either P false s t p q = q
@@ -58,7 +58,7 @@ all_get P (x ∷ xs) (suc k) all = all_get P xs k all.1
 abbrev IsIssued : Certificate → Type 0
 IsIssued c = IsCertificate c × IsSigned c
 
--- the certificate of a serial
+-- the certificate with a serial
 issued_lawful : (s : State) (serial : ℕ) → IsLawful s → IfSome (certificate_of s serial) IsIssued
 issued_lawful s serial lawful =
     elim (nat_lt serial s.opening.first)
@@ -77,7 +77,7 @@ find_lawful name (e ∷ es) all =
       | false ↦ find_lawful name es all.1
     ]
 
--- the department of a name
+-- the department with a name
 named_lawful : (s : State) (name : List ℕ) → IsLawful s
     → IfSome (department_named s name) (λ d. is_department d ≡ true)
 named_lawful s name lawful = find_lawful name s.departments lawful.departments
@@ -93,7 +93,7 @@ newest_lawful s lawful =
     newest_size s.opening (slice_get s.cas (length s.cas - 1)) lawful.opening.ca
     (all_get (λ ca. length ca.key ≡ 32) s.cas (length s.cas - 1) lawful.cas)
 
--- ---- a certificate that is made
+-- ---- a new certificate
 
 counted_push : (first : ℕ) (cs : List Certificate) (c : Certificate) → AreCounted first cs
     → c.fields.serial ≡ first + length cs → AreCounted first (cs ++ c ∷ [])
@@ -104,7 +104,7 @@ not_false : (b : Bool) → not b ≡ false → b ≡ true
 not_false true e = refl
 not_false false e = absurd cc
 
--- a view of the state's counters, which asks nothing else
+-- a view that has only the state's counters
 abbrev counters : State → View
 counters s = record {
   opening = record { ref_ptr = (0, 0); now = s.opening };
@@ -178,14 +178,14 @@ signed_counted first [] place s up = tt
 signed_counted first (c ∷ cs) zero s up = up
 signed_counted first (c ∷ cs) (suc place) s up = (up.0, signed_counted (suc first) cs place s up.1)
 
--- ---- what an accepted message leaves
+-- ---- the state after an accepted message
 
 signature_size : (d : Delivery) → is_delivery d ≡ true → length d.signature.bytes ≡ 64
 signature_size d e =
     let signature : is_signature d.signature ≡ true = (and_parts _ _ (and_parts _ _ e).1).1 in
     eqb-true _ _ (and_parts _ _ signature).0
 
--- what the message leaves as it was is lawful still
+-- the state after an accepted message is still valid
 keeps_lawful : (s : State) (caller : List ℕ) (m : Message) (moment : ℕ) (nonce : List ℕ) → is_message m ≡ true
     → first_holding (refusals s caller m moment) ≡ None → length nonce ≡ 32 → IsLawful s
     → IsLawful (after s m moment nonce)
@@ -242,6 +242,6 @@ along : (o : Opening) (fs : List First) (l : List Arrival) → AllByRecursion (�
 along o fs [] sizes lawful = lawful
 along o fs (a ∷ l) sizes lawful = along o (with_arrival o fs a) l sizes.1 (first_keeps o fs a _ refl sizes.0 lawful)
 
--- a history leaves a lawful state
+-- every history leaves a valid state
 pub lawful_after : (o : Opening) (l : List Arrival) → IsHistory o l → IsLawful (state o l)
 lawful_after o l history = along o [] l history.nonces (let is = history.office.opening in assumption (is, is.ca, tt))

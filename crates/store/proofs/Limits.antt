@@ -1,4 +1,4 @@
--- Why the rows of an accepted arrival are kept out: one is too long, or there is no room for one more.
+-- Why the rows of an accepted request are refused: one is too long, or there is no room for one more.
 use Rattle.std.proofs.Common.{◌≡◌, inl, inr, ℕ, suc, ◌+◌, ◌<◌, ◌≤◌, List, [], ◌∷◌, length, map, Bool, true, refl, sym}
 use Rattle.std.proofs.Common.{ap, ◌∙◌, arith, ◌++◌, not, subst}
 use Rattle.std.specs.Prelude.{◌==◌, filter, ◌^◌}
@@ -53,7 +53,7 @@ begins n r = r.lo == n
 abbrev how_many : ℕ → List RunRow → ℕ
 how_many n rs = length (filter (begins n) rs)
 
--- at most one of maximal runs begins at a serial, and none below them all
+-- at most one of the maximal runs begins at a given serial, and none below their lower bound
 few_begin : (n from : ℕ) (rs : List Run) → AreRunsFrom from rs
     → (how_many n (map run_row rs) ≤ 1) × (n < from → how_many n (map run_row rs) ≡ 0)
 few_begin n from [] are = (omega arith, λ _. refl)
@@ -76,7 +76,7 @@ some_begin n (r ∷ rs) (k, inr here, same) = elim (cases_Bool (r.lo == n)) [
   | inr other ↦ rw other (some_begin n rs (k, here, same))
 ]
 
--- of rows that are maximal runs in some order no other begins where the first does
+-- if rows are maximal runs in some order, no other begins where the first one does
 alone_there : (x : RunRow) (xs : List RunRow) (rs : List Run) → AreRuns rs → IsPermutation (x ∷ xs) (map run_row rs)
     → HasOne (λ k. k.lo ≡ x.lo) xs → ⊥
 alone_there x xs rs are same other =
@@ -87,7 +87,7 @@ alone_there x xs rs are same other =
     let more = some_begin x.lo xs other in
     omega (arith, most, count, mine, more)
 
--- ---- an accepted arrival
+-- ---- an accepted request
 
 module _ (p : Past) (a : Arrival) (d : Decision) (serving : List Ca) (history : IsHistory p.0 p.1)
     (is : IsAccepted a d serving p) where
@@ -97,7 +97,7 @@ module _ (p : Past) (a : Arrival) (d : Decision) (serving : List Ca) (history : 
   abbrev rows : Contents
   rows = office_contents p.0 p.1
 
-  -- beside the row of the request and the counters
+  -- the contents with the counters and the row of the request
   abbrev recorded : Contents
   recorded = with_request (request_row (kept_of a d.reply)) (with_counters (counters_of d) rows)
 
@@ -153,7 +153,7 @@ module _ (p : Past) (a : Arrival) (d : Decision) (serving : List Ca) (history : 
   change_limited (change.Ca x) since e ok why = ca_limited since x e why
   change_limited _ since e ok why = why
 
-  -- the rows are kept out by their size, or for want of room
+  -- the rows are refused for their size, or for lack of room
   pub limited : IsLawfulChange d.change → RefusesDecision d a serving rows → IsTooMuch d a rows
   limited ok (inl (inl counters)) = absurd (counters_fit (counters_of d) s (kept_at p) lawful counters)
   limited ok (inl (inr (inl used))) = absurd (request_new a (kept_at p) step.unused used)

@@ -1,4 +1,4 @@
--- The flags of what is revoked, read one after the other.
+-- The flags for revoked serials and key IDs, read one after the other.
 use Rattle.std.proofs.Common.{List, Bool, Option, Ok, Result, IsTrue}
 use Rattle.sqlite.specs.State.{State as Connection}
 use Rattle.message.specs.declared.kinds.Message.{Message}

@@ -1,4 +1,4 @@
--- From the whole transaction to what is promised of it.
+-- From the whole transaction to the contract of a migration.
 use Rattle.std.proofs.Common.{◌≡◌, true, false, List, Ok, Err, Result, sym, ap, subst, ◌∙◌}
 use Rattle.std.specs.List.{list_any}
 use Rattle.sqlite.specs.State.{State}
@@ -44,7 +44,7 @@ cas_unseen db c seen had =
     let wrong : false ≡ true = sym former_has_no_ca
     ∙ (ap (λ (s : Schema). list_any is_ca_name s.tables) (sym had.schema) ∙ seen) in cc
 
--- where the tables are not those of schema 1, nothing is said of an open connection
+-- if the tables are not those of schema 1, the claim about an open connection is empty
 pub not_carried : (s : State) (e : StoreFault) → ((c : Contents) → Had c s.now → ⊥) → (o : Opening) (l : List Arrival)
     → TellsBefore s o l → Carries s s o l (Err e)
 not_carried s e none o l tells = (tells, λ was. absurd (none (former_contents o l) (tells.rows was).now))

@@ -1,4 +1,4 @@
--- What each part of the transaction leaves to the next.
+-- The tables between the parts of the transaction.
 use Rattle.std.proofs.Common.{◌≡◌, List, subst, ◌∙◌, Ok, Err, Result}
 use Rattle.std.specs.Prelude.{IsPermutation}
 use Rattle.sqlite.specs.State.{State, IsUnchanged, Survives}
@@ -17,7 +17,7 @@ use Rattle.store.specs.Faults.{told}
 use Rattle.store.specs.Migrating.{HasNoCa}
 use Rattle.store.proofs.Contents.{ca_same, no_cas, put_in}
 
--- the rows were read, and then CA 1 and the number are put
+-- the rows were read, and then CA 1 and the schema number are written
 pub filled : (a b d : State) (rows : List OfficeRow) (ca : CaRow) (r : Result (Unit {0}) Fault)
     → ((c : Contents) → Means a.now c → IsUnchanged a b × IsPermutation c.offices rows) → ca_of rows ≡ Ok ca
     → Makes Has (λ c. with_schema 2 (with_ca ca c)) b d r → Makes HasNoCa migrated a d (told r)
@@ -41,7 +41,7 @@ pub made_waits : (a b : State) → Survives a b (WaitsAt without_ca a) → Survi
 made_waits a b one =
     survives_weaker a b (WaitsAt without_ca a) (Waits Had a) (λ clean trees h c before. h before.schema) one
 
--- what a call leaves, as it is told
+-- a call's effect, with its fault as the register's
 pub stays_told : (old new : State) (r : Result (Unit {0}) Fault) → Stays old new r → Stays old new (told r)
 stays_told old new (Ok x) stays = stays
 stays_told old new (Err f) stays = stays

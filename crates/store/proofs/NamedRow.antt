@@ -1,4 +1,4 @@
--- The department of a name among the rows.
+-- The department with a given name among the rows.
 use Rattle.std.proofs.Common.{◌≡◌, ℕ, List, [], ◌∷◌, map, filter, true, false, Less, Some, refl, sym, ap, subst, ◌∙◌}
 use Rattle.std.proofs.Common.{inl, inr}
 use Rattle.std.specs.List.{AllByRecursion}
@@ -32,7 +32,7 @@ IsEntry e = (is_department e.1 ≡ true) × (e.0 ≡ e.1.name)
 abbrev IsBelow : Entry → Entry → Type 0
 IsBelow a b = slice_cmp nat_cmp a.1.name b.1.name ≡ Less
 
--- what comes after a name isn't this name
+-- a name that comes after this one is another name
 apart : (name other : List ℕ) → slice_cmp nat_cmp name other ≡ Less → bytes_eq other name ≡ false
 apart name other less = nat_list_eq_equiv.symm other name ∙ sym (is_eq-slice_cmp name other) ∙ ap is_eq less
 
@@ -57,7 +57,7 @@ named_in name (e ∷ es) all up = elim (cases_Bool (bytes_eq e.1.name name)) [
     here =
         is_eq-slice_cmp name e.0 ∙ nat_list_eq_equiv.symm name e.0 ∙ ap (λ (n : List ℕ). bytes_eq n name) all.0.1
 
--- one row has the name, where a department has it
+-- one row has the name if a department has it, and otherwise none
 pub named : (name : List ℕ) (s : State) (kept : List Kept) → IsLawful s
     → departments_named name (contents_of s kept) ≡ rows_of department_row (department_named s name)
 named name s kept lawful = named_in name s.departments lawful.departments lawful.names

@@ -1,4 +1,4 @@
--- The certificate of a serial among the rows.
+-- The certificate with a given serial among the rows.
 use Rattle.std.proofs.Common.{◌≡◌, ℕ, zero, suc, ◌+◌, ◌-◌, ◌<◌, ◌≤◌, ◌^◌, List, [], ◌∷◌, map, filter, true, ltb}
 use Rattle.std.proofs.Common.{Option, Some, None, slice_get, refl, sym, ap, ◌∙◌, arith, inl, inr}
 use Rattle.std.specs.Prelude.{IsSome}
@@ -41,7 +41,7 @@ one_from first (suc place) (c ∷ cs) counted =
     rw (ne_eqb c.fields.serial (first + suc place) (λ e. omega (arith, counted.0, e)))
     (ap (λ (n : ℕ). filter (has_serial n) (map cert_row cs)) same ∙ one_from (suc first) place cs counted.1)
 
--- one row has the serial, where a certificate has it
+-- one row has the serial if a certificate has it, and otherwise none
 pub numbered : (serial : ℕ) (s : State) (kept : List Kept) → IsLawful s
     → certs_numbered serial (contents_of s kept) ≡ rows_of cert_row (certificate_of s serial)
 numbered serial s kept lawful = elim (cases_lt serial s.opening.first) [
@@ -61,7 +61,7 @@ certificate_again serial s c lawful is = elim (cases_Bool (ltb serial s.opening.
       (rw over at is) lawful.certificates in again c each.0 each.1
 ]
 
--- ---- the serial that is asked for
+-- ---- the requested serial
 
 -- 1 <= first and last <= 2^63 - 2
 pub serials_within : (first last : ℕ) → are_serials first last ≡ true → (1 ≤ first) × (last ≤ LAST_SERIAL)
@@ -75,7 +75,7 @@ none_past : (serial : ℕ) (s : State) → next_serial s ≤ serial → certific
 none_past serial s past =
     not_some (certificate_of s serial) (λ some. omega (arith, past, (serial_of_one s serial some).1))
 
--- what is asked for has the certificate of the serial, where serials were handed out in range
+-- the lookup finds the certificate with the serial, if serials were issued in range
 pub asked : (serial : ℕ) (s : State) (kept : List Kept) → IsLawful s → IsOfHistory s kept
     → certificate_of s (asked_serial serial) ≡ certificate_of s serial
 asked serial s kept lawful history = elim (cases_lt serial (2 ^ 63)) [

@@ -1,4 +1,4 @@
--- What every history keeps of its state and its requests.
+-- Properties of the state and the stored requests after every history.
 use Rattle.std.proofs.Common.{◌≡◌, List, [], ◌∷◌, ◌++◌, false, Ok, Err, Result, refl, sym, subst, ◌∙◌}
 use Rattle.std.specs.List.{fold, list_any}
 use Rattle.std.proofs.lemmas.Bool.{or_parts}
@@ -20,7 +20,7 @@ use Rattle.store.specs.Histories.{AreApart, IsOfHistory, is_kept_for}
 turned : (j k : Kept) → is_kept_for j.caller j.key k ≡ is_kept_for k.caller k.key j
 turned j k = rw (nat_list_eq_equiv.symm k.caller j.caller, nat_list_eq_equiv.symm k.key j.key) refl
 
--- one more of another caller or another key
+-- one more request, with a new caller or a new request ID
 apart_more : (kept : List Kept) (k : Kept) → AreApart kept → list_any (is_kept_for k.caller k.key) kept ≡ false
     → AreApart (kept ++ k ∷ [])
 apart_more [] k apart none = (refl, tt)
@@ -45,11 +45,11 @@ apart_along : (o : Opening) (fs : List First) (l : List Arrival) → AreApart (k
 apart_along o fs [] apart = apart
 apart_along o fs (a ∷ l) apart = apart_along o (with_arrival o fs a) l (apart_added o fs a _ refl apart)
 
--- no two requests that are kept after a history have one caller and one key
+-- no two requests stored after a history have the same caller and request ID
 pub apart_after : (o : Opening) (l : List Arrival) → AreApart (kept_by (first_accepted o l))
 apart_after o l = apart_along o [] l tt
 
--- the state and the requests after a history of a lawful opening
+-- the state and the requests after a history with a valid initial configuration
 pub of_history : (o : Opening) (l : List Arrival) → IsOpening o
     → IsOfHistory (state o l) (kept_by (first_accepted o l))
 of_history o l is = record {

@@ -1,4 +1,4 @@
--- A look at the tables of an office.
+-- Looking at the tables of an office.
 use Rattle.std.proofs.Common.{inl, inr, ◌≡◌, Bool, true, false, List, [], ◌∷◌, refl, sym, subst, ◌∙◌, arith}
 use Rattle.std.specs.Prelude.{◌==◌, None, Result, Ok, Err, IsPermutation, All}
 use Rattle.std.specs.List.{list_any}
@@ -21,14 +21,14 @@ use Rattle.store.specs.Migrating.{HasStopped, IsExcused, RefusesFirstCa}
 use Rattle.store.specs.Meaning.{DiskFailed, Looks, opened_by}
 use Rattle.store.proofs.Telling.{disk_failed}
 
--- the table of the office is seen
+-- the `office` table is found
 pub unseen : (b : Bool) (rows : List OfficeRow) (db : Database) → b ≡ list_any is_office_table db.schema.tables
     → b ≡ false → HasOffices rows db → ⊥
 unseen b rows db is off has =
     let found : true ≡ false = sym (is ∙ first_seen db.schema.tables has.first) ∙ off in
     cc
 
--- the order of the rows is nothing
+-- the order of the rows doesn't matter
 opened_same : (xs ys : List OfficeRow) → IsPermutation xs ys → opened_by xs ≡ opened_by ys
 opened_same [] [] p = refl
 opened_same (x ∷ []) (y ∷ []) p =
@@ -46,18 +46,18 @@ looks_own (row ∷ []) failed = elim (cases_Bool (row.schema == 2)) [
 ]
 looks_own (row ∷ other ∷ rows) failed = refl
 
--- what the rows say
+-- the answer that the rows specify
 pub looked : (xs : List OfficeRow) (failed : Type 0) (rows : List OfficeRow) (r : Result (Unit {0}) StoreFault)
     → IsPermutation xs rows → r ≡ opened_by rows → Looks xs failed r
 looked xs failed rows r p is = subst (Looks xs failed) (opened_same xs rows p ∙ sym is) (looks_own xs failed)
 
--- a failure that is told in other words
+-- a failure stated in other terms
 pub looks_weaker : (rows : List OfficeRow) (P Q : Type 0) (r : Result (Unit {0}) StoreFault) → (P → Q)
     → Looks rows P r → Looks rows Q r
 looks_weaker rows P Q (Err Device) so h = so h
 looks_weaker rows P Q _ so h = h
 
--- an office is not missed
+-- an existing office is found
 pub not_missed : (rows : List OfficeRow) (failed : Type 0) (e : StoreFault) → opened_by rows ≡ Ok tt
     → Looks rows failed (Err e) → IsExcused failed e
 not_missed rows failed NoMemory is h = tt
@@ -72,7 +72,7 @@ excused_unless old new refused table_fault.Device unlimited never (inl failed) =
 excused_unless old new refused table_fault.Device unlimited never (inr why) = absurd (never why)
 excused_unless old new refused table_fault.Damaged unlimited never cause = absurd cause
 
--- the same of a migration, to which nothing is refused
+-- the same for a migration that is refused no row
 pub excused_by_disk : (old new : State) (c : Contents) (e : StoreFault) → old.step_limit ≡ None
     → (RefusesFirstCa c → ⊥) → IsExcused (HasStopped c old new) e → IsExcused (DiskFailed old new) e
 excused_by_disk old new c Device unlimited never (inl failed) = disk_failed old new unlimited failed

@@ -1,4 +1,4 @@
--- A key id put in once.
+-- Inserting a key ID at most once.
 use Rattle.std.proofs.Common.{◌≡◌, ℕ, List, [], ◌∷◌, true, false, refl}
 use Rattle.std.proofs.Common.{ap, ◌∙◌, IsPermutation, Ordering, Less}
 use Rattle.std.specs.List.{list_any}
@@ -19,7 +19,7 @@ use Rattle.store_sql.specs.Refusals.{HasOne}
 use Rattle.store.proofs.Spans.{moved}
 use Rattle.store.proofs.PutInPlace.{tied}
 
--- where it is missing it makes room
+-- a missing one is added
 pub absent : (t : List ℕ) (us : List (List ℕ)) → list_any (is_key_id t) us ≡ false
     → IsPermutation (t ∷ us) (put_text t us)
 absent t [] none = IsPermutation-refl _
@@ -34,7 +34,7 @@ absent t (u ∷ us) none =
         absurd (both_ways (bytes_eq u t) other (nat_list_eq_equiv.symm u t ∙ tied t u Equal is))
     by_case other rest Greater is = rw is (moved t u us (put_text t us) rest)
 
--- where it is there nothing changes
+-- an existing one changes nothing
 pub present : (t : List ℕ) (us : List (List ℕ)) → IsAscending (λ a b. slice_cmp nat_cmp a b ≡ Less) us
     → list_any (is_key_id t) us ≡ true → put_text t us ≡ us
 present t [] up some = absurd cc
@@ -53,7 +53,7 @@ present t (u ∷ us) up some = by_case (present t us up.1) (slice_cmp nat_cmp t 
         let other : bytes_eq u t ≡ false = nat_list_eq_equiv.symm u t ∙ tied t u Greater is in
         rw is (ap (λ (ks : List (List ℕ)). u ∷ ks) (rest (rw other at some)))
 
--- what is missing isn't one of these
+-- a missing one isn't one of these
 pub not_there : (t : List ℕ) (us : List (List ℕ)) → list_any (is_key_id t) us ≡ false → HasOne (λ k. k ≡ t) us → ⊥
 not_there t us none one =
     both_ways (list_any (is_key_id t) us) none

@@ -1,4 +1,4 @@
--- After a history without rollovers an office has the CA that it began with, and no other.
+-- After a history without rollovers, an office has only the CA that it began with.
 use Rattle.std.proofs.Common.{◌≡◌, ℕ, List, [], ◌∷◌, Bool, true, false, Option}
 use Rattle.std.proofs.Common.{Some, None, Result, Ok, Err, refl, sym, ap, subst}
 use Rattle.std.specs.Prelude.{if◌then◌else◌, IfSome}
@@ -65,7 +65,7 @@ along o fs (a ∷ l) calm p = along o (with_arrival o fs a) l calm.1 (after_firs
 pub one_ca : (o : Opening) (l : List Arrival) → HasNoRollover l → (state o l).cas ≡ first_ca (state o l).opening ∷ []
 one_ca o l calm = along o [] l calm refl
 
--- the rows of schema 1 become those of schema 2
+-- the migration of the rows of schema 1 gives those of schema 2
 pub former_migrated : (o : Opening) (l : List Arrival) → HasNoRollover l
     → migrated (former_contents o l) ≡ office_contents o l
 former_migrated o l calm = ap (λ cas. record (office_contents o l) { cas = ca_rows 1 cas }) (sym (one_ca o l calm))

@@ -1,4 +1,4 @@
--- The row of the office is read again.
+-- Reading the office's row gives the office back.
 use Rattle.std.proofs.Common.{◌≡◌, List, [], ◌∷◌, length, true, false, Some, Result, refl, sym, ap, subst, ◌∙◌, arith}
 use Rattle.std.proofs.Common.{IsPermutation, get_or, ◌≤◌, ◌<◌}
 use Rattle.std.specs.Prelude.{nat_lt}
@@ -27,7 +27,7 @@ office_of_state s = record { opening = s.opening; next = next_serial s; version 
 of_state : (s : State) → IsOfficeOf (office_of_state s) s
 of_state s = record { opening = refl; next = refl; version = refl; date = refl }
 
--- the office of a lawful state is lawful
+-- the office of a valid state is valid
 pub office_passes : (s : State) (o : Office) → IsLawful s → IsOfficeOf o s → if_office o ≡ Some o
 office_passes s o lawful is =
     let opening : IsOpening o.opening = subst IsOpening (sym is.opening) lawful.opening in
@@ -44,7 +44,7 @@ only_again s rows lawful same =
     ap only_office (one_permutation (office_row s) rows same)
     ∙ rw (key_of_again s.opening.ca lawful.opening.ca) (office_passes s (office_of_state s) lawful (of_state s))
 
--- of one row is read what is read of it
+-- the office of exactly one row is the value of that row
 pub only_one : (rows : List OfficeRow) (row : OfficeRow) (r : Result Office Fault) → 1 ≤ length rows → length rows < 2
     → row ≡ get_or rows 0 row → IsRead (office_in row) r → IsRead (only_office rows) r
 only_one [] row r some few is read = absurd (omega (arith, some))
@@ -58,7 +58,7 @@ shows_office old new rows r finds =
     shows_read (λ s kept office. IsOfficeOf office s) old new (only_office rows) r (λ s kept lawful means.
     let f = finds (contents_of s kept) means in (f.0, (office_of_state s, only_again s rows lawful f.1, of_state s)))
 
--- ---- the opening
+-- ---- the initial configuration
 
 pub opening_from : (o : Opening) → length o.ca ≡ 32 → is_opening o ≡ true → IsOpening o
 opening_from o size is =

@@ -1,4 +1,4 @@
--- One row that is found, and its value.
+-- A single row that was found, and its value.
 use Rattle.std.proofs.Common.{◌≡◌, List, [], ◌∷◌, Option, Some, None, Result, refl, ap, subst, ◌∙◌, arith}
 use Rattle.std.specs.Option.{option_map}
 use Rattle.std.proofs.lemmas.List.Sorted.{length_permutation}
@@ -21,7 +21,7 @@ abbrev pub rows_of : {R X : Type 0} → (X → R) → Option X → List R
 rows_of row None = []
 rows_of row (Some x) = row x ∷ []
 
--- of the row of one value just this row is found
+-- the row of a value, and no other, is found
 pub found_row : {R X : Type 0} (row : X → R) (o : Option X) (found : Option R) → IsOneOf (rows_of row o) found
     → found ≡ option_map row o
 found_row row None None is = refl
@@ -46,7 +46,7 @@ module _ {R X : Type 0} (value : R → Option X) (row : X → R) (of : Contents 
       (found_row row (one s) found (subst (λ (l : List R). IsOneOf l found) (only s kept lawful) is))
       ∙ read_again s (one s) lawful refl
 
-  -- the value of the row is shown, and the row is not damaged
+  -- the row's value is shown, and the row is not damaged
   pub shows_one : (old new : Connection) (found : Option R) (r : Result (Option X) Fault)
       → ((c : Contents) → Means old.now c → IsUnchanged old new × IsOneOf (of c) found)
       → IsRead (value_in value found) r → Shows (λ s kept x. x ≡ one s) old new r

@@ -1,4 +1,4 @@
--- The CAs in order, and what the published list is made of.
+-- The CAs in order, and the contents of the published KRL.
 use Rattle.std.proofs.Common.{◌≡◌, ℕ, zero, suc, ◌≤◌, ◌<◌, List, [], ◌∷◌, length, true, refl, subst, ◌∙◌, arith}
 use Rattle.std.specs.Prelude.{slice_index_or, nat_le}
 use Rattle.std.specs.List.Sorted.{IsNonDecreasing}
@@ -40,9 +40,9 @@ rise_ordered low (ca ∷ cas) first up =
     (rise_ordered ca.since cas (λ d there. up 0 1 d (omega arith) (omega (arith, there)))
     (λ i j d le there. up (suc i) (suc j) d (omega (arith, le)) (omega (arith, there))))
 
--- ---- the list
+-- ---- the KRL
 
--- what is made of a state's revocations shows them
+-- a KRL built from a state's revocations shows them
 pub made_shown : (revoked : Revoked) (head : KrlHead) (cas : List Ca) (r : Revocations) (s : State)
     → IsMadeOf revoked head cas r → AreRevocations r s → AreIssued s → AreShown revoked head cas s
 made_shown revoked head cas r s is of issued = record {

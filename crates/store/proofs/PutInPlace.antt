@@ -1,4 +1,4 @@
--- A department put in place of the one of its name.
+-- Putting a department in place of the one with its name.
 use Rattle.std.proofs.Common.{◌≡◌, ℕ, List, [], ◌∷◌, map, Bool, true, false, refl, sym, ap}
 use Rattle.std.proofs.Common.{subst, ◌∙◌, ◌<◌, ◌^◌, arith, IsPermutation, Ordering, Less}
 use Rattle.std.specs.Prelude.{not, filter, ◌&&◌}
@@ -29,14 +29,14 @@ use Rattle.store.proofs.DepartmentRows.{department_rows}
 abbrev lacks : List ℕ → DepartmentRow → Bool
 lacks name e = not (has_name name e)
 
--- names compare as equal just where they are
+-- names compare as equal exactly when they are equal
 pub tied : (xs ys : List ℕ) (o : Ordering) → slice_cmp nat_cmp xs ys ≡ o → bytes_eq xs ys ≡ is_eq o
 tied xs ys o e = sym (is_eq-slice_cmp xs ys) ∙ ap is_eq e
 
 lacks_one : (name other : List ℕ) → bytes_eq name other ≡ false → not (bytes_eq other name) ≡ true
 lacks_one name other e = ap not (nat_list_eq_equiv.symm other name ∙ e)
 
--- what is above a name has another
+-- departments with greater names have other names
 all_lack : (name : List ℕ) (es : List (List ℕ × Department))
     → AllByRecursion (λ e. slice_cmp nat_cmp name e.1.name ≡ Less) es
     → filter (lacks name) (department_rows es) ≡ department_rows es
@@ -45,7 +45,7 @@ all_lack name es above =
     (all_weaker (λ e. slice_cmp nat_cmp name e.1.name ≡ Less) (λ e. lacks name (department_row e.1) ≡ true)
     (λ e less. lacks_one name e.1.name (tied name e.1.name Less less)) es above))
 
--- it and those of other names are what is there once it is put
+-- the department and those with other names are the departments after it is put
 pub put_named : (d : Department) (es : List (List ℕ × Department))
     → AllByRecursion (λ e. (is_department e.1 ≡ true) × (e.0 ≡ e.1.name)) es
     → IsAscending (λ a b. slice_cmp nat_cmp a.1.name b.1.name ≡ Less) es
@@ -79,7 +79,7 @@ put_named d (e ∷ es) all up = by_case (put_named d es all.1 up.1) (slice_cmp n
         (moved (department_row d) (department_row e.1) (filter (lacks d.name) (department_rows es))
         (department_rows (put (slice_cmp nat_cmp) d.name d es)) rest)
 
--- ---- the longest life
+-- ---- the longest lifetime
 
 sixth : (a b c e f l r : Bool) → (a && (b && (c && (e && (f && (l && r)))))) ≡ true → l ≡ true
 sixth a b c e f l r is =
@@ -89,7 +89,7 @@ sixth a b c e f l r is =
 low : (n : ℕ) → is_longest_life n ≡ true → n < 2 ^ 63
 low n is = grind (arith, nat_tests)
 
--- it is a number that a column holds
+-- it is a number that a column can hold
 pub life_fits : (d : Department) → is_department d ≡ true → d.longest_life < 2 ^ 63
 life_fits d is =
     low d.longest_life (sixth (is_name d.name) (are_administrators d.administrators) (are_rules d.rules)

@@ -1,4 +1,4 @@
--- Whether one run has an interval.
+-- Whether a single run contains an interval.
 use Rattle.std.proofs.Common.{◌≡◌, arith, ℕ, ◌+◌, ◌<◌, ◌≤◌, inl, inr, List, map, true, false, Option, None}
 use Rattle.std.proofs.Common.{Some, refl, ap, IsTrue}
 use Rattle.std.specs.Prelude.{◌↔◌, nat_le, max}
@@ -28,14 +28,14 @@ not_below a b h = grind (arith, nat_tests)
 has_run : (runs : List Run) (x : RunRow) → Has (map run_row runs) x → Has runs (run_of x)
 has_run runs x here = rw (map_back run_row run_of (λ r. refl) runs) at (mapped_has run_of (map run_row runs) x here)
 
--- a serial of the interval that no run has
+-- if a serial of the interval is in no run, the runs don't contain the interval
 missed : (lo hi n : ℕ) (runs : List Run) → lo ≤ n → n ≤ hi
     → ((r : RunRow) → Has (map run_row runs) r → r.lo ≤ n → n ≤ r.hi → ⊥) → HasAll (contains runs) lo hi → ⊥
 missed lo hi n runs low high none all =
     let some = some_has (is_within n) runs (all n low high) in
     let ends = in_it n some.0 some.2 in none (run_row some.0) (mapped_has run_row runs some.0 some.1) ends.0 ends.1
 
--- the last run that begins with the first serial or before it has the interval, or no run has it all
+-- the runs contain the interval if and only if the last run that begins at or before its first serial does
 pub all_in : (lo hi : ℕ) (runs : List Run) (o : Option RunRow) → lo ≤ hi → AreApart (map run_row runs)
     → IsLast lo (map run_row runs) o → (IsTrue (reaches o hi) ↔ HasAll (contains runs) lo hi)
 all_in lo hi runs None order apart last = (

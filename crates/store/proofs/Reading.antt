@@ -26,11 +26,11 @@ use Rattle.store.specs.Meaning.{IsHistory, made}
 use Rattle.store.specs.Showing.{Reading, ShowsOffice}
 use Rattle.store.proofs.Lawful.{lawful_after}
 
--- this of the state after a history, and of what is kept with it
+-- `P` of the state after a history and its stored requests
 abbrev pub At : {X : Type 0} → (State → List Kept → X → Type 0) → Opening → List Arrival → X → Type 0
 At P o l x = P (state o l) (kept_by (first_accepted o l)) x
 
--- what is shown of each lawful state of a history is shown of each office
+-- what holds of each valid state of a history holds of each office
 pub shows_of_history : {X : Type 0} (P : State → List Kept → X → Type 0) (old new : Connection) (r : Result X Fault)
     → Shows (λ s kept x. IsOfHistory s kept → P s kept x) old new r → ShowsOffice P old new r
 shows_of_history P old new (Ok x) shows = λ o l history means.
@@ -39,16 +39,16 @@ shows_of_history P old new (Ok x) shows = λ o l history means.
 shows_of_history P old new (Err f) shows = λ o l history means.
     shows (state o l) (kept_by (first_accepted o l)) (lawful_after o l history) means
 
--- so is what is shown of each lawful state
+-- so does what holds of each valid state
 pub shows_office : {X : Type 0} (P : State → List Kept → X → Type 0) (old new : Connection) (r : Result X Fault)
     → Shows P old new r → ShowsOffice P old new r
 shows_office P old new r shows =
     shows_of_history P old new r (shows_weaker P (λ s kept x. IsOfHistory s kept → P s kept x) old new r
     (λ s kept x lawful p of. p) shows)
 
--- ---- all that is said of a reading call
+-- ---- the whole contract of a reading call
 
--- a call on lawful states, and on those of a history
+-- a call specified for valid states, or for those of a history
 module _ {X : Type 0} {P : State → List Kept → X → Type 0} {old new : Connection} {r : Result X Fault} where
   pub of_state : Asking (Unit {0}) P old new r → Reading P old new r
   of_state asks = record {
@@ -64,7 +64,7 @@ module _ {X : Type 0} {P : State → List Kept → X → Type 0} {old new : Conn
     survives = asks.survives;
   }
 
--- the fault of a call, as it is handed on
+-- the fault of a call, passed on
 pub reading_failed : {X Y : Type 0} {First : State → List Kept → X → Type 0} {Whole : State → List Kept → Y → Type 0}
     {a b : Connection} {f : Fault} {r : Result Y Fault} → Reading First a b (Err f) → IsErrAnd r (λ e. e ≡ f)
     → Reading Whole a b r
@@ -72,7 +72,7 @@ reading_failed {r = r} one told =
     let p = err_from_is_err_and r told in
     rw (p.1, p.2) (record { shows = one.shows; reads = one.reads; survives = one.survives })
 
--- ---- what comes after a call that changed nothing
+-- ---- steps after a call that changed nothing
 
 pub still_means : (a b : Connection) (o : Opening) (l : List Arrival) → IsUnchanged a b
     → Means a.now (office_contents o l) → Means b.now (office_contents o l)
@@ -80,7 +80,7 @@ still_means a b o l same means = subst (λ (d : Database). Means d (office_conte
 
 module _ {X Y : Type 0} {First : State → List Kept → X → Type 0} {a b : Connection} {x : X}
     (one : Reading First a b (Ok x)) (Whole : State → List Kept → Y → Type 0) where
-  -- another call, which shows something of the same tables
+  -- another call, which reads the same tables
   pub and_then : {Rest : State → List Kept → Y → Type 0} {c : Connection} {r : Result Y Fault} → Reading Rest b c r
       → ((o : Opening) (l : List Arrival) (y : Y) → IsHistory o l → At First o l x → At Rest o l y → At Whole o l y)
       → Reading Whole a c r
@@ -102,7 +102,7 @@ module _ {X Y : Type 0} {First : State → List Kept → X → Type 0} {a b : Co
           let q = rest o l history (still_means a b o l p.1 means) in
           (stops_then a b c p.1 q.0, cause_then a b c f Never one.survives p.1.0.is_open q.1)
 
-  -- what is made of its answer
+  -- a value computed from its answer
   pub and_shown : (y : Y) → ((o : Opening) (l : List Arrival) → IsHistory o l → At First o l x → At Whole o l y)
       → Reading Whole a b (Ok y)
   and_shown y both = record {
@@ -111,7 +111,7 @@ module _ {X Y : Type 0} {First : State → List Kept → X → Type 0} {a b : Co
     survives = one.survives;
   }
 
-  -- what is made of its answer, if memory allows
+  -- a value computed from its answer, if memory allows
   pub and_made : (Made : Y → Type 0) (m : Result Y Refusal) (r : Result Y Fault) → r ≡ made m → IfOk m Made
       → ((o : Opening) (l : List Arrival) (y : Y) → IsHistory o l → At First o l x → Made y → At Whole o l y)
       → Reading Whole a b r

@@ -1,4 +1,4 @@
--- The runs of a set ascend.
+-- The runs (maximal ranges) of a set ascend.
 use Rattle.std.proofs.Common.{◌≡◌, ℕ, zero, suc, ◌+◌, ◌<◌, ◌≤◌, ◌^◌, List, [], ◌∷◌, map, Bool, Less, nat_cmp, sym}
 use Rattle.std.proofs.Common.{arith, inl, inr}
 use Rattle.std.specs.List.{AllByRecursion}

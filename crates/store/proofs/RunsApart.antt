@@ -1,4 +1,4 @@
--- Runs of which no two overlap or touch, by their rows.
+-- Rows of runs (maximal ranges) of which no two overlap or touch.
 use Rattle.std.proofs.Common.{◌≡◌, arith, ℕ, ◌+◌, ◌<◌, ◌≤◌, inl, inr, List, [], ◌∷◌, map, refl}
 use Rattle.krl.specs.declared.run.Run.{Run}
 use Rattle.krl.specs.Sets.{AreRunsFrom}
@@ -6,7 +6,7 @@ use Rattle.store_sql.specs.declared.runs.RunRow.{RunRow}
 use Rattle.store_sql.proofs.LastRun.{Has}
 use Rattle.store.specs.Rows.{run_row}
 
--- each has a serial, and of two the one that begins earlier ends with no serial next to the other
+-- each contains a serial, and no two different ones overlap or touch
 abbrev pub AreApart : List RunRow → Type 0
 AreApart rows = (r x : RunRow) → Has rows r → Has rows x
     → (r.lo ≤ r.hi) × (r.lo < x.lo → r.hi + 1 < x.lo) × (r.lo ≡ x.lo → r ≡ x)

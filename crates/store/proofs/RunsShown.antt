@@ -1,4 +1,4 @@
--- The runs of the revoked serials, as rows show them.
+-- The runs (maximal ranges) of the revoked serials, as the rows show them.
 use Rattle.std.proofs.Common.{◌≡◌, ℕ, ◌+◌, ◌<◌, ◌≤◌, inl, List, length, map, ◌^◌, Option, Bool, true, false, ◌&&◌}
 use Rattle.std.proofs.Common.{Ok, Err, Result, refl, sym, ap, ◌∙◌, arith, IsPermutation, IsTrue}
 use Rattle.std.specs.Prelude.{◌↔◌, IsSortedByKey}
@@ -56,20 +56,20 @@ shows_every old new rows (Err Damaged) finds sorted read = λ s kept lawful mean
     absurd (read (rw (found_runs s rows f.1 (sorted (contents_of s kept) means)) (revoked_rise s)))
 shows_every old new rows (Err Device) finds sorted read = absurd read
 
--- ---- the serials in them
+-- ---- the serials in the runs
 
 counted : (first count n : ℕ) (b : Bool) → (b ≡ true → (first ≤ n) × (n < first + count))
     → (is_counted first count n && b) ≡ b
 counted first count n true is = let p = is refl in rw (are_counted first count n p.0 p.1) refl
 counted first count n false is = and-false (is_counted first count n)
 
--- so many serials are of 64 bits
+-- the issued serials fit in 64 bits
 are_few : (s : State) (kept : List Kept) → IsLawful s → IsOfHistory s kept
     → s.opening.first + length s.certificates ≤ 2 ^ 64
 are_few s kept lawful history =
     omega (arith, (serials_within s.opening.first s.opening.last lawful.opening.serials).1, history.range)
 
--- just the revoked serials, where only issued ones are revoked
+-- exactly the revoked serials, if only issued ones are revoked
 pub revoked_in : (s : State) (kept : List Kept) → IsLawful s → IsOfHistory s kept → (n : ℕ)
     → contains (revoked_runs s) n ≡ s.revoked n
 revoked_in s kept lawful history n =
@@ -83,9 +83,9 @@ are_revoked_runs s kept runs lawful is = record {
   serials = λ history n. ap (λ (l : List Run). contains l n) is ∙ revoked_in s kept lawful history n;
 }
 
--- ---- an interval of them
+-- ---- an interval of serials
 
--- where the last run that begins with a serial or before it ends with another or after it, each between them is revoked
+-- the last run that begins at or before `lo` ends at or after `hi` if and only if all serials between them are revoked
 pub all_reached : (s : State) (kept : List Kept) (lo hi : ℕ) (found : Option RunRow) → lo ≤ hi → IsLawful s
     → IsOfHistory s kept → found ≡ last_run lo (contents_of s kept)
     → (IsTrue (reaches found hi) ↔ HasAll s.revoked lo hi)

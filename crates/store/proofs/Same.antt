@@ -1,4 +1,4 @@
--- The order of structs is nothing to the tables that hold them.
+-- The order of rows doesn't matter to the tables that hold them.
 use Rattle.std.proofs.Common.{ℕ, List, map, IsPermutation}
 use Rattle.std.proofs.lemmas.List.Sorted.{IsPermutation-map, IsPermutation-sym, IsPermutation-trans}
 use Rattle.sqlite.specs.Order.{Row}
@@ -8,7 +8,7 @@ use Rattle.store_sql.specs.Cells.{ca_cells}
 use Rattle.store_sql.specs.Contents.{Contents, Lists, Means, at_places, office_places, department_places, cert_places}
 use Rattle.store_sql.specs.Contents.{request_places, run_places, key_id_places, ca_places}
 
--- the same structs in each table, in some order
+-- the same rows in each table, in some order
 pub record IsSame (c d : Contents) : Type 0 where
   pub offices : IsPermutation c.offices d.offices
   pub departments : IsPermutation c.departments d.departments

@@ -14,7 +14,7 @@ use Rattle.store_sql.specs.Changes.{has_serial, signed}
 use Rattle.store.specs.Certificates.{AreCounted}
 use Rattle.store.specs.Rows.{ca_row, ca_rows, cert_row}
 
--- an element at the end, put in front
+-- an element at the end, moved to the front
 pub to_front : {X Y : Type 0} (f : X → Y) (x : X) (xs : List X) → IsPermutation (f x ∷ map f xs) (map f (xs ++ x ∷ []))
 to_front f x xs = rw (map-append f xs (x ∷ [])) (IsPermutation-sym _ _ (IsPermutation-to_front (map f xs) (f x)))
 

@@ -1,4 +1,4 @@
--- The CAs of an office serve from serials on that don't descend.
+-- The CAs of an office serve from serials that don't descend.
 use Rattle.std.proofs.Common.{◌≡◌, ℕ, ◌-◌, ◌≤◌, List, [], ◌∷◌, ◌++◌, length, Option, Some, None, refl, sym, ap, subst}
 use Rattle.std.proofs.Common.{◌∙◌, arith, length-append}
 use Rattle.std.specs.Prelude.{All}
@@ -26,7 +26,7 @@ use Rattle.store.specs.Showing.{ShowsOffice}
 use Rattle.office.proofs.Histories.{IsKept, holds_after}
 use Rattle.store.proofs.Lawful.{of_either}
 
--- none serves from an earlier serial than the one before it, nor from one that isn't handed out next or was before
+-- none serves from an earlier serial than the one before it, nor from a serial after the next one to be issued
 pub record AreServing (s : State) : Type 0 where
   pub ascending : IsNonDecreasing (numbers s.cas)
   pub served : All (λ n. n ≤ next_serial s) (numbers s.cas)
@@ -42,7 +42,7 @@ one_more_serving s None h = h
 one_more_serving s (Some c) h =
     serving_still s (with_one_more s (Some c)) refl (omega (arith, length-append s.certificates (c ∷ []))) h
 
--- one more from now on
+-- one more CA, from the next serial on
 ca_serving : (s : State) (key : List ℕ) → AreServing s → AreServing (with_ca s (ca_from_now s key))
 ca_serving s key h =
     let ca = ca_from_now s key in
@@ -77,7 +77,7 @@ pub serving_after : (o : Opening) (l : List Arrival) → AreServing (state o l)
 serving_after o l =
     holds_after AreServing keeps_serving o l (record { ascending = grind arith; served = grind arith })
 
--- ---- CAs that are read
+-- ---- CAs read from the tables
 
 -- an office's CAs are in order
 pub shows_ordered : (old new : Connection) (cas : Vec Ca Global) (r : Result (Vec Ca Global) Fault) → AreOrdered cas r

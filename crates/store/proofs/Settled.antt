@@ -1,4 +1,4 @@
--- What is answered inside a transaction, part by part.
+-- Answers inside a transaction, part by part.
 use Rattle.std.proofs.Common.{◌≡◌, List, true, false, Some, None, refl, ap, ◌∙◌, ℕ, [], ◌∷◌, ◌++◌, length, Bool, Ok}
 use Rattle.std.proofs.Common.{Err, Result, IsTrue, sym, ap₂, subst, arith}
 use Rattle.std.specs.Prelude.{find, is_some, IsErrAnd}
@@ -50,13 +50,13 @@ use Rattle.store.proofs.Showing.{survives_still}
 use Rattle.store.specs.Showing.{Reading}
 use Rattle.store.specs.ShowingRows.{Asking}
 
--- ---- one arrival more
+-- ---- one more received request
 
--- the office after a history shows it
+-- the office after a history has this state and these stored requests
 pub shown_at : (p : Past) → IsHistory p.0 p.1 → Shows (state_at p) (kept_at p) p.0 p.1
 shown_at p h = record { lawful = h.office.opening; version = h.office.version; is_state = refl; is_kept = refl }
 
--- the history with the arrival is one
+-- the history with the request is a history
 pub goes_on : (a : Arrival) (p : Past) (s : State) (kept : List Kept) → length a.nonce ≡ 32 → IsHistory p.0 p.1
     → Shows s kept p.0 (p.1 ++ a ∷ []) → IsHistory p.0 (p.1 ++ a ∷ [])
 goes_on a p s kept size h shows = record {
@@ -64,12 +64,12 @@ goes_on a p s kept size h shows = record {
   nonces = all_more (λ (x : Arrival). length x.nonce ≡ 32) p.1 a h.nonces size;
 }
 
--- its rows are those that are shown
+-- the office's rows after the request are those of this state
 pub rows_with : (a : Arrival) (p : Past) (s : State) (kept : List Kept) → Shows s kept p.0 (p.1 ++ a ∷ [])
     → contents_of s kept ≡ contents_with a p
 rows_with a p s kept shows = ap₂ (λ (t : State) (ks : List Kept). contents_of t ks) shows.is_state shows.is_kept
 
--- ---- the kept request of its caller and its key
+-- ---- the stored request with its caller and request ID
 
 module _ (a : Arrival) (kept : List Kept) where
   pub unknown_found : find (is_kept_for a.caller a.key) kept ≡ None → list_any (has_key a) kept ≡ false
@@ -78,7 +78,7 @@ module _ (a : Arrival) (kept : List Kept) where
   pub known_found : (k : Kept) → find (is_kept_for a.caller a.key) kept ≡ Some k → list_any (has_key a) kept ≡ true
   known_found k is = known_by_kept a kept ∙ ap is_some is
 
-  -- no request: it is no repeat
+  -- no such request: it is no repeat
   pub repeat_unknown : find (is_kept_for a.caller a.key) kept ≡ None → reply_kept kept a ≡ None
   repeat_unknown is = no_repeat a kept (unknown_found is)
 
@@ -87,14 +87,14 @@ module _ (a : Arrival) (kept : List Kept) where
       → bytes_eq k.bytes a.bytes ≡ true → reply_kept kept a ≡ Some k.reply
   repeat_found k apart is same = reply_by_kept a kept apart ∙ ap (reply_of a) is ∙ rw same refl
 
-  -- other bytes: it is none
+  -- other bytes: it is no repeat
   pub repeat_other : (k : Kept) → AreApart kept → find (is_kept_for a.caller a.key) kept ≡ Some k
       → bytes_eq k.bytes a.bytes ≡ false → reply_kept kept a ≡ None
   repeat_other k apart is differs = reply_by_kept a kept apart ∙ ap (reply_of a) is ∙ rw differs refl
 
 -- ---- answers that change nothing
 
--- the outcome is due, and leaves the office as it was
+-- the outcome is the specified one, and the office is as it was
 abbrev pub IsStill : Arrival → Outcome → Past → Type 0
 IsStill a outcome p = (outcome ≡ due p.0 p.1 a) × Shows (state_at p) (kept_at p) p.0 (p.1 ++ a ∷ [])
 
@@ -117,12 +117,12 @@ settles_still a Known c outcome size is_open same = λ p after.
 pub settles_not : (a : Arrival) (Known : Past → Type 0) (c : Connection) (f : Fault) → Settles a Known c c (Err f)
 settles_not a Known c f = λ p after inside. record { was_open = λ still. still; committed = λ _. refl }
 
--- a repeat is due the reply that is kept
+-- the specified answer to a repeat is the stored reply
 pub repeated_still : (a : Arrival) (p : Past) (r : List ℕ) → IsHistory p.0 p.1 → reply_kept (kept_at p) a ≡ Some r
     → IsStill a (outcome.Repeated r) p
 repeated_still a p r h known = shows_repeated (state_at p) (kept_at p) p.0 p.1 a r known (shown_at p h)
 
--- a refusal that is judged is due
+-- the refusal of the reference model is the specified answer
 refused_still : (a : Arrival) (p : Past) (r : Refusal) → IsHistory p.0 p.1 → reply_kept (kept_at p) a ≡ None
     → judged (state_at p) (kept_at p) a ≡ Err r → IsStill a (outcome.Refused r) p
 refused_still a p r h new is = shows_refused (state_at p) (kept_at p) p.0 p.1 a r new is (shown_at p h)
@@ -147,7 +147,7 @@ step_refused p a m r is refused =
     let unknown = is.unknown in
     rw (message, in_time, unknown, refused) refl
 
--- ---- all that is said of a part
+-- ---- the whole contract of a part
 
 -- a part that answers without a change
 pub settling_still : {a : Arrival} {Known : Past → Type 0} {c : Connection} {x : Outcome}
@@ -159,7 +159,7 @@ settling_still {Known = Known} {c = c} settles = record {
   survives = survives_still c (Waits (IsAfter Known) c);
 }
 
--- a part that fails for want of memory, before it does anything
+-- a part that fails for lack of memory, before it does anything
 pub settling_not : {Given : Type 0} {a : Arrival} {Known : Past → Type 0} {c : Connection}
     → Settling Given a Known c c (Err NoMemory)
 settling_not {a = a} {Known = Known} {c = c} = record {
@@ -169,7 +169,7 @@ settling_not {a = a} {Known = Known} {c = c} = record {
   survives = survives_still c (Waits (IsAfter Known) c);
 }
 
--- a part that asks for no open connection
+-- a part that works without an open connection works with one
 pub settling_open : {Given : Type 0} {a : Arrival} {Known : Past → Type 0} {old new : Connection}
     {r : Result Outcome Fault} → Settling (Unit {0}) a Known old new r → Settling Given a Known old new r
 settling_open part = record {
@@ -193,7 +193,7 @@ stopped_settles a m Known c s r is size new decided =
         (λ p h known. refused_still a p x h (new p known).new (step_refused p a m x (new p known) (decided p known))))
     go stop.NoMemory decided = settling_not
 
--- what is known says less
+-- the same part, given more knowledge
 pub settling_weaker : {Asked : Type 0} {a : Arrival} {Known Later : Past → Type 0} {old new : Connection}
     {r : Result Outcome Fault} → ((p : Past) → IsHistory p.0 p.1 → Known p → Later p)
     → Settling Asked a Later old new r → Settling Asked a Known old new r
@@ -220,12 +220,12 @@ settling_weaker {Asked} {a} {Known} {Later} {old} {new} {r} less part = record {
 waits_never : (Known : Past → Type 0) (a b : Connection) → Survives a b Never → Survives a b (Waits (IsAfter Known) a)
 waits_never Known a b one = survives_weaker a b Never (Waits (IsAfter Known) a) (λ clean trees h. absurd h) one
 
--- ---- a reading call, and then the rest
+-- ---- a reading call, and then the other parts
 
 module _ {X : Type 0} {First : State → List Kept → X → Type 0} {a b : Connection} {x : X} (one : Reading First a b (Ok x))
     {Known Later : Past → Type 0}
     (both : (p : Past) → IsHistory p.0 p.1 → Known p → First (state_at p) (kept_at p) x → Later p) where
-  -- the connection is open then
+  -- the connection is open after it
   abbrev IsOpenAfter : Past → Database → Type 0
   IsOpenAfter p db = IsAfter Later p db × IsTrue b.is_open
 

@@ -1,4 +1,4 @@
--- Rows that are never too long: those of an office, of its first CA, and of a key id.
+-- Rows that are never too long: those of an office, of its first CA, and of a key ID.
 use Rattle.std.proofs.Common.{◌≡◌, inl, inr, ℕ, ◌≤◌, List, length, drop, true, subst, arith}
 use Rattle.std.specs.Prelude.{nat_le}
 use Rattle.std.proofs.lemmas.List.{length-drop}
@@ -35,7 +35,7 @@ name_short t is =
     leb-true (length t) 32 (and_parts (nat_le 1 (length t)) (nat_le (length t) 32)
     (and_parts (has_size 1 32 t) (list_all is_name_byte t) is).0).1
 
--- the key blob of a lawful opening, and its names
+-- the key blob of a valid initial configuration, and its names
 short : (o : Opening) → IsOpening o
     → (length (key_blob o.ca) ≤ 51) × (length o.root ≤ 32) × (length o.station ≤ 32)
 short o is = (omega (arith, length-key_blob o.ca, is.ca), name_short o.root is.root, name_short o.station is.station)
@@ -49,14 +49,14 @@ counters_fit k s kept lawful (o, inl same, (id, long)) =
     omega (arith, long_row, short s.opening lawful.opening)
 counters_fit k s kept lawful (o, inr none, rest) = none
 
--- so does what an office begins with
+-- so do the rows of an initial configuration
 pub opening_fits : (o : Opening) → IsOpening o → RefusesOpening o → ⊥
 opening_fits o is (inl (inl (p, none, same))) = none
 opening_fits o is (inl (inr long)) = omega (arith, long, short o is)
 opening_fits o is (inr (inl (c, none, same))) = none
 opening_fits o is (inr (inr long)) = omega (arith, long, short o is)
 
--- in a file of schema 1 CA 1 is refused nothing
+-- CA 1 is never refused in a file of schema 1
 pub first_ca_fits : (o : Opening) (l : List Arrival) → IsHistory o l → RefusesFirstCa (former_contents o l) → ⊥
 first_ca_fits o l history (ca, is, why) =
     let s = state_at (o, l) in
@@ -76,7 +76,7 @@ first_ca_fits o l history (ca, is, why) =
       | inr (r, inr none, rest) ↦ none
     ]
 
--- ---- a key id
+-- ---- a key ID
 
 pub key_id_short : (t : List ℕ) → is_key_id t ≡ true → IsTooLong (key_id_cells t) → ⊥
 key_id_short t is long =

@@ -18,7 +18,7 @@ use Rattle.store.specs.Lawful.{IsLawful}
 use Rattle.store.specs.Rows.{contents_of}
 use Rattle.store.specs.ShowingRows.{Asking, Shows}
 
--- what is shown says less
+-- a weaker claim about the answer
 pub shows_weaker : {X : Type 0} (P Q : State → List Kept → X → Type 0) (old new : Connection) (r : Result X Fault)
     → ((s : State) (kept : List Kept) (x : X) → IsLawful s → P s kept x → Q s kept x) → Shows P old new r
     → Shows Q old new r
@@ -32,7 +32,7 @@ still_means : (a b : Connection) (s : State) (kept : List Kept) → IsUnchanged 
     → Means b.now (contents_of s kept)
 still_means a b s kept same means = subst (λ (d : Database). Means d (contents_of s kept)) (sym same.0.now_is) means
 
--- what is shown first, and what is shown then of the same tables, which are open
+-- a call, and then another on the same tables, which are open
 pub shows_then : {X Y : Type 0} (First : State → List Kept → X → Type 0) (Rest Whole : State → List Kept → Y → Type 0)
     (a b c : Connection) (x : X) (r : Result Y Fault) (P : Trees → Type 0) → Survives a b P
     → ((s : State) (kept : List Kept) (y : Y) → IsLawful s → First s kept x → Rest s kept y → Whole s kept y)
@@ -58,10 +58,10 @@ survives_still a P = record {
   crash = λ clean trees h. inl h;
 }
 
--- ---- all that a call does that reads rows
+-- ---- the whole contract of a call that reads rows
 
 module _ {X Given : Type 0} {P : State → List Kept → X → Type 0} {a b : Connection} where
-  -- more is given, and what is shown says less
+  -- a weaker claim about the answer, under a stronger condition
   pub asks_weaker : {More : Type 0} {Q : State → List Kept → X → Type 0} {r : Result X Fault} → Asking Given P a b r
       → (More → Given) → ((s : State) (kept : List Kept) (x : X) → IsLawful s → P s kept x → Q s kept x)
       → Asking More Q a b r
@@ -71,7 +71,7 @@ module _ {X Given : Type 0} {P : State → List Kept → X → Type 0} {a b : Co
     survives = asks.survives;
   }
 
-  -- what is made of its answer
+  -- a value computed from its answer
   pub asks_shown : {Y : Type 0} {Q : State → List Kept → Y → Type 0} {x : X} {y : Y} → Asking Given P a b (Ok x)
       → ((s : State) (kept : List Kept) → IsLawful s → P s kept x → Q s kept y) → Asking Given Q a b (Ok y)
   asks_shown asks shown = record {
@@ -81,14 +81,14 @@ module _ {X Given : Type 0} {P : State → List Kept → X → Type 0} {a b : Co
     survives = asks.survives;
   }
 
-  -- its fault, as it is handed on
+  -- its fault, passed on
   pub asks_failed : {Y : Type 0} {Q : State → List Kept → Y → Type 0} {f : Fault} {r : Result Y Fault}
       → Asking Given P a b (Err f) → IsErrAnd r (λ e. e ≡ f) → Asking Given Q a b r
   asks_failed {r = r} asks told =
       let p = err_from_is_err_and r told in
       rw (p.1, p.2) (record { shows = asks.shows; reads = asks.reads; survives = asks.survives })
 
-  -- another call, which asks for an open connection and gives the whole
+  -- another call, which needs an open connection and completes the answer
   pub asks_both : {Y : Type 0} {Rest Whole : State → List Kept → Y → Type 0} {c : Connection} {x : X}
       {r : Result Y Fault} → Asking Given P a b (Ok x) → Asking (IsTrue b.is_open) Rest b c r
       → ((s : State) (kept : List Kept) (y : Y) → IsLawful s → P s kept x → Rest s kept y → Whole s kept y)

@@ -1,4 +1,4 @@
--- Rows that are found in order are those of the state, and so are their values.
+-- Rows found in order are those of the state, and so are their values.
 use Rattle.std.proofs.Common.{◌≡◌, ℕ, inl, List, Option, Some, None, Ok, Err, Result, refl, sym, ap, subst, ◌∙◌}
 use Rattle.std.proofs.Common.{Ordering, Less, IsPermutation}
 use Rattle.std.specs.Prelude.{Vec, IsErrAnd, IsSortedByKey}
@@ -24,7 +24,7 @@ use Rattle.store.specs.Reading.{IsRead, each, vec_of}
 use Rattle.store.specs.Rows.{contents_of}
 use Rattle.store.specs.ShowingRows.{Asking, Shows}
 
--- what is made of an answer changes nothing either
+-- computing a value from an answer changes nothing either
 pub asked : {X : Type 0} (old new : Connection) → IsUnchanged old new → (r : Result X Fault) → OnlyReads old new r
 asked old new same (Ok x) = same
 asked old new same (Err f) = (inl same, λ _. same)
@@ -52,7 +52,7 @@ rows_failed {r = r} survives reads cause told =
       survives = survives;
     })
 
--- what is read is shown, where of a lawful state there is something to read, of which this holds
+-- the value read is shown, if every valid state has such a value, and `Shown` holds of it
 pub shows_read : {X : Type 0} (Shown : State → List Kept → X → Type 0) (old new : Connection) (value : Option X)
     (r : Result X Fault) → ((s : State) (kept : List Kept) → IsLawful s → Means old.now (contents_of s kept)
     → IsUnchanged old new × ((x : X) × (value ≡ Some x) × Shown s kept x)) → IsRead value r → Shows Shown old new r
@@ -90,7 +90,7 @@ module _ {R X K : Type 0} (value : R → Option X) (of : Contents → List R) (k
       of_items (Ok xs) shows = shows
       of_items (Err f) shows = shows
 
--- ---- key ids
+-- ---- key IDs
 
 pub shows_key_ids : (old new : Connection) (r : Result (Vec (List ℕ) Global) Fault)
     → Finds (λ k. k.revoked) old new r → Rises (λ k. k) (slice_cmp nat_cmp) old new r → FailsBy HasCause old new r

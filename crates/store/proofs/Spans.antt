@@ -1,4 +1,4 @@
--- The runs that touch or overlap an interval are one with it.
+-- The runs (maximal ranges) that touch or overlap an interval are merged with it.
 use Rattle.std.proofs.Common.{◌≡◌, ℕ, ◌+◌, ◌-◌, ◌<◌, ◌≤◌, List, [], ◌∷◌, Bool, true}
 use Rattle.std.proofs.Common.{false, ◌&&◌, refl, ap, arith, inl, inr, IsPermutation}
 use Rattle.std.specs.Prelude.{nat_le, not, min, max, filter}
@@ -10,14 +10,14 @@ use Rattle.krl.specs.declared.run.Run.{Run}
 use Rattle.krl.specs.Sets.{AreRunsFrom}
 use Rattle.krl.proofs.Joining.{joined}
 
--- the run ends at the serial below the interval or later, and begins at the one above it or earlier
+-- the run overlaps or touches the interval
 abbrev pub is_near : ℕ → ℕ → Run → Bool
 is_near lo hi r = nat_le (lo - 1) r.hi && nat_le r.lo (hi + 1)
 
 abbrev pub is_far : ℕ → ℕ → Run → Bool
 is_far lo hi r = not (is_near lo hi r)
 
--- from the least serial up to the greatest
+-- from the least start up to the greatest end
 abbrev pub span : ℕ → ℕ → List Run → Run
 span lo hi [] = record { lo = lo; hi = hi }
 span lo hi (r ∷ rs) = span (min lo r.lo) (max hi r.hi) rs
@@ -40,14 +40,14 @@ none_near lo hi from (r ∷ rs) lt h =
     let off = above lo hi r (omega (arith, h.0)) in
     (rw off later.0, rw off (ap (λ (xs : List Run). r ∷ xs) later.1))
 
--- a run that is carried along those above it stays as it is
+-- a run merged into the runs above it stays as it is
 carried : (r : Run) (rs : List Run) → r.lo ≤ r.hi → AreRunsFrom (r.hi + 2) rs → joined r.lo r.hi rs ≡ r ∷ rs
 carried r [] le h = refl
 carried r (s ∷ rs) le h =
     rw (le-ltb (s.hi + 1) r.lo (omega (arith, h.0, h.1)), lt-ltb (r.hi + 1) s.lo (omega (arith, h.0)))
     (ap (λ (xs : List Run). r ∷ xs) (carried s rs h.1 h.3))
 
--- once the interval has grown over a run that ends at p
+-- the joined runs, once the interval has absorbed a run that ends at p
 grown : (lo hi a b p : ℕ) (rs : List Run) → 1 ≤ lo → lo ≤ p + 1 → a ≤ lo → b ≡ max hi p → a ≤ b → AreRunsFrom (p + 2) rs
     → joined a b rs ≡ span a b (filter (is_near lo hi) rs) ∷ filter (is_far lo hi) rs
 grown lo hi a b p [] low over first last le h = refl
@@ -68,12 +68,12 @@ grown lo hi a b p (r ∷ rs) low over first last le h = elim (cases_lt (hi + 1) 
       (omega (arith, h.1)) h.3)
 ]
 
--- an element behind the first
+-- an element after the first
 pub moved : {X : Type 0} (x y : X) (xs zs : List X) → IsPermutation (x ∷ xs) zs → IsPermutation (x ∷ y ∷ xs) (y ∷ zs)
 moved x y xs zs h =
     IsPermutation-trans _ (y ∷ x ∷ xs) _ (IsPermutation-middle (x ∷ []) y xs) (IsPermutation-cons y (x ∷ xs) zs h)
 
--- the runs that are far, and the near ones as one with the interval, are the runs joined by the interval
+-- the far runs, and the near ones merged with the interval, are the runs that `joined` returns
 pub spanned : (lo hi from : ℕ) (rs : List Run) → 1 ≤ lo → lo ≤ hi → AreRunsFrom from rs
     → IsPermutation (span lo hi (filter (is_near lo hi) rs) ∷ filter (is_far lo hi) rs) (joined lo hi rs)
 spanned lo hi from [] low le h = IsPermutation-refl _

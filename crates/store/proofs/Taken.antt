@@ -1,4 +1,4 @@
--- What an arrival leaves of what the tables tell.
+-- The histories that tables represent after a received request.
 use Rattle.std.proofs.Common.{◌≡◌, inl, inr, List, [], ◌∷◌, ◌++◌, Ok, Err, Result, IsTrue, sym}
 use Rattle.std.proofs.Common.{subst, ◌∙◌, arith}
 use Rattle.std.specs.Prelude.{IfErr, IfOk, OnErr, OnOk}
@@ -18,7 +18,7 @@ use Rattle.store.specs.Meaning.{Tells}
 use Rattle.store.specs.Arriving.{IsAfter, IsAnswered, IsAny, IsCaused, IsStopped, contents_with}
 use Rattle.store.proofs.Telling.{disk_failed, left_committed}
 
--- what is promised of a call that takes an arrival
+-- the contract of a call that processes a received request
 pub record Applied (a : Arrival) (old new : Connection) (q : Result Outcome StoreFault) : Type 0 where
   pub honest : HasCleanDisk new → HasCleanDisk old
   pub was_open : HasCleanDisk new → IsTrue new.is_open → IsTrue old.is_open
@@ -43,7 +43,7 @@ rests_of s o l tells is_open =
     }
 
 module _ (a : Arrival) (old new : Connection) where
-  -- a failure is told where there was one, or where what is decided was refused
+  -- a reported failure is a failure of the disk, or a refusal of the decision's rows
   caused : (f : Fault) → (HasCleanDisk new → IsCaused a old new f) → HasCause (fault_of f) (IsStopped old new a)
   caused NoMemory cause = tt
   caused Damaged cause = tt
@@ -52,7 +52,7 @@ module _ (a : Arrival) (old new : Connection) where
     | inr more ↦ inr more
   ]
 
-  -- nothing else is told but want of memory and a failure
+  -- lack of memory and a failure are the only faults
   of_a_register : (f : Fault) → IsCaused a old new f → (o : Opening) (l : List Arrival) → Tells old o l
       → IsOfARegister (fault_of f)
   of_a_register NoMemory cause o l tells = tt
@@ -97,7 +97,7 @@ module _ (a : Arrival) (old new : Connection) where
         stays_open = λ clean. tt;
         due = λ clean. tt;
         next = λ clean. tt;
-        -- the history as before
+        -- the history is as before
         fault = λ clean o l tells. record {
           history = tells.history;
           unlimited = survives.limit ∙ tells.unlimited;

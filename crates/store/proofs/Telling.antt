@@ -1,4 +1,4 @@
--- What a call leaves of what the tables tell.
+-- The histories that tables represent after a call.
 use Rattle.std.proofs.Common.{◌≡◌, inl, inr, ℕ, true, false, IsTrue, Option, None, sym, ap, subst, ◌∙◌}
 use Rattle.std.specs.Prelude.{List, is_some}
 use Rattle.sqlite.specs.Tree.{Trees}
@@ -12,7 +12,7 @@ use Rattle.store.specs.Transactions.{Has, Rests}
 use Rattle.store.specs.Rows.{office_contents}
 use Rattle.store.specs.Meaning.{DiskFailed, IsLeft, KeepsTelling, Tells}
 
--- where no query has a limit on its steps, only a disk fails
+-- if no query has a limit on its steps, only a disk fails
 pub disk_failed : (old new : State) → old.step_limit ≡ None → HasFailed old new → DiskFailed old new
 disk_failed old new unlimited (inl more) = inl more
 disk_failed old new unlimited (inr (inl shut)) = inr shut
@@ -40,7 +40,7 @@ rests_still c a b (inr back) still =
       },
     )
 
--- a call that leaves tables with contents as they are
+-- a call that leaves the tables as they are
 pub tells_still : (old new : State) → Survives old new Never → HasCleanDisk new → Fails old new → (o : Opening)
     (l : List Arrival) → Tells old o l → Tells new o l
 tells_still old new survives clean fails o l tells = record {
@@ -55,7 +55,7 @@ tells_still old new survives clean fails o l tells = record {
   ];
 }
 
--- a call that commits nothing over a connection that was shut, and leaves what an open one tells
+-- a call that commits nothing over a closed connection, and leaves what an open one represents
 pub keeps_telling : (old new : State) (Commits : Trees → Type 0) → HasCleanDisk new → Survives old new Commits
     → (IsTrue new.is_open → IsTrue old.is_open) → ((trees : Trees) → Commits trees → IsTrue old.is_open)
     → ((o : Opening) (l : List Arrival) → Tells old o l → IsTrue old.is_open → Tells new o l) → KeepsTelling old new
@@ -69,7 +69,7 @@ keeps_telling old new Commits clean survives was commits same o l tells = record
   ];
 }
 
--- what is open leaves what is committed
+-- if a crash leaves only the committed tables, it leaves the history's rows
 pub left_committed : (s : State) (o : Opening) (l : List Arrival)
     → ((trees : Trees) → s.may_leave trees → trees ≡ s.committed.trees) → Rests (Has (office_contents o l)) s
     → (trees : Trees) → s.may_leave trees → IsLeft o l trees

@@ -27,7 +27,7 @@ written {f = f} {old = old} {new = new} {r = r} w = record {
   survives = waits f old new w.survives;
 }
 
--- a part that fails, of which this is the first step
+-- a part whose first step fails
 pub stopped_first : {X Y : Type 0} {f g : Contents → Contents} {early refused : Contents → Type 0} {old new : State}
     {e : Fault} → Part {X = Y} Has f early old new (Err e) → ((d : Contents) → early d → refused d)
     → Part {X = X} Has g refused old new (Err e)
@@ -59,7 +59,7 @@ makes_next next f g a b c (Ok v) leads rest is = λ d means.
 makes_next next f g a b c (Err e) leads rest is = λ d means.
     let m = leads d means in stops_then a b c m.0 m.1 (rest m.1.is_open (next d) m.2)
 
--- what is done leads to another part, which asks for an open connection
+-- a part that succeeds, and then one that needs an open connection
 pub part_then : {X : Type 0} (next f g : Contents → Contents) (late refused : Contents → Type 0) (a b c : State)
     (r : Result X Fault) → (HasCleanDisk b → Leads Has Has next a b)
     → (HasCleanDisk b → Stays {X = Unit {0}} {E = Fault} a b (Ok tt)) → Survives a b (Waits Has a)
@@ -89,7 +89,7 @@ written_then {f = f} {g = g} {late = late} {refused = refused} {a = a} {b = b} {
     (waits f a b one.survives) (λ clean _. makes g b c r (two.changes clean)) two.fault two.stays
     (waits g b c two.survives) (λ early d means. (refl, so d))
 
--- a query, and then a part that goes by what was found
+-- a query, and then a part that depends on its result
 pub found_then : {K X Y : Type 0} (f : K → Contents → Contents) (k : K) (of : Contents → K)
     {Finding : State → State → Result Y Fault → Type 0} {late refused : Contents → Type 0} {a b c : State} {y : Y}
     {r : Result X Fault} → Found Finding a b (Ok y) → (HasCleanDisk b → (d : Contents) → Means a.now d → k ≡ of d)
@@ -102,7 +102,7 @@ found_then f k of {late = late} {refused = refused} {a = a} {b = b} {c = c} {r =
     (λ clean _. rest.makes clean) rest.fault rest.stays rest.survives (λ early d means.
     let is = finds early d means in (subst (λ n. f k d ≡ f n d) is refl, so d is))
 
--- a query after which nothing is to be done
+-- a query after which nothing has to be done
 pub found_done : {X : Type 0} {Finding : State → State → Result X Fault → Type 0} {f : Contents → Contents}
     {refused : Contents → Type 0} {a b : State} {x : X} → Found Finding a b (Ok x)
     → (HasCleanDisk b → (d : Contents) → Means a.now d → d ≡ f d) → Part {X = Unit {0}} Has f refused a b (Ok tt)

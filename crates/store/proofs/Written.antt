@@ -1,4 +1,4 @@
--- The rows that are written are those of the state with what was decided.
+-- The rows that are written are those of the state after the decision.
 use Rattle.std.proofs.Common.{◌≡◌, ℕ, suc, ◌+◌, ◌<◌, ◌^◌, List, [], ◌∷◌, ◌++◌, length, map, Bool}
 use Rattle.std.proofs.Common.{true, false, cond, refl, sym, ap, ap₂, subst, ◌∙◌, arith, IsPermutation}
 use Rattle.std.specs.Prelude.{◌-◌}
@@ -37,13 +37,13 @@ use Rattle.store.proofs.Once.{absent, present}
 use Rattle.store.proofs.WrittenParts.{Holds}
 use Rattle.store.proofs.SerialsHeld.{ca_added, signed_rows, to_front}
 
--- ---- the tables of changes
+-- ---- the tables that changes write
 
--- the rows with these in the other tables
+-- the contents with these rows in the other tables
 abbrev with_others : List OfficeRow → List RequestRow → Contents → Contents
 with_others offices requests c = record c { offices = offices; requests = requests }
 
--- the same structs in each table that a change may write to
+-- the same rows in each table that a change may write to
 abbrev IsChanged : Contents → Contents → Type 0
 IsChanged c d =
     IsPermutation c.departments d.departments × IsPermutation c.certs d.certs × IsPermutation c.runs d.runs
@@ -97,7 +97,7 @@ change_made number since os rs (change.Ca ca) s kept lawful room is numbered nex
     ap₂ (λ (n : ℕ) (k : ℕ). ca_from n k ca) numbered (next ∙ sym room.1) in
     (same _, same _, same _, same _, rw row (ca_added s.cas ca))
 
--- ---- the others
+-- ---- the other tables
 
 -- no change writes to them
 others_kept : (number since : ℕ) (change : Change) (c : Contents)

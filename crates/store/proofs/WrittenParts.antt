@@ -1,4 +1,4 @@
--- A part of what is written, of contents that are known better.
+-- A part of the writes, for contents of which more is known.
 use Rattle.std.proofs.Common.{Result, Ok, Err}
 use Rattle.sqlite.specs.Effect.{Database}
 use Rattle.sqlite.specs.State.{State, Survives}
@@ -18,7 +18,7 @@ goes_same a b c d same g = record {
   mode = g.mode;
 }
 
--- what holds some contents, of which the change makes what is to come
+-- the tables hold some contents from which the change makes the rows of `after`
 abbrev pub Holds : {A : Type 0} → (A → Database → Type 0) → (A → Contents) → (Contents → Contents) → State → Type 0
 Holds {A} Before after f a = (x : A) → Before x a.now → (c : Contents) × Means a.now c × IsSame (f c) (after x)
 
@@ -36,7 +36,7 @@ waited Before a b means one =
     survives_weaker a b (Waits Has a) (Waits Before a)
     (λ clean trees h x before. let m = means x before in h m.0 m.1) one
 
--- a part that is done leads to the next
+-- a part that succeeds leads to the next
 pub leads_on : (f : Contents → Contents) (a b : State) → Makes {X = Unit {0}} {E = Fault} Has f a b (Ok tt)
     → Leads Has Has f a b
 leads_on f a b makes d means = let g = (makes d means).1 in (f d, g, g.means)

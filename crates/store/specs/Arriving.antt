@@ -1,4 +1,4 @@
--- One arrival more, in one transaction.
+-- One more received request, in one transaction.
 use Rattle.std.specs.Prelude.{◌≡◌, ◌⊎◌, ◌<◌, false, nat_lt, Bool, List, [], ◌∷◌, ◌++◌, find, IfErr, IsOkAnd, Option}
 use Rattle.std.specs.Prelude.{Some, None, Result, Ok, Err, IsTrue}
 use Rattle.std.specs.List.{list_any}
@@ -39,7 +39,7 @@ use Rattle.store.specs.Meaning.{DiskFailed, IsHistory, Tells}
 
 -- ---- an office after a history
 
--- an opening, and the arrivals since
+-- an initial configuration, and the requests received since
 abbrev pub Past : Type 0
 Past = Opening × List Arrival
 
@@ -55,43 +55,43 @@ pub record IsAfter (Known : Past → Type 0) (p : Past) (db : Database) : Type 0
   pub means : Means db (office_contents p.0 p.1)
   pub known : Known p
 
--- nothing else is known of it
+-- nothing more is known of it
 abbrev pub IsAny : Past → Type 0
 IsAny p = Unit {0}
 
--- ---- an arrival
+-- ---- a received request
 
--- what is due is answered, and the history may go on with the arrival
+-- the answer is the specified one, and the history may continue with the request
 pub record IsAnswered (a : Arrival) (p : Past) (outcome : Outcome) : Type 0 where
   pub due : outcome ≡ due p.0 p.1 a
   pub history : IsHistory p.0 (p.1 ++ a ∷ [])
 
--- the rows of the office with the arrival
+-- the rows of the office after the request
 abbrev pub contents_with : Arrival → Past → Contents
 contents_with a p = office_contents p.0 (p.1 ++ a ∷ [])
 
--- Of tables as these, inside a transaction: what is due to the arrival is answered, and they hold the rows of the
--- office with it; or, with an error, nothing is committed.
+-- For such tables, inside a transaction: the answer is the specified one, and the tables hold the rows of the office
+-- after the request; or, with an error, nothing is committed.
 abbrev pub Settles : Arrival → (Past → Type 0) → Connection → Connection → Result Outcome Fault → Type 0
 Settles a Known old new r = Answers (IsAfter Known) (IsAnswered a) (contents_with a) old new r
 
--- what a message that isn't accepted now is answered
+-- the answer to a message that isn't accepted now
 abbrev pub stopped : Stop → Result Outcome Fault
 stopped (Refused r) = Ok (outcome.Refused r)
 stopped stop.NoMemory = Err NoMemory
 
--- ---- what is known of it, step by step
+-- ---- what is known of the history, step by step
 
--- the kept request of its caller and its key
+-- the stored request with the same caller and request ID
 abbrev pub IsFound : Arrival → Option Kept → Past → Type 0
 IsFound a found p = found ≡ find (is_kept_for a.caller a.key) (kept_at p)
 
--- it is no repeat, and this says whether its key was used before
+-- the request is no repeat, and this says whether its request ID was used before
 pub record IsAsked (a : Arrival) (is_known : Bool) (p : Past) : Type 0 where
   pub new : reply_kept (kept_at p) a ≡ None
   pub known : list_any (has_key a) (kept_at p) ≡ is_known
 
--- its message is this, it comes in time, and its key is new
+-- its message is this, it comes in time, and its request ID is new
 pub record IsNew (a : Arrival) (m : Message) (p : Past) : Type 0 where
   pub new : reply_kept (kept_at p) a ≡ None
   pub message : message_with_text a.bytes ≡ Some m
@@ -103,7 +103,7 @@ pub record IsWeighed (a : Arrival) (m : Message) (found : Concerned) (p : Past) 
   pub new : IsNew a m p
   pub rows : AreConcerned found (state_at p) m
 
--- it is a first acceptance, for which this is decided, under these CAs
+-- it is a first acceptance, with this decision, under these CAs
 pub record IsAccepted (a : Arrival) (d : Decision) (serving : List Ca) (p : Past) : Type 0 where
   pub new : reply_kept (kept_at p) a ≡ None
   pub judged : IsOkAnd (judged (state_at p) (kept_at p) a)
@@ -113,14 +113,14 @@ pub record IsAccepted (a : Arrival) (d : Decision) (serving : List Ca) (p : Past
   pub cas : serving ≡ (state_at p).cas
   pub version : d.version < 9223372036854775807
 
--- it is so where the version isn't past the last
+-- this holds unless the version is above the last one
 abbrev pub IsDecided : Arrival → Decision → List Ca → Past → Type 0
 IsDecided a d serving p = d.version < 9223372036854775807 → IsAccepted a d serving p
 
 -- ---- why it fails
 
--- A row of the change is too long, or there is no room for one more. Runs, key ids and CAs are short, and whatever is
--- put in has a number and a key of its own.
+-- A row of the change is too long, or there is no room for one more. Rows of runs, key IDs and CAs are always short
+-- enough, and every row that is inserted has an unused number and key.
 abbrev pub IsTooMuchToChange : Change → Contents → Type 0
 IsTooMuchToChange change.Nothing c = ⊥
 IsTooMuchToChange (change.Department d) c = RefusesDepartment (department_row d) c
@@ -130,18 +130,19 @@ IsTooMuchToChange (change.Range r) c = ⊥
 IsTooMuchToChange (change.KeyId key_id) c = IsFull c.revoked
 IsTooMuchToChange (change.Ca ca) c = ⊥
 
--- the same of the row of the request, or of the change
+-- the same for the row of the request, or for the change
 abbrev pub IsTooMuch : Decision → Arrival → Contents → Type 0
 IsTooMuch d a c =
     (IsTooLong (request_cells (request_row (kept_of a d.reply))) ⊎ IsFull c.requests) ⊎ IsTooMuchToChange d.change c
 
--- what is decided of the arrival, which is a first acceptance, is more than tables hold
+-- the request is a first acceptance, and tables can't hold the rows of its decision
 abbrev pub ExceedsTables : Arrival → Past → Type 0
 ExceedsTables a p =
     (d : Decision) × (serving : List Ca) × IsAccepted a d serving p × IsTooMuch d a (office_contents p.0 p.1)
 
--- All that a part does with an arrival of which this is known, if this is so. Of tables as these a fault is want of
--- memory, or the database failed, or what is decided is more than they hold.
+-- Everything that a part does with a received request of which this is known, provided that `Given` holds. For such
+-- tables the causes of a fault are lack of memory, a failure of the database, or more rows or longer ones than tables
+-- can hold.
 pub record Settling (Given : Type 0) (a : Arrival) (Known : Past → Type 0) (old new : Connection)
     (r : Result Outcome Fault) : Type 0 where
   pub settles : HasCleanDisk new → Given → Settles a Known old new r
@@ -149,35 +150,35 @@ pub record Settling (Given : Type 0) (a : Arrival) (Known : Past → Type 0) (ol
   pub stays : HasCleanDisk new → Stays old new r
   pub survives : Survives old new (Waits (IsAfter Known) old)
 
--- of a connection
+-- for a connection
 abbrev pub SettlesOn : {S : Type 0} → Ghosts S → Arrival → (Past → Type 0) → Held S → Held S → Result Outcome Fault
     → Type 0
 SettlesOn g a Known old new r = Settling (Unit {0}) a Known (state_of g old) (state_of g new) r
 
--- of a connection, if it is open
+-- for a connection, provided that it is open
 abbrev pub SettlesOpen : {S : Type 0} → Ghosts S → Arrival → (Past → Type 0) → Held S → Held S → Result Outcome Fault
     → Type 0
 SettlesOpen g a Known old new r =
     Settling (IsTrue (state_of g old).is_open) a Known (state_of g old) (state_of g new) r
 
--- ---- the whole
+-- ---- the whole transaction
 
--- a statement that shows no rows tells of none that are damaged
+-- the fault of a statement that reads no rows, so none can be damaged
 abbrev pub of_statement : Fault → Fault
 of_statement Device = Device
 of_statement Damaged = Device
 of_statement NoMemory = NoMemory
 
--- of tables that tell a history, if the connection is open, a fault has its cause
+-- a fault has its cause, if the connection is closed or its tables represent a history
 abbrev pub IsCaused : Arrival → Connection → Connection → Fault → Type 0
 IsCaused a old new f = StopsFor (IsAfter IsAny) (ExceedsTables a) old new f
 
--- so it has where the call fails
+-- the same for a call, if it fails
 abbrev pub FailsAsCaused : Arrival → Connection → Connection → Result Outcome Fault → Type 0
 FailsAsCaused a old new r = IfErr r (IsCaused a old new)
 
--- Of an honest disk and of tables that tell a history: the disk failed, or had failed before, or what is decided of the
--- arrival is more than tables hold.
+-- If the disk was faithful and the tables represent a history: the disk failed, now or earlier, or tables can't hold
+-- the rows of the decision on the request.
 abbrev pub IsStopped : Connection → Connection → Arrival → Type 0
 IsStopped old new a =
     HasCleanDisk new → (o : Opening) (l : List Arrival) → Tells old o l → DiskFailed old new ⊎ ExceedsTables a (o, l)

@@ -1,6 +1,6 @@
--- Batches of certificates, by their serials.
+-- Batches of certificates, by serial.
 use Rattle.std.specs.Prelude.{ℕ, ◌+◌, min}
 
--- the serial at the place, or the greatest number of a column, which is no serial, where it is greater
+-- the serial at the place, limited to the greatest number that a column can hold, which is no serial
 abbrev pub numbered : (first place : ℕ) → ℕ
 numbered first place = min (first + place) 9223372036854775807

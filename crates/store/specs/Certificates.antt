@@ -1,4 +1,4 @@
--- Certificates of rows.
+-- Certificates from rows.
 use Rattle.std.specs.Prelude.{◌≡◌, ℕ, suc, ◌==◌, ◌&&◌, nat_le, List, [], ◌∷◌, length, Bool, if◌then◌else◌, IfSome}
 use Rattle.std.specs.Prelude.{Option, Some, None}
 use Rattle.std.specs.Option.{option_and_then, option_map}
@@ -11,12 +11,12 @@ use Rattle.cert.specs.Reading.{body_at}
 use Rattle.office.specs.declared.certificate.Certificate.{Certificate}
 use Rattle.store_sql.specs.declared.certs.CertRow.{CertRow}
 
--- a signature has 64 bytes
+-- a signature in a row, which must have 64 bytes
 abbrev pub signature_in : Option (List ℕ) → Option (Option Signature)
 signature_in None = Some None
 signature_in (Some bytes) = if length bytes == 64 then Some (Some (record { bytes = bytes })) else None
 
--- the row has the body's serial and key id, and a name of a department
+-- the row's serial and key ID are the unsigned certificate's, and its department has a valid name
 abbrev pub fits : CertRow → CertFields → Bool
 fits row fields = (fields.serial == row.serial) && (bytes_eq fields.key_id row.key_id && is_name row.department)
 
@@ -45,6 +45,6 @@ abbrev pub AreCounted : ℕ → List Certificate → Type 0
 AreCounted first [] = Unit {0}
 AreCounted first (c ∷ cs) = (c.fields.serial ≡ first) × AreCounted (suc first) cs
 
--- its serial is from the one to the other
+-- its serial is between the two, both included
 abbrev pub lies_within : (lo hi : ℕ) → Certificate → Bool
 lies_within lo hi c = nat_le lo c.fields.serial && nat_le c.fields.serial hi

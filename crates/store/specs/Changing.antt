@@ -1,4 +1,4 @@
--- What a change makes of the rows.
+-- The effect of a change on the rows.
 use Rattle.std.specs.Prelude.{ℕ, List, if◌then◌else◌}
 use Rattle.std.specs.List.{list_any}
 use Rattle.lines.specs.Keys.{key_blob}
@@ -11,15 +11,15 @@ use Rattle.store_sql.specs.Changes.{is_key_id, with_ca, with_cert, with_departme
 use Rattle.store.specs.Rows.{cert_row, department_row}
 use Rattle.store.specs.Ranges.{with_range}
 
--- the key id is put in, once
+-- the key ID is inserted, unless it is there already
 abbrev pub with_key_id : List ℕ → Contents → Contents
 with_key_id key_id c = if list_any (is_key_id key_id) c.revoked then c else with_revoked key_id c
 
--- the row of a CA of this number that serves from this serial on
+-- the row of a CA with this number that serves from this serial on
 abbrev pub ca_from : (number since : ℕ) → Ca → CaRow
 ca_from number since ca = record { number = number; ca = key_blob ca.key; since = since }
 
--- a CA gets this number, and serves from this serial on
+-- a new CA gets this number, and serves from this serial on
 abbrev pub with_change : (number since : ℕ) → Change → Contents → Contents
 with_change number since change.Nothing c = c
 with_change number since (change.Department d) c = with_department (department_row d) c

@@ -1,4 +1,4 @@
--- The rows that a message concerns.
+-- The rows that a message concerns, and what holds of them.
 use Rattle.std.specs.Prelude.{◌≡◌, Bool, List, Option, IfSome, IsTrue}
 use Rattle.message.specs.declared.kinds.Message.{Message}
 use Rattle.message.specs.declared.department.Department.{Department}
@@ -22,7 +22,7 @@ pub record IsSubject (x : Subject) (s : State) (m : Message) : Type 0 where
   pub certificate : x.certificate ≡ certificate_concerned s m
   pub department : x.department ≡ department_concerned s m
 
--- the flags are the state's, where the message asks
+-- the flags are the state's, if the message depends on them
 pub record AreMarks (x : Marks) (s : State) (m : Message) : Type 0 where
   pub revoked : SaysRevoked x.is_revoked s m
   pub key_id : SaysKeyIdRevoked x.is_key_id_revoked s m
@@ -35,25 +35,25 @@ pub record AreConcerned (c : Concerned) (s : State) (m : Message) : Type 0 where
   pub subject : IsSubject c.subject s m
   pub marks : AreMarks c.marks s m
 
--- ---- what is known of them in any case
+-- ---- what always holds of them
 
 pub record IsLawfulSubject (x : Subject) : Type 0 where
   pub certificate : IfSome x.certificate IsCertificate
   pub department : IfSome x.department (λ d. IsTrue (is_department d))
 
--- the rows are of the form that an office writes
+-- the rows are valid, that is, of the form that an office writes
 pub record AreLawful (c : Concerned) : Type 0 where
   pub office : IsLawfulOffice c.office
   pub subject : IsLawfulSubject c.subject
 
--- ---- what is read step by step, beside what was read before
+-- ---- the rows read step by step, given those read before
 
 -- if the message concerns this certificate, the department is the one that it concerns
 abbrev pub IsDepartmentBeside : Option Certificate → Message → State → List Kept → Option Department → Type 0
 IsDepartmentBeside certificate m s kept found =
     certificate ≡ certificate_concerned s m → found ≡ department_concerned s m
 
--- if the message concerns this certificate, this says whether its key id is revoked
+-- if the message concerns this certificate, this says whether its key ID is revoked
 abbrev pub SaysKeyIdBeside : Option Certificate → Message → State → List Kept → Bool → Type 0
 SaysKeyIdBeside certificate m s kept is = certificate ≡ certificate_concerned s m → SaysKeyIdRevoked is s m
 

@@ -1,4 +1,4 @@
--- How an office is made, and when it can't be.
+-- How an office is created, and when it can't be.
 use Rattle.std.specs.Prelude.{◌⊎◌, IfErr, Result}
 use Rattle.sqlite_trees.specs.declared.store.Store.{Ghosts}
 use Rattle.sqlite.specs.Tree.{Trees}
@@ -17,26 +17,26 @@ use Rattle.store_sql.specs.Refusals.{HasCauseOr, RefusesCa, RefusesOffice}
 use Rattle.store.specs.Rows.{ca_row, office_row}
 use Rattle.store.specs.Transactions.{DoesIn, Ends, Leaves, Rests}
 
--- the row of the office is refused, or then that of its CA
+-- the row of the office is refused, or, once that is inserted, the row of its CA
 abbrev pub RefusesFirst : OfficeRow → CaRow → Contents → Type 0
 RefusesFirst office ca c = RefusesOffice office c ⊎ RefusesCa ca (with_office office c)
 
--- the rules of the tables refuse, of empty tables, what an office begins with
+-- the rules of empty tables refuse the rows of this initial configuration
 abbrev pub RefusesOpening : Opening → Type 0
 RefusesOpening o = RefusesFirst (office_row (opened o)) (ca_row 1 (first_ca o)) no_contents
 
 -- ---- a database without tables
 
--- a fault of the whole has its cause, or is this refusal
+-- a fault of the whole transaction has its cause, or is this refusal
 abbrev pub FailsOnBlank : Type 0 → State → State → Result (Unit {0}) Fault → Type 0
 FailsOnBlank refused old new r = Rests (IsBare no_schema) old → IfErr r (HasCauseOr refused old new)
 
--- the tables are made there, and hold these contents; or it fails, perhaps because this is refused
+-- the tables are made there, and hold these contents; or it fails, perhaps because of this refusal
 abbrev pub DoesOnBlank : {S : Type 0} → Ghosts S → Contents → Type 0 → Held S → Held S → Result (Unit {0}) Fault
     → Type 0
 DoesOnBlank g c refused old new r = DoesIn g (λ (_ : Unit {0}). IsBare no_schema) (λ _. c) (λ _. refused) old new r
 
--- in a transaction of its own they are made, or all is as before
+-- in a transaction of its own: the tables are made, or nothing has changed
 abbrev pub EndsOnBlank : Contents → State → State → Result (Unit {0}) Fault → Type 0
 EndsOnBlank c old new r = Ends (λ _. IsBare no_schema) (λ _ _. Unit {0}) (λ (_ : Unit {0}). c) old new r
 

@@ -1,4 +1,4 @@
--- Departments of rows.
+-- Departments from rows.
 use Rattle.std.specs.Prelude.{ℕ, ◌==◌, List, [], ◌∷◌, if◌then◌else◌, Option, Some, None}
 use Rattle.std.specs.List.{slice_split}
 use Rattle.std.specs.Option.{option_and_then}
@@ -8,7 +8,7 @@ use Rattle.message.specs.Values.{is_department}
 use Rattle.store_sql.specs.declared.departments.DepartmentRow.{DepartmentRow}
 use Rattle.cert.specs.Reading.{kind_of}
 
--- the texts between commas; of no bytes none
+-- the texts between commas; none if there are no bytes
 abbrev pub parted : List ℕ → List (List ℕ)
 parted [] = []
 parted (b ∷ text) = slice_split (λ c. c == 44) (b ∷ text)
@@ -28,6 +28,6 @@ parts_of row kind = record {
 abbrev pub if_lawful : Department → Option Department
 if_lawful d = if is_department d then Some d else None
 
--- the lawful department of a row, if there is one
+-- the valid department of a row, if there is one
 abbrev pub department_in : DepartmentRow → Option Department
 department_in row = option_and_then (λ kind. if_lawful (parts_of row kind)) (kind_of row.kind)

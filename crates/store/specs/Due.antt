@@ -1,4 +1,4 @@
--- What is to be written, and what is there when it is.
+-- The rows that have to be written, and the tables before and after that.
 use Rattle.std.specs.Prelude.{◌≡◌, ℕ, true, ◌<◌, ◌^◌, List, [], ◌∷◌, ◌++◌}
 use Rattle.sqlite.specs.Effect.{Database}
 use Rattle.office.specs.declared.arrival.Arrival.{Arrival}
@@ -12,21 +12,22 @@ use Rattle.store_sql.specs.Contents.{Contents, Means}
 use Rattle.store.specs.Lawful.{IsLawful}
 use Rattle.store.specs.Rows.{contents_of}
 
--- what is kept of an arrival that gets this reply
+-- the stored request for a received request with this reply
 abbrev pub kept_of : Arrival → List ℕ → Kept
 kept_of a reply = record { caller = a.caller; key = a.key; bytes = a.bytes; reply = reply }
 
 abbrev pub counters_of : Decision → Counters
 counters_of d = record { next = d.next; version = d.version; date = d.date }
 
--- the counters are numbers that a column holds
+-- the counters are numbers that a column can hold
 pub record Fits (d : Decision) : Type 0 where
   pub next : d.next < 2 ^ 63
   pub version : d.version < 2 ^ 63
   pub date : d.date < 2 ^ 63
 
--- the tables hold the rows of this lawful state, in which the decision has room, and of what is kept with it; the state
--- has these CAs, and only serials that were handed out are revoked
+-- The tables hold the rows of this valid state, with room for the decision, and of the stored requests. The state has
+-- these CAs, and only issued serials are revoked. The decision's counters fit their columns, and its next serial is
+-- that of the state after it.
 pub record IsDue (d : Decision) (cas : List Ca) (x : State × List Kept) (db : Database) : Type 0 where
   pub lawful : IsLawful x.0
   pub room : HasRoom d.change x.0
@@ -36,6 +37,6 @@ pub record IsDue (d : Decision) (cas : List Ca) (x : State × List Kept) (db : D
   pub listed : cas ≡ x.0.cas
   pub means : Means db (contents_of x.0 x.1)
 
--- the rows of the state with what was decided, and one for the arrival
+-- the rows of the state after the decision, and one for the request
 abbrev pub contents_after : Decision → Arrival → State × List Kept → Contents
 contents_after d a x = contents_of (written d x.0) (x.1 ++ kept_of a d.reply ∷ [])

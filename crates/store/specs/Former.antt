@@ -1,4 +1,4 @@
--- What the tables of schema 1 hold, and what they become.
+-- The contents of tables of schema 1, and of the tables they are migrated to.
 use Rattle.std.specs.Prelude.{◌≡◌, false, ◌==◌, List, [], ◌∷◌, map, Bool, true}
 use Rattle.std.specs.Prelude.{if◌then◌else◌, IfSome, IsTrue, Result, Ok, Err}
 use Rattle.std.specs.List.{AllByRecursion}
@@ -27,19 +27,19 @@ Had c db = MeansWithoutCa db c
 abbrev pub first_ca : OfficeRow → CaRow
 first_ca o = record { number = 1; ca = o.ca; since = o.first }
 
--- that CA, where the table of the office has one row, and it is an office's of schema 1
+-- CA 1, if the `office` table has exactly one row, which is that of an office of schema 1
 abbrev pub ca_of : List OfficeRow → Result CaRow StoreFault
 ca_of [] = Err NotAnOffice
 ca_of (o ∷ []) = if o.schema == 1 then (if o.id == 1 then Ok (first_ca o) else Err Damaged) else Err WrongSchema
 ca_of (o ∷ p ∷ rows) = Err NotAnOffice
 
--- the contents in schema 2: CA 1 more, and the other number; each other row stays
+-- the contents in schema 2: with CA 1 added, and the new schema number; all other rows stay
 abbrev pub migrated : Contents → Contents
 migrated c = with_schema 2 (record c { cas = map first_ca c.offices })
 
 -- ---- histories
 
--- the rows of the office of an opening after a history, as schema 1 has them: no CA has a row
+-- the rows of the office with a configuration after a history, as schema 1 has them: no CA has a row
 abbrev pub former_contents : Opening → List Arrival → Contents
 former_contents o l = record (office_contents o l) { offices = renumbered 1 (office_row (state o l)) ∷ []; cas = [] }
 
@@ -47,12 +47,13 @@ abbrev pub is_rollover : Message → Bool
 is_rollover (message.Rollover k) = true
 is_rollover _ = false
 
--- no arrival's message is a rollover
+-- no received message is a rollover
 abbrev pub HasNoRollover : List Arrival → Type 0
 HasNoRollover l = AllByRecursion (λ a. IfSome (message_with_text a.bytes) (λ m. is_rollover m ≡ false)) l
 
--- No transaction is open, and the tables of schema 1 hold the rows of the office of this opening after this history, in
--- which no message is a rollover. Of a connection that a failed disk has shut nothing is said of tables.
+-- No transaction is open, and the tables of schema 1 hold the rows of the office with this configuration after this
+-- history, in which no message is a rollover. The tables of a connection that a failed disk has closed are
+-- unconstrained.
 pub record TellsBefore (s : State) (o : Opening) (l : List Arrival) : Type 0 where
   pub plain : HasNoRollover l
   pub rows : IsTrue s.is_open → Rests (Had (former_contents o l)) s

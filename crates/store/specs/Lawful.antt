@@ -11,8 +11,8 @@ use Rattle.office.specs.Certificates.{IsCertificate}
 use Rattle.office.specs.State.{State}
 use Rattle.store.specs.Certificates.{AreCounted, IsSigned}
 
--- its opening and its rows are of the form that an office writes: departments ascend by name, each under its own, the
--- serials of certificates count up from the first, and key ids ascend
+-- its configuration and its rows are valid: departments ascend by name, each filed under its own, the serials of
+-- certificates count up from the first, and key IDs ascend
 pub record IsLawful (s : State) : Type 0 where
   pub opening : IsOpening s.opening
   pub cas : AllByRecursion (λ ca. length ca.key ≡ 32) s.cas

@@ -1,4 +1,4 @@
--- What the tables mean.
+-- The histories that tables represent.
 use Rattle.std.specs.Prelude.{◌≡◌, ◌⊎◌, false, List, [], ◌∷◌, ◌++◌, length, ◌==◌, if◌then◌else◌, IsTrue, None, Result}
 use Rattle.std.specs.Prelude.{Ok, Err}
 use Rattle.std.specs.List.{AllByRecursion}
@@ -24,77 +24,78 @@ use Rattle.store.specs.Transactions.{Rests, Has}
 abbrev pub IsBlank : State → Type 0
 IsBlank s = Rests (IsBare no_schema) s
 
--- an office's history: a lawful opening, and arrivals with nonces of 32 bytes
+-- an office's history: a valid initial configuration, and received requests with nonces of 32 bytes
 pub record IsHistory (o : Opening) (l : List Arrival) : Type 0 where
   pub office : IsOffice o l
   pub nonces : AllByRecursion (λ a. length a.nonce ≡ 32) l
 
--- The trees hold the rows of the office of this opening after this history, or after it and one arrival more. With that
--- arrival it is again a history.
+-- The trees hold the rows of the office with this configuration after this history, or after it and one more request,
+-- with which it is still a history.
 abbrev pub IsLeft : Opening → List Arrival → Trees → Type 0
 IsLeft o l trees =
     Kept trees (office_contents o l)
     ⊎ ((a : Arrival) × IsHistory o (l ++ a ∷ []) × Kept trees (office_contents o (l ++ a ∷ [])))
 
--- No query has a limit on its steps, no transaction is open, and the tables hold the rows of the office of this opening
--- after this history. Of the tables of a connection that a failed disk has shut that isn't said; but what a crash
--- leaves are these rows, or those after the one arrival more whose commit failed.
+-- The tables represent this history: no query has a limit on its steps, no transaction is open, and the tables hold the
+-- rows of the office with this configuration after this history. If a failed disk has closed the connection, its tables
+-- are unconstrained; but a crash leaves these rows, or those with one more request, whose commit failed.
 pub record Tells (s : State) (o : Opening) (l : List Arrival) : Type 0 where
   pub history : IsHistory o l
   pub unlimited : s.step_limit ≡ None
   pub rows : IsTrue s.is_open → Rests (Has (office_contents o l)) s
   pub left : (trees : Trees) → s.may_leave trees → IsLeft o l trees
 
--- the tables tell each history that they told
+-- the tables still represent each history that they represented
 abbrev pub KeepsTelling : State → State → Type 0
 KeepsTelling old new = (o : Opening) (l : List Arrival) → Tells old o l → Tells new o l
 
--- the disk failed during the call, or an earlier failure has shut the connection
+-- the disk failed during the call, or an earlier failure has closed the connection
 abbrev pub DiskFailed : State → State → Type 0
 DiskFailed old new = MoreFaults old.faults new.faults ⊎ (old.is_open ≡ false)
 
--- of an honest disk and of tables that tell a history: the disk failed, or had failed before
+-- if the disk was faithful and the tables represent a history: the disk failed, now or earlier
 abbrev pub HasFailed : State → State → Type 0
 HasFailed old new = HasCleanDisk new → (o : Opening) (l : List Arrival) → Tells old o l → DiskFailed old new
 
--- while the connection is open, a crash leaves the tables of the history that they tell, and nothing else
+-- while the connection is open, a crash leaves the tables of the history that they represent, and nothing else
 abbrev pub OutlastsCrashes : State → Type 0
 OutlastsCrashes s = (o : Opening) (l : List Arrival) → Tells s o l → IsTrue s.is_open
     → (trees : Trees) → s.may_leave trees → Kept trees (office_contents o l)
 
--- what is known of a register that is open: the tables tell the history, and so they do after a crash
+-- The tables of an open register durably represent this history: they represent it, and still do after a crash.
 pub record Stores (s : State) (o : Opening) (l : List Arrival) : Type 0 where
   pub tells : Tells s o l
   pub is_open : IsTrue s.is_open
   pub crash : (trees : Trees) → s.may_leave trees → Kept trees (office_contents o l)
 
--- what tells a history, and is open, stores it
+-- if the tables represent a history and the connection is open, they durably represent it
 abbrev pub StoresWhereOpen : State → Type 0
 StoresWhereOpen s = (o : Opening) (l : List Arrival) → Tells s o l → IsTrue s.is_open → Stores s o l
 
--- a look that answers changed nothing; else nothing has changed, or a transaction is undone, or the connection is shut
+-- a look that succeeds changed nothing; one that fails changed nothing either, unless a transaction was rolled back or
+-- the connection was closed
 abbrev pub LooksOn : State → State → Result (Unit {0}) StoreFault → Type 0
 LooksOn old new (Ok x) = IsUnchanged old new
 LooksOn old new (Err e) = IsTrue new.is_open → Fails old new
 
--- what an open answers to the rows of the table of the office: there is one, of the schema that this store has
+-- the answer of `open` to the rows of the `office` table: success if there is exactly one, of the current schema
 abbrev pub opened_by : List OfficeRow → Result (Unit {0}) StoreFault
 opened_by [] = Err NotAnOffice
 opened_by (row ∷ []) = if row.schema == 2 then Ok tt else Err WrongSchema
 opened_by (row ∷ other ∷ rows) = Err NotAnOffice
 
--- of a table of the office with these rows a look finds what they say, or memory is refused or the database failed
+-- a look at an `office` table with these rows finds that answer, or memory is refused or the database failed
 abbrev pub Looks : List OfficeRow → Type 0 → Result (Unit {0}) StoreFault → Type 0
 Looks rows failed (Ok x) = opened_by rows ≡ Ok x
 Looks rows failed (Err NoMemory) = Unit {0}
 Looks rows failed (Err Device) = failed
 Looks rows failed (Err e) = opened_by rows ≡ Err e
 
--- so it is of each table of the office, where this is the failure of the database
+-- the same for each `office` table, with this failure of the database
 abbrev pub LooksUnless : (State → State → Type 0) → State → State → Result (Unit {0}) StoreFault → Type 0
 LooksUnless Failed old new r = (rows : List OfficeRow) → HasOffices rows old.now → Looks rows (Failed old new) r
 
--- what is made where memory allows, as an answer of the tables
+-- the result of an allocation, as an answer of the tables
 abbrev pub made : {X : Type 0} → Result X text.NoMemory → Result X Fault
 made (Ok x) = Ok x
 made (Err e) = Err table_fault.NoMemory

@@ -1,4 +1,4 @@
--- What a migration does to the connection, and when it answers what.
+-- The effect of a migration on the connection, and its answers.
 use Rattle.std.specs.Prelude.{◌≡◌, ◌⊎◌, true, List, [], IfErr, IsOk, IsTrue, Result, Ok, Err}
 use Rattle.sqlite.specs.Effect.{Database}
 use Rattle.sqlite.specs.State.{State}
@@ -20,18 +20,18 @@ use Rattle.store.specs.Former.{Had, TellsBefore, ca_of, former_contents, migrate
 
 -- ---- results
 
--- the CA is read, or what was due is told, or memory is refused
+-- the result is the specified one, or memory is refused
 abbrev pub IsCaDue : Result CaRow StoreFault → Result CaRow StoreFault → Type 0
 IsCaDue due (Err NoMemory) = Unit {0}
 IsCaDue due r = due ≡ r
 
--- ---- why it fails
+-- ---- causes of faults
 
--- the rules of the tables refuse this CA, or after it the number of schema 2
+-- the rules of the tables refuse this CA, or after it schema number 2
 abbrev pub IsRefused : CaRow → Contents → Type 0
 IsRefused ca c = RefusesCa ca c ⊎ RefusesNumber 2 (with_ca ca c)
 
--- they refuse CA 1 beside these contents
+-- they refuse CA 1 of the office in these contents, or schema number 2 after it
 abbrev pub RefusesFirstCa : Contents → Type 0
 RefusesFirstCa c = (ca : CaRow) × (ca_of c.offices ≡ Ok ca) × IsRefused ca c
 
@@ -39,44 +39,44 @@ RefusesFirstCa c = (ca : CaRow) × (ca_of c.offices ≡ Ok ca) × IsRefused ca c
 abbrev pub HasStopped : Contents → State → State → Type 0
 HasStopped c old new = HasFailed old new ⊎ RefusesFirstCa c
 
--- what failed before is told, and what fails at the end has its cause
+-- an earlier fault is returned, and a failure at the end has its cause
 abbrev pub TellsEnd : {X : Type 0} → Result X StoreFault → State → State → Result X StoreFault → Type 0
 TellsEnd (Ok x) old new r =
     old.in_transaction ≡ true → IfErr r (λ e. (f : Fault) × (e ≡ fault_of f) × HasCause old new f)
 TellsEnd (Err e) old new r = r ≡ Err e
 
--- what the rows of these contents say of their office is answered; or memory was refused, or the call was stopped
+-- the answer is the one that the rows of these contents specify; or memory was refused, or the call was stopped
 abbrev pub Judges : Contents → Type 0 → Result (Unit {0}) StoreFault → Type 0
 Judges c stopped (Ok x) = IsOk (ca_of c.offices)
 Judges c stopped (Err NoMemory) = Unit {0}
 Judges c stopped (Err Device) = stopped
 Judges c stopped (Err e) = ca_of c.offices ≡ Err e
 
--- so it is of a database at rest with the tables of schema 1
+-- the same for a database at rest with the tables of schema 1
 abbrev pub JudgesAtRest : State → State → Result (Unit {0}) StoreFault → Type 0
 JudgesAtRest old new r = (c : Contents) → Rests (Had c) old → Judges c (HasStopped c old new) r
 
--- so it is inside of the transaction, of tables that are as one of these says
+-- the same inside the transaction, for tables that satisfy `Before`
 abbrev pub JudgesInside : (Contents → Database → Type 0) → State → State → Result (Unit {0}) StoreFault → Type 0
 JudgesInside Before old new r = (c : Contents) → Before c old.now → Judges c (HasStopped c old new) r
 
 -- ---- a part of the transaction
 
--- the tables of schema 2 hold these contents, of which no CA is one
+-- the tables of schema 2 hold these contents, in which there is no CA
 abbrev pub HasNoCa : Contents → Database → Type 0
 HasNoCa c db = Means db c × (c.cas ≡ [])
 
--- ---- the whole
+-- ---- the whole migration
 
--- Of a database at rest with the tables of schema 1: they become those of schema 2; or all is as before. Only a failed
--- disk shuts the connection, and a shut one answers nothing.
+-- For a database at rest with the tables of schema 1: they become those of schema 2; or it fails, and nothing has
+-- changed, unless the connection is closed then. A migration over a closed connection never succeeds.
 abbrev pub Migrates : State → State → Result (Unit {0}) StoreFault → Type 0
 Migrates old new (Ok x) =
     IsTrue old.is_open × IsTrue new.is_open × ((c : Contents) → Rests (Had c) old → Rests (Has (migrated c)) new)
 Migrates old new (Err e) =
     IsTrue new.is_open → IsTrue old.is_open × ((c : Contents) → Rests (Had c) old → Rests (Had c) new)
 
--- want of memory and a stop are the only faults
+-- lack of memory and a stop are the only faults
 abbrev pub IsExcused : Type 0 → StoreFault → Type 0
 IsExcused stopped NoMemory = Unit {0}
 IsExcused stopped Device = stopped
@@ -85,13 +85,13 @@ IsExcused stopped NotAnOffice = ⊥
 IsExcused stopped WrongSchema = ⊥
 IsExcused stopped Damaged = ⊥
 
--- Of tables of schema 1 that tell a history: they hold its rows in schema 2; or they tell it as before, and the fault
--- has its cause.
+-- If the tables of schema 1 represent a history: they hold its rows in schema 2; or they represent it as before, and
+-- the fault has its cause.
 abbrev pub Carries : State → State → Opening → List Arrival → Result (Unit {0}) StoreFault → Type 0
 Carries old new o l (Ok x) = IsTrue new.is_open × Rests (Has (office_contents o l)) new
 Carries old new o l (Err e) =
     TellsBefore new o l × (IsTrue old.is_open → IsExcused (HasStopped (former_contents o l) old new) e)
 
--- so it is of each history
+-- the same for each history
 abbrev pub CarriesEach : State → State → Result (Unit {0}) StoreFault → Type 0
 CarriesEach old new r = (o : Opening) (l : List Arrival) → TellsBefore old o l → Carries old new o l r

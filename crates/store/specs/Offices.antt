@@ -1,4 +1,4 @@
--- What the row of the office says.
+-- The contents of the office's row.
 use Rattle.std.specs.Prelude.{◌≡◌, ◌≤◌, ℕ, List, [], ◌∷◌, Bool, ◌&&◌, ◌||◌, not, nat_lt, if◌then◌else◌, Option, Some, None}
 use Rattle.std.specs.Option.{option_and_then}
 use Rattle.std.specs.Str.{bytes_eq}
@@ -10,7 +10,7 @@ use Rattle.office.specs.State.{State, next_serial}
 use Rattle.store_sql.specs.declared.offices.OfficeRow.{OfficeRow}
 use Rattle.store.specs.declared.rows.office_rows.Office.{Office}
 
--- names of two callers, and serials in order
+-- the names of two different callers, and serials in order
 abbrev pub is_opening : Opening → Bool
 is_opening o = is_name o.root && (is_name o.station && (not (bytes_eq o.root o.station) && are_serials o.first o.last))
 
@@ -22,25 +22,25 @@ office_of row key = record {
   date = row.date;
 }
 
--- the opening is lawful, and the next serial isn't before the first
+-- the configuration is valid, and the next serial isn't before the first
 abbrev pub if_office : Office → Option Office
 if_office o = if not (is_opening o.opening) || nat_lt o.next o.opening.first then None else Some o
 
 abbrev pub office_in : OfficeRow → Option Office
 office_in row = option_and_then (λ key. if_office (office_of row key)) (key_of row.ca)
 
--- the office of the one row
+-- the office of the row, if there is exactly one
 abbrev pub only_office : List OfficeRow → Option Office
 only_office [] = None
 only_office (row ∷ []) = office_in row
 only_office (row ∷ other ∷ rows) = None
 
--- the same, as what is known of an office that was read
+-- the same, as a property of an office that was read
 pub record IsLawfulOffice (o : Office) : Type 0 where
   pub opening : IsOpening o.opening
   pub next : o.opening.first ≤ o.next
 
--- it has the state's opening and counters
+-- its configuration and counters are the state's
 pub record IsOfficeOf (o : Office) (s : State) : Type 0 where
   pub opening : o.opening ≡ s.opening
   pub next : o.next ≡ next_serial s

@@ -1,4 +1,4 @@
--- The CAs in order, and what the published list is made of.
+-- The CAs in order, and the contents of the published KRL.
 use Rattle.std.specs.Prelude.{◌≡◌, ℕ, List, [], ◌∷◌, Bool, true, ◌&&◌, nat_le, Result, Ok, Err, Vec}
 use Rattle.std.specs.List.Sorted.{IsNonDecreasing}
 use Rattle.std.specs.declared.alloc.Global.{Global}
@@ -24,13 +24,13 @@ AreOrdered cas (Err Damaged) = ¬ IsNonDecreasing (numbers cas.items)
 AreOrdered cas (Err NoMemory) = ⊥
 AreOrdered cas (Err Device) = ⊥
 
--- it is made of this head, and of these revocations under these CAs
+-- it consists of this head, and of these revocations under these CAs
 pub record IsMadeOf (revoked : Revoked) (top : KrlHead) (cas : List Ca) (r : Revocations) : Type 0 where
   pub head : revoked.head ≡ top
   pub parts : AreParts revoked.parts.items cas r.serials
   pub key_ids : revoked.key_ids ≡ r.key_ids.items
 
--- it shows this head, and what of the state is revoked, if these are its CAs
+-- it has this head, and the state's revocations, if these are the state's CAs
 pub record AreShown (revoked : Revoked) (top : KrlHead) (cas : List Ca) (s : State) : Type 0 where
   pub head : revoked.head ≡ top
   pub parts : cas ≡ s.cas → revoked.parts.items ≡ published_parts s

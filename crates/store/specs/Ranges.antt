@@ -1,4 +1,4 @@
--- A range of serials, put among the runs of those that are revoked.
+-- A range of serials, added to the runs (the maximal ranges) of revoked serials.
 use Rattle.std.specs.Prelude.{ℕ, ◌+◌, nat_le, if◌then◌else◌, max, Option, Some, None}
 use Rattle.message.specs.declared.serial_range.SerialRange.{SerialRange}
 use Rattle.store_sql.specs.declared.runs.RunRow.{RunRow}
@@ -6,12 +6,12 @@ use Rattle.store_sql.specs.Contents.{Contents}
 use Rattle.store_sql.specs.Changes.{with_run}
 use Rattle.store_sql.specs.Runs.{last_run, without_runs}
 
--- where a run that begins with the serial or before it touches or has the serial, its own begin, and else the serial
+-- the start of the last run at or before the serial, if that run contains or touches it; otherwise the serial
 abbrev pub joined_low : ℕ → Option RunRow → ℕ
 joined_low lo None = lo
 joined_low lo (Some x) = if nat_le lo (x.hi + 1) then x.lo else lo
 
--- the greater end
+-- the greater of the two ends
 abbrev pub joined_high : ℕ → Option RunRow → ℕ
 joined_high hi None = hi
 joined_high hi (Some x) = max hi x.hi
@@ -20,7 +20,7 @@ joined_high hi (Some x) = max hi x.hi
 abbrev pub run_from : ℕ → SerialRange → Contents → RunRow
 run_from lo r c = record { lo = lo; hi = joined_high r.hi (last_run (r.hi + 1) c) }
 
--- the range and the runs that touch or overlap it, as one
+-- the range and the runs that touch or overlap it, merged
 abbrev pub joined_run : SerialRange → Contents → RunRow
 joined_run r c = run_from (joined_low r.lo (last_run r.lo c)) r c
 

@@ -1,4 +1,4 @@
--- What is read of rows.
+-- The values of rows.
 use Rattle.std.specs.Prelude.{◌≡◌, List, [], ◌∷◌, Option, Some, None, Result, Ok, Err, Vec}
 use Rattle.std.specs.Option.{option_and_then, option_map}
 use Rattle.std.specs.declared.alloc.Global.{Global}
@@ -8,14 +8,14 @@ use Rattle.store_sql.specs.declared.cas.CaRow.{CaRow}
 use Rattle.store_sql.specs.declared.table_fault.Fault.{Fault}
 use Rattle.store_sql.specs.declared.table_fault.Fault.TheVariants.{Damaged, Device, NoMemory}
 
--- the value is read, or memory is refused; where there is none the row is damaged
+-- the value is read, or memory is refused; a row without a value is reported as damaged
 abbrev pub IsRead : {X : Type 0} → Option X → Result X Fault → Type 0
 IsRead value (Ok x) = value ≡ Some x
 IsRead value (Err NoMemory) = Unit {0}
 IsRead value (Err Damaged) = value ≡ None
 IsRead value (Err Device) = ⊥
 
--- each value, if there is one of each row
+-- the values of all rows, if each row has one
 abbrev pub each : {R X : Type 0} → (R → Option X) → List R → Option (List X)
 each value [] = Some []
 each value (r ∷ rows) = option_and_then (λ x. option_map (λ xs. x ∷ xs) (each value rows)) (value r)

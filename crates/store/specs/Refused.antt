@@ -1,4 +1,4 @@
--- When the rules of the tables refuse what is to be written.
+-- When the rules of the tables refuse rows that have to be written.
 use Rattle.std.specs.Prelude.{◌⊎◌, ℕ, ◌+◌, List, length}
 use Rattle.message.specs.declared.serial_range.SerialRange.{SerialRange}
 use Rattle.office.specs.declared.arrival.Arrival.{Arrival}
@@ -20,15 +20,15 @@ use Rattle.store.specs.Due.{counters_of, kept_of}
 use Rattle.store.specs.Ranges.{joined_run}
 use Rattle.store_sql.specs.declared.runs.RunRow.{RunRow}
 
--- the runs that begin within the run are taken out, but it is not put in
+-- once the runs that begin within this run are deleted, it is refused
 abbrev pub RefusesJoined : RunRow → Contents → Type 0
 RefusesJoined run c = RefusesRun run (without_runs run c)
 
--- so is the range with those that touch or overlap it
+-- the same for the range, merged with the runs that touch or overlap it
 abbrev pub RefusesRange : SerialRange → Contents → Type 0
 RefusesRange r c = RefusesJoined (joined_run r c) c
 
--- the change is refused, of which a CA gets this number and serves from this serial on; a key id that is there is left
+-- the change is refused, in which a CA gets this number and first serial; a key ID is never refused because it exists
 abbrev pub RefusesChange : (number since : ℕ) → Change → Contents → Type 0
 RefusesChange number since change.Nothing c = ⊥
 RefusesChange number since (change.Department d) c = RefusesDepartment (department_row d) c
@@ -38,15 +38,15 @@ RefusesChange number since (change.Range r) c = RefusesRange r c
 RefusesChange number since (change.KeyId key_id) c = IsTooLong (key_id_cells key_id) ⊎ IsFull c.revoked
 RefusesChange number since (change.Ca ca) c = RefusesCa (ca_from number since ca) c
 
--- the counters are refused, or then the row of the request
+-- the counters are refused, or after them the row of the request
 abbrev pub RefusesRecord : Counters → RequestRow → Contents → Type 0
 RefusesRecord k row c = RefusesCounters k c ⊎ RefusesRequest row (with_counters k c)
 
--- those are refused, or then the change
+-- these are refused, or after them the change
 abbrev pub RefusesRows : (number : ℕ) → Change → Counters → RequestRow → Contents → Type 0
 RefusesRows number change k row c =
     RefusesRecord k row c ⊎ RefusesChange number k.next change (with_request row (with_counters k c))
 
--- what was decided of the arrival is refused, where these CAs are there
+-- the rows of the decision on the request are refused, given that these are the existing CAs
 abbrev pub RefusesDecision : Decision → Arrival → List Ca → Contents → Type 0
 RefusesDecision d a cas c = RefusesRows (length cas + 1) d.change (counters_of d) (request_row (kept_of a d.reply)) c

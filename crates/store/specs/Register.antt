@@ -1,4 +1,4 @@
--- What becomes of a connection that a register is made of, with or without success.
+-- What happens to a connection from which a register is made, whether that succeeds or fails.
 use Rattle.std.specs.Prelude.{[], List, IsTrue}
 use Rattle.sqlite.specs.State.{State}
 use Rattle.office.specs.declared.opening.Opening.{Opening}
@@ -16,35 +16,35 @@ IsLeftOpen old new = IsTrue new.is_open
 
 -- ---- a new office
 
--- an empty database tells the opening, with nothing after it
+-- a database that was empty now represents the configuration, with no request after it
 abbrev pub Founds : Opening → State → State → Type 0
 Founds opening old new = IsBlank old → Tells new opening []
 
--- a database that was empty still is, where the connection is open
+-- a database that was empty still is, if the connection is open
 abbrev pub StaysBlank : State → State → Type 0
 StaysBlank old new = IsBlank old → IsTrue new.is_open → IsBlank new
 
--- of an empty database this fault is want of memory, or a failure of the disk
+-- if the database was empty, this fault is lack of memory, or a failure of the disk
 abbrev pub IsExcusedOfBlank : State → State → StoreFault → Type 0
 IsExcusedOfBlank old new e = IsBlank old → IsExcused (DiskFailed old new) e
 
--- ---- an office that is there
+-- ---- an existing office
 
--- of tables that tell a history this fault is want of memory, or a failure of the disk
+-- if the tables represent a history, this fault is lack of memory, or a failure of the disk
 abbrev pub IsExcusedOfHistory : State → State → StoreFault → Type 0
 IsExcusedOfHistory old new e = (o : Opening) (l : List Arrival) → Tells old o l → IsExcused (DiskFailed old new) e
 
 -- ---- an office of schema 1
 
--- the tables tell each history that they told in schema 1
+-- the tables represent each history that they represented in schema 1
 abbrev pub CarriesOn : State → State → Type 0
 CarriesOn old new = (o : Opening) (l : List Arrival) → IsHistory o l → TellsBefore old o l → Tells new o l
 
--- the tables tell in schema 1 each history that they told so
+-- the tables represent in schema 1 each history that they represented so before
 abbrev pub KeepsTellingBefore : State → State → Type 0
 KeepsTellingBefore old new = (o : Opening) (l : List Arrival) → TellsBefore old o l → TellsBefore new o l
 
--- of tables of schema 1 that tell a history this fault is want of memory, or a failure of the disk
+-- if tables of schema 1 represent a history, this fault is lack of memory, or a failure of the disk
 abbrev pub IsExcusedOfFormer : State → State → StoreFault → Type 0
 IsExcusedOfFormer old new e =
     (o : Opening) (l : List Arrival) → IsHistory o l → TellsBefore old o l → IsExcused (DiskFailed old new) e

@@ -1,4 +1,4 @@
--- The rows of an office: what the tables hold of a state and of the requests that were accepted.
+-- The rows of an office: those of its state and of its stored requests.
 use Rattle.std.specs.Prelude.{ℕ, suc, List, [], ◌∷◌, length, map}
 use Rattle.std.specs.List.{join_with_byte}
 use Rattle.std.specs.Option.{option_map}
@@ -22,7 +22,7 @@ use Rattle.store_sql.specs.declared.cas.CaRow.{CaRow}
 use Rattle.store_sql.specs.Contents.{Contents}
 use Rattle.cert.specs.Bodies.{kind_number}
 
--- the one row of the office, of schema 2
+-- the one row of the office, in schema 2
 abbrev pub office_row : State → OfficeRow
 office_row s = record {
   id = 1;
@@ -71,7 +71,7 @@ run_row r = record { lo = r.lo; hi = r.hi }
 abbrev pub ca_row : ℕ → Ca → CaRow
 ca_row number ca = record { number = number; ca = key_blob ca.key; since = ca.since }
 
--- CAs from a number on
+-- the rows of CAs, numbered from this number on
 abbrev pub ca_rows : ℕ → List Ca → List CaRow
 ca_rows number [] = []
 ca_rows number (ca ∷ cas) = ca_row number ca ∷ ca_rows (suc number) cas
@@ -80,7 +80,7 @@ ca_rows number (ca ∷ cas) = ca_row number ca ∷ ca_rows (suc number) cas
 abbrev pub revoked_runs : State → List Run
 revoked_runs s = runs_in s.revoked s.opening.first (length s.certificates)
 
--- all rows of a state and of what is kept with it
+-- all rows of a state and of its stored requests
 abbrev pub contents_of : State → List Kept → Contents
 contents_of s kept = record {
   offices = office_row s ∷ [];
@@ -92,6 +92,6 @@ contents_of s kept = record {
   cas = ca_rows 1 s.cas;
 }
 
--- all rows of the office of an opening after a history
+-- all rows of the office with a configuration after a history
 abbrev pub office_contents : Opening → List Arrival → Contents
 office_contents o l = contents_of (state o l) (kept_by (first_accepted o l))

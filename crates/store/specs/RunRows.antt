@@ -1,4 +1,4 @@
--- Runs of rows.
+-- Runs (maximal ranges of revoked serials) from rows.
 use Rattle.std.specs.Prelude.{◌≡◌, ℕ, ◌+◌, ◌≤◌, Bool, false, nat_le, List, [], ◌∷◌, map, Option, Some, None, Result, Ok}
 use Rattle.std.specs.Prelude.{Err}
 use Rattle.krl.specs.declared.run.Run.{Run}
@@ -22,19 +22,19 @@ abbrev pub RiseFrom : ℕ → List Run → Type 0
 RiseFrom from [] = Unit {0}
 RiseFrom from (r ∷ runs) = (from ≤ r.lo) × (r.lo ≤ r.hi) × RiseFrom (r.hi + 2) runs
 
--- the runs of the rows, or memory is refused; where they don't ascend a row is damaged
+-- the runs of the rows; or memory is refused, or a row is reported as damaged, because they don't ascend
 abbrev pub AreRead : List RunRow → Result (List Run) Fault → Type 0
 AreRead rows (Ok runs) = runs ≡ runs_of rows
 AreRead rows (Err NoMemory) = Unit {0}
 AreRead rows (Err Damaged) = ¬ RiseFrom 0 (runs_of rows)
 AreRead rows (Err Device) = ⊥
 
--- the run is there, and ends with the serial or after it
+-- there is such a run, and it ends at or after the serial
 abbrev pub reaches : Option RunRow → ℕ → Bool
 reaches None hi = false
 reaches (Some r) hi = nat_le hi r.hi
 
--- the maximal runs of the revoked serials, which have just these
+-- the maximal runs of the revoked serials, which contain exactly those
 pub record AreRevokedRuns (runs : List Run) (s : State) (kept : List Kept) : Type 0 where
   pub maximal : runs ≡ revoked_runs s
   pub serials : IsOfHistory s kept → (n : ℕ) → contains runs n ≡ s.revoked n

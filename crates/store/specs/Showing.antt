@@ -15,8 +15,8 @@ use Rattle.office.specs.History.{first_accepted, kept_by, state}
 use Rattle.store.specs.Rows.{office_contents}
 use Rattle.store.specs.Meaning.{IsHistory}
 
--- Of tables with the rows of an office after a history: this is shown of its state and of what is kept with it, and
--- nothing has changed; or the call fails, for want of memory or because the database failed.
+-- For tables with the rows of an office after a history: `Shown` holds of its state, its stored requests and the
+-- answer, and nothing has changed; or the call fails, for lack of memory or because the database failed.
 abbrev pub ShowsOffice : {X : Type 0} → (State → List Kept → X → Type 0) → Connection → Connection → Result X Fault
     → Type 0
 ShowsOffice Shown old new (Ok x) =
@@ -26,14 +26,14 @@ ShowsOffice Shown old new (Err f) =
     (o : Opening) (l : List Arrival) → IsHistory o l → Means old.now (office_contents o l)
     → Fails old new × HasCause old new f
 
--- all that a reading call does: this is shown, and nothing changes
+-- everything that a reading call does: its answer satisfies `Shown`, and nothing changes
 pub record Reading {X : Type 0} (Shown : State → List Kept → X → Type 0) (old new : Connection) (r : Result X Fault)
     : Type 0 where
   pub shows : HasCleanDisk new → ShowsOffice Shown old new r
   pub reads : HasCleanDisk new → OnlyReads old new r
   pub survives : Survives old new Never
 
--- of a connection
+-- for a connection
 abbrev pub ReadsOffice : {S X : Type 0} → Ghosts S → (State → List Kept → X → Type 0) → Held S → Held S → Result X Fault
     → Type 0
 ReadsOffice g Shown old new r = Reading Shown (state_of g old) (state_of g new) r

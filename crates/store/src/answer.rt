@@ -1,4 +1,4 @@
-//! Answers of the tables.
+//! Results of allocations, as answers of the tables.
 
 ghost use Rattle.std.specs.Prelude.{◌≡◌};
 ghost use Rattle.store.specs.Meaning.{made};
@@ -6,7 +6,7 @@ ghost use Rattle.store.specs.Meaning.{made};
 use store_sql::Fault;
 use text::NoMemory;
 
-/// What was made where memory allowed it, as an answer of the tables.
+/// The result of an allocation as an answer of the tables: a refused one is `NoMemory`.
 pub(crate) fn made<T>(value: Result<T, NoMemory>) -> Result<T, Fault>
     ensures { result ≡ made value }
 {

@@ -1,4 +1,4 @@
-//! The tables of an office in which nothing has happened yet.
+//! The tables of an office that has received no request yet.
 
 ghost use Rattle.std.specs.Prelude.{◌≡◌, ◌∷◌, [], ◌<◌, ◌^◌, IfOk};
 ghost use Rattle.store_sql.specs.Contents.{no_contents};
@@ -19,7 +19,7 @@ use std::alloc::Global;
 use store_sql::{CaRow, Fault, Number, OfficeRow, begin, create_tables, insert_ca, insert_office};
 use text::{NoMemory, Text};
 
-/// The schema that is made, and the only one that is opened.
+/// The schema of new tables, and the only one that can be opened.
 pub(crate) const SCHEMA: u64 = 2;
 
 fn office_row(alloc: Global, opening: &Opening) -> Result<OfficeRow, NoMemory>
@@ -82,7 +82,7 @@ fn make_whole<S: Alter>(
     conclude(conn, made)
 }
 
-/// Makes the tables of the office that begins so in a database without tables, all of them or none.
+/// Makes the tables of an office with this initial configuration in a database without tables, all of them or none.
 pub(crate) fn create<S: Alter>(
     alloc: Global,
     conn: &mut Connection<S>,

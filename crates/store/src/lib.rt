@@ -1,8 +1,8 @@
 //! The office's register in the tables of a database.
 //!
-//! An office is made whole or not at all, and so is each arrival, in one transaction: what is answered is due after the
-//! history that the tables tell, and a crash leaves that history or the one with the arrival. What the tables tell they
-//! tell after each reading call too, and after each call that failed.
+//! An office is created in one transaction, whole or not at all, and each received request is processed in one: its
+//! answer is the one specified after the history that the tables represent, and a crash leaves that history or the one
+//! with the request. The tables still represent their history after each reading call, and after each call that failed.
 #![tactic(auto)]
 
 mod answer;

@@ -1,4 +1,4 @@
-//! What is read for reports: what is revoked, and certificates in batches.
+//! Data for reports: the revoked serials and key IDs, and certificates in batches.
 
 ghost use Rattle.std.specs.Prelude.{◌≡◌, ◌+◌, min};
 ghost use Rattle.store.specs.ShowingRows.{AreWithin};
@@ -26,7 +26,7 @@ fn with_key_ids<S: Alter>(
     Ok(Revocations { serials, key_ids })
 }
 
-/// The serials and the key ids that are revoked.
+/// The revoked serials and key IDs.
 pub(crate) fn read_revocations<S: Alter>(
     alloc: Global,
     conn: &mut Connection<S>,
@@ -37,7 +37,7 @@ pub(crate) fn read_revocations<S: Alter>(
     with_key_ids(alloc, conn, serials)
 }
 
-/// The number, as a column can hold it: the greatest that it holds in place of a greater one.
+/// The number, limited to the greatest number that a column can hold.
 fn column_number(value: u64) -> Number
     ensures { result ≡ min value 9223372036854775807 }
 {
@@ -58,7 +58,7 @@ fn batch_from<S: Alter>(
     read_certificates(alloc, conn, column_number(lo), column_number(hi))
 }
 
-/// Certificates by serial, from the one at this place on, of many the first 1000. Their rows alone are read.
+/// Certificates by serial, from this place on, at most 1000. It reads only their rows.
 pub(crate) fn read_batch<S: Alter>(
     alloc: Global,
     conn: &mut Connection<S>,

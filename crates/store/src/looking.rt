@@ -1,4 +1,4 @@
-//! A look at a database: is it an office's?
+//! Whether a database is an office's.
 
 ghost use Rattle.std.specs.Prelude.{◌≡◌, false};
 ghost use Rattle.std.specs.List.{list_any};
@@ -31,7 +31,7 @@ fn opened_by(rows: &[OfficeRow]) -> Result<(), StoreFault>
     }
 }
 
-/// Whether the database has an office of this version.
+/// Checks that the database has an office of the supported schema.
 pub(crate) fn look<S: Alter>(alloc: Global, conn: &mut Connection<S>) -> Result<(), StoreFault>
     ensures looks { On S.Store (LooksUnless HasFailed) conn.old conn.new result }
     ensures same { Between S.Store KeepsTelling conn.old conn.new }

@@ -1,7 +1,7 @@
-//! Tables of schema 1, moved to schema 2.
+//! Migration of tables from schema 1 to schema 2.
 //!
-//! The file of an office of schema 1 gets the table of CAs, with the office's own CA as the first, and the number of
-//! schema 2: all of it in one transaction, or nothing. Each other row stays as it is.
+//! The file of an office of schema 1 gets the table of CAs, with the office's own CA as the first, and schema number 2,
+//! all in one transaction, or nothing. All other rows stay as they are.
 
 mod ending;
 mod first_ca;

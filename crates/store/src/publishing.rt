@@ -1,4 +1,4 @@
-//! What the published list is made of.
+//! The contents of the published KRL.
 
 ghost use Rattle.std.specs.Prelude.{◌≡◌, IfOk};
 ghost use Rattle.std.specs.List.Sorted.{IsNonDecreasing};
@@ -40,7 +40,7 @@ fn ordered(cas: Vec<Ca>) -> Result<Vec<Ca>, Fault>
     }
 }
 
-/// The CAs by number, of which none serves from an earlier serial on than the one before it.
+/// The CAs by number, checked: none serves from an earlier serial than the one before it.
 fn read_serving_cas<S: Alter>(alloc: Global, conn: &mut Connection<S>) -> Result<Vec<Ca>, Fault>
     ensures reads { ReadsOffice S.Store (λ s kept cas. cas.items ≡ s.cas) conn.old conn.new result }
     ensures ordered { IfOk result (λ cas. IsNonDecreasing (numbers cas.items)) }
@@ -90,7 +90,7 @@ fn revoked_with<S: Alter>(
     revoked_under(alloc, conn, head, cas.as_slice())
 }
 
-/// What the published list is made of.
+/// The contents of the published KRL.
 pub(crate) fn read_revoked<S: Alter>(
     alloc: Global,
     conn: &mut Connection<S>,

@@ -1,7 +1,7 @@
 //! The rows that a message concerns, found in the tables.
 //!
-//! Each call reads, and changes nothing: of tables that hold the rows of a lawful state it answers the state's, or
-//! fails for want of memory or because the database failed.
+//! Each call only reads. If the tables hold the rows of a valid state, it answers from that state, or fails for lack of
+//! memory or because the database failed.
 
 mod certificate_finder;
 mod concerning;

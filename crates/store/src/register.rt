@@ -1,4 +1,4 @@
-//! The register, from its connection and back.
+//! The register: made from a connection, and turned back into one.
 
 ghost use Rattle.std.specs.Prelude.{◌≡◌, false, [], Err, IfErr, IfOk, IsTrue, Ok, true};
 ghost use Rattle.std.specs.List.{list_any};
@@ -32,10 +32,10 @@ pub struct Store<S: Alter> {
 }
 
 impl<S: Alter> Store<S> {
-    /// An office in which nothing has happened yet, in a database without tables. `AlreadyAnOffice` where the database
-    /// has a table of a name that an office needs, `Device` where the database fails, and `NoMemory` for want of
-    /// memory. All tables are made or, with a fault, which gives the connection back, none. No transaction may be open,
-    /// and the connection may have no limit on the steps of a query, since a call that meets one fails.
+    /// Creates an office with this initial configuration in a database without tables. `AlreadyAnOffice` if the
+    /// database has a table with a name that an office needs, `Device` if the database fails, and `NoMemory` for lack
+    /// of memory. If it fails, no table is made, and it returns the connection. No transaction may be open, and the
+    /// connection may have no limit on the steps of a query, since a call that reaches one fails.
     pub fn init(
         alloc: Global,
         conn: Connection<S>,
@@ -51,13 +51,13 @@ impl<S: Alter> Store<S> {
         ensures before { IfErr result (λ e. Between S.Store IsAsBefore conn e.1) }
         ensures blank { IfErr result (λ e. Between S.Store StaysBlank conn e.1) }
 
-        // Of an empty database want of memory and a failure of the database are the only faults.
+        // If the database was empty, lack of memory and a failure of the database are the only faults.
         ensures only { IfErr result (λ e. On S.Store IsExcusedOfBlank conn e.1 e.0) }
 
-        // A connection that told the history of an office tells it, also one that a failed disk has shut.
+        // A connection that represented the history of an office still does, even if a failed disk has closed it.
         ensures told { IfErr result (λ e. Between S.Store KeepsTelling conn e.1) }
 
-        // A crash in its midst leaves the database without tables, or with the whole office.
+        // A crash during the call leaves the database without tables, or with the whole office.
         ensures crash { IfOk result (λ s. OutlivesBy S.Store (LeavesOnBlank (office_contents opening.now []))
             conn s.conn) }
         ensures crash_back { IfErr result (λ e. OutlivesBy S.Store (LeavesOnBlank (office_contents opening.now []))
@@ -73,14 +73,13 @@ impl<S: Alter> Store<S> {
         }
     }
 
-    /// The office that a database has. `NotAnOffice` where the table of the office is missing or has not just one row,
-    /// `WrongSchema` where its tables are those of another version, `Device` where the database failed. A fault gives
-    /// the connection back. No transaction may be open, and the connection may have no limit on the steps of a query.
+    /// Opens the office of a database. `NotAnOffice` if the `office` table is missing or doesn't have exactly one row,
+    /// `WrongSchema` if its tables are those of another schema, `Device` if the database failed. A fault returns the
+    /// connection. No transaction may be open, and the connection may have no limit on the steps of a query.
     pub fn open(alloc: Global, conn: Connection<S>) -> Result<Store<S>, (StoreFault, Connection<S>)>
         requires outside { IsOutside S.Store conn }
         requires unlimited { IsUnlimited S.Store conn }
-        // What the rows of the table of the office say, where that is the first table: so it is in schema 1 and in
-        // schema 2.
+        // The rows of the `office` table decide, if that is the first table, as it is in schema 1 and in schema 2.
         ensures opened { IfOk result (λ s. On S.Store (LooksUnless DiskFailed) conn s.conn (Ok tt)) }
         ensures stays_open { IfOk result (λ s. Between S.Store IsLeftOpen conn s.conn) }
         ensures before { IfErr result (λ e. Between S.Store IsAsBefore conn e.1) }
@@ -92,7 +91,7 @@ impl<S: Alter> Store<S> {
         ensures none { list_any is_office_table (tables_of S.Store conn) ≡ false → result ≡ Err
             (record { 0 = StoreFault.NotAnOffice; 1 = conn }) }
 
-        // A disk that has returned what was written as the call ends had done so when it began.
+        // A disk that was faithful when the call ended was so when it began.
         ensures honest { IfOk result (λ s. StaysClean S.Store conn s.conn) }
         ensures honest_back { IfErr result (λ e. StaysClean S.Store conn e.1) }
     {
@@ -103,11 +102,11 @@ impl<S: Alter> Store<S> {
         }
     }
 
-    /// The office of a database with the tables of schema 1, which become those of this version: its CA gets number 1.
-    /// All of it is done or, with a fault, which gives the connection back, nothing. `NotAnOffice` where the table of
-    /// the office is missing or has not just one row, `WrongSchema` where its tables are those of another version,
-    /// `Device` where the database failed or its rules refuse the CA, which they don't of an office that tells a
-    /// history. No transaction may be open, and the connection may have no limit on the steps of a query.
+    /// Migrates the office of a database from schema 1 to the current schema: its CA gets number 1. If it fails,
+    /// nothing has changed, and it returns the connection. `NotAnOffice` if the `office` table is missing or doesn't
+    /// have exactly one row, `WrongSchema` if its tables are those of another schema, `Device` if the database failed
+    /// or its rules refuse the CA, which never happens if its tables represent a history. No transaction may be open,
+    /// and the connection may have no limit on the steps of a query.
     pub fn migrate(
         alloc: Global,
         conn: Connection<S>,
@@ -120,15 +119,16 @@ impl<S: Alter> Store<S> {
         ensures back { IfErr result (λ e. Between S.Store KeepsTellingBefore conn e.1) }
         ensures only { IfErr result (λ e. OnOpen S.Store IsExcusedOfFormer conn e.1 e.0) }
 
-        // A connection that told the history of an office of schema 2 tells it, also one that a failed disk has shut.
+        // A connection that represented the history of an office of schema 2 still does, even if a failed disk has
+        // closed it.
         ensures told { IfErr result (λ e. Between S.Store KeepsTelling conn e.1) }
 
-        // Row by row: it is done where the one row of the office is of schema 1, and each fault has its cause.
+        // In terms of rows: it succeeds only if the one row of the office is of schema 1, and each fault has its cause.
         ensures moved { IfOk result (λ s. Between S.Store Moves conn s.conn) }
         ensures judged { IfOk result (λ s. On S.Store JudgesAtRest conn s.conn (Ok tt)) }
         ensures judged_back { IfErr result (λ e. On S.Store JudgesAtRest conn e.1 (Err e.0)) }
 
-        // A crash in its midst leaves the tables as they were, or as they are when it is done.
+        // A crash during the call leaves the tables as they were before it, or as they are after it.
         ensures crash { IfOk result (λ s. OutlivesBy S.Store (Leaves Had migrated) conn s.conn) }
         ensures crash_back { IfErr result (λ e. OutlivesBy S.Store (Leaves Had migrated) conn e.1) }
         ensures none { list_any is_office_table (tables_of S.Store conn) ≡ false → result ≡ Err
@@ -143,7 +143,7 @@ impl<S: Alter> Store<S> {
         }
     }
 
-    /// The connection, with the tables as they are.
+    /// The connection, with its tables unchanged.
     pub fn into_connection(self) -> Connection<S>
         ensures { result ≡ self.conn }
     {

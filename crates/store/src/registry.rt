@@ -1,4 +1,4 @@
-//! The tables are a register.
+//! The register as an implementation of `Registry`.
 
 ghost use Rattle.std.specs.Prelude.{IsTrue};
 ghost use Rattle.std.proofs.Common.{◌∙◌, refl};

@@ -1,7 +1,7 @@
-//! Rows of the tables as values of the office, and values as rows.
+//! Conversion of the tables' rows to the office's values, and back.
 //!
-//! A row is read as a lawful value, or told damaged. What a reading call shows of tables that hold a lawful state is
-//! the state's, and a transaction ends whole or undone.
+//! A row is read as a valid value, or reported as damaged. If the tables hold the rows of a valid state, a reading call
+//! shows that state. A transaction ends committed or rolled back.
 
 mod cas;
 mod cert_rows;

@@ -1,4 +1,4 @@
-//! The certificate of a serial.
+//! The certificate with a given serial.
 
 ghost use Rattle.std.specs.Prelude.{◌≡◌, IfOk};
 ghost use Rattle.std.specs.Option.{option_map};
@@ -23,7 +23,7 @@ fn body_in(found: Option<Certificate>) -> Option<Text>
     }
 }
 
-/// The body of a serial, or `None` where it wasn't issued.
+/// The unsigned certificate (body) with this serial, or `None` if it wasn't issued.
 pub(crate) fn read_body_of<S: Alter>(
     alloc: Global,
     conn: &mut Connection<S>,
@@ -48,7 +48,7 @@ fn issued_in(alloc: Global, found: Option<Certificate>) -> Result<Option<Issued>
     }
 }
 
-/// The certificate of a serial, or `None` where it wasn't issued.
+/// The certificate with this serial, or `None` if it wasn't issued.
 pub(crate) fn read_issued<S: Alter>(
     alloc: Global,
     conn: &mut Connection<S>,

@@ -1,6 +1,6 @@
-//! What an arrival is answered, inside a transaction.
+//! The answer to a received request, inside a transaction.
 //!
-//! Large values are dropped by name: the proof of a function that ends with one takes each of its fields apart.
+//! Large values are dropped explicitly: if a function ends with one, its proof takes each field apart.
 
 ghost use Rattle.std.specs.Prelude.{◌≡◌, IsTrue, Some, length};
 ghost use Rattle.message.specs.Values.{is_message};
@@ -19,10 +19,10 @@ use std::alloc::Global;
 use store_sql::Fault;
 use values::{LATEST_MOMENT, Refusal};
 
-/// The last version of the published list.
+/// The last version of the published KRL.
 const LAST_VERSION: u64 = 9223372036854775806;
 
-/// Writes what was decided of an arrival.
+/// Writes the decision on a received request.
 fn accept<S: Alter>(
     alloc: Global,
     conn: &mut Connection<S>,
@@ -39,7 +39,7 @@ fn accept<S: Alter>(
     Ok(Outcome::Accepted(reply))
 }
 
-/// Accepts what was decided. A version past the last counts as a refused growth.
+/// Writes the decision. A version above the last one counts as a refused allocation.
 fn accept_version<S: Alter>(
     alloc: Global,
     conn: &mut Connection<S>,
@@ -66,7 +66,7 @@ fn stopped(stop: Stop) -> Result<Outcome, Fault>
     }
 }
 
-/// Decides on the rows that a message concerns, of which a version past the last counts as a refused growth.
+/// Decides from the rows that a message concerns. A version above the last one counts as a refused allocation.
 fn weigh<S: Alter>(
     alloc: Global,
     conn: &mut Connection<S>,
@@ -100,7 +100,7 @@ fn weigh<S: Alter>(
     }
 }
 
-/// Reads the rows that a message concerns.
+/// Reads the rows that a message concerns, and decides.
 fn consider<S: Alter>(
     alloc: Global,
     conn: &mut Connection<S>,
@@ -117,7 +117,7 @@ fn consider<S: Alter>(
     outcome
 }
 
-/// Refuses a message that comes too late or under a key that was used, and considers another.
+/// Refuses a message that comes too late or under a used request ID, and considers any other.
 fn admit<S: Alter>(
     alloc: Global,
     conn: &mut Connection<S>,
@@ -139,7 +139,7 @@ fn admit<S: Alter>(
     consider(alloc, conn, arrival, message)
 }
 
-/// Reads the message of an arrival that is no repeat.
+/// Reads the message of a received request that isn't a repeat.
 fn judge<S: Alter>(
     alloc: Global,
     conn: &mut Connection<S>,
@@ -160,7 +160,7 @@ fn judge<S: Alter>(
     }
 }
 
-/// Answers the reply that is kept, if the message is the same.
+/// Answers with the stored reply if the message is the same, and otherwise judges the message.
 fn settle_beside<S: Alter>(
     alloc: Global,
     conn: &mut Connection<S>,
@@ -179,7 +179,7 @@ fn settle_beside<S: Alter>(
     judge(alloc, conn, arrival, true)
 }
 
-/// What is due to an arrival, written if it is accepted now.
+/// Answers a received request as specified, and stores it if it is accepted now.
 pub(crate) fn settle<S: Alter>(
     alloc: Global,
     conn: &mut Connection<S>,

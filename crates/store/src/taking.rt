@@ -1,4 +1,4 @@
-//! One arrival, in one transaction.
+//! Processing of one received request, in one transaction.
 
 ghost use Rattle.std.specs.Prelude.{◌≡◌, length};
 ghost use Rattle.store.specs.Transactions.{Ends, KeepsOnErr, LeavesDue};
@@ -12,7 +12,7 @@ use sqlite::{Alter, Connection};
 use std::alloc::Global;
 use store_sql::{Fault, begin};
 
-/// The fault of a statement that shows no rows, of which none is damaged.
+/// The fault of a statement that reads no rows, so none can be damaged.
 fn of_statement(fault: Fault) -> Fault
     ensures { result ≡ of_statement fault }
 {
@@ -22,7 +22,7 @@ fn of_statement(fault: Fault) -> Fault
     }
 }
 
-/// Answers an arrival what is due, and keeps it if it is accepted now: all of it or, with a fault, nothing.
+/// Answers a received request as specified, and stores it if it is accepted now. If it fails, nothing has changed.
 pub(crate) fn take<S: Alter>(
     alloc: Global,
     conn: &mut Connection<S>,
@@ -34,7 +34,7 @@ pub(crate) fn take<S: Alter>(
     ensures cause { On S.Store (FailsAsCaused arrival.now) conn.old conn.new result }
     ensures before { On S.Store KeepsOnErr conn.old conn.new result }
 
-    // A crash in its midst leaves the tables as they were, or with the arrival, with which the history goes on.
+    // A crash during the call leaves the tables as they were, or with the request, which then extends the history.
     ensures survives { OutlivesBy S.Store (LeavesDue (IsAfter IsAny) (IsAnswered arrival.now)
         (contents_with arrival.now)) conn.old conn.new }
 {

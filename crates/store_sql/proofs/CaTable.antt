@@ -80,7 +80,7 @@ ca_put a = record {
       ((λ e. cc), ((λ e. cc), ((λ e. cc), ((λ e. key), tt))));
 }
 
--- the key is there
+-- the key is taken
 ca_clash : (a : CaRow) (s : State) (c : Contents) → Means s.now c → HasClash s.now.trees ca_at [] (ca_row a)
     → HasOne (λ d. (d.number ≡ a.number) ⊎ (d.ca ≡ a.ca)) c.cas
 unfolding first_key

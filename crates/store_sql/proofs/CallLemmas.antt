@@ -1,4 +1,4 @@
--- What the calls do, from what their texts mean.
+-- The effect of the calls, from the meaning of their SQL texts.
 use Rattle.store_sql.proofs.Words.{Begin, Changes, Command, Commit, CommitsBy, CommitsShowing, Compiled, Contents}
 use Rattle.store_sql.proofs.Words.{Database, Delete, Does, Error, Executes, FailsBy, FailsIn, FailsToQuery, Fault}
 use Rattle.store_sql.proofs.Words.{Finds, FindsIn, FindsOne, Found, Global, HasCause, HasCleanDisk, Holds, IfErr, IfOk}
@@ -28,7 +28,7 @@ IsOnRows (Update at q) = Unit {0}
 IsOnRows (Delete at q) = Unit {0}
 IsOnRows _ = ⊥
 
--- a text that makes this of the contents
+-- a text with this effect on the contents
 pub record Write (sql : List ℕ) (params : Row) (after : Contents → Contents) : Type 0 where
   pub command : Command
   pub is : IsStatement sql command (length params)
@@ -76,7 +76,7 @@ closes_none (Update at q) on = refl
 closes_none (Delete at q) on = refl
 closes_none _ on = absurd on
 
--- all that a call of such a text does, which fails for these causes
+-- the whole contract of a call with such a text, which fails for these causes
 pub wrote : {X : Type 0} {sql : List ℕ} {params : Row} {after : Contents → Contents}
     {Causes : State → State → Result X Fault → Type 0} {old new : State} (w : Write sql params after)
     → ((old new : State) (r : Result X Fault) → FailsBy (HasWriteCause sql params) old new r → Causes old new r)
@@ -103,13 +103,13 @@ wrote {sql = sql} {params = params} {after = after} {old = old} {new = new} w fa
 
 -- ---- queries
 
--- the text is one query, of so many parameters
+-- the text is one query, with this many parameters
 abbrev pub IsSelect : Schema → List ℕ → Query → List (List ℕ) → ℕ → Type 0
 IsSelect schema sql query names count =
     (command_of (understood schema sql) ≡ Select (record { lets = []; body = query }) names)
     × (reads_listing schema sql ≡ false) × IsPlain (understood schema sql) × IsWhole sql count (understood schema sql)
 
--- a text that finds these structs in a database of this schema, whose trees hold something
+-- a text that finds these structs in a database with this schema and these trees
 pub record FindIn {A X : Type 0} (schema : Schema) (Held : Trees → A → Type 0) (sql : List ℕ) (params : Row) (cells : X → Row)
     (of : A → List X) : Type 0 where
   pub query : Query
@@ -121,7 +121,7 @@ pub record FindIn {A X : Type 0} (schema : Schema) (Held : Trees → A → Type 
   pub answers : (trees : Trees) (rows : List Row) (a : A) → Held trees a
       → IsAnswer query (overlay trees []) params rows → IsPermutation (map cells (of a)) rows
 
--- the same of the office's tables
+-- the same for the office's tables
 abbrev pub Find : {X : Type 0} → List ℕ → Row → (X → Row) → (Contents → List X) → Type 0
 Find sql params cells of = FindIn whole Holds sql params cells of
 
@@ -147,7 +147,7 @@ module _ {A X : Type 0} {schema : Schema} {Held : Trees → A → Type 0} {sql :
 in_tables : (c : Contents) (db : Database) → Means db c → (db.schema ≡ whole) × Holds db.trees c
 in_tables c db means = (means.schema, means.kept.holds)
 
--- such a text shows no rows of a write, whatever the tables are
+-- such a text has no RETURNING clause, whatever the tables are
 silent : {X : Type 0} {sql : List ℕ} {params : Row} {cells : X → Row} {of : Contents → List X} (f : Find sql params cells of)
     (s : State) (c : Compiled) → understood s.now.schema sql ≡ Ok c → c.returning ≡ None
 silent {sql = sql} f s c is =
@@ -183,7 +183,7 @@ module _ {X : Type 0} {sql : List ℕ} {params : Row} {cells : X → Row} {of : 
     causes_first Has cells of f.apart old new answer r read rows_shown (causes f Has in_tables old new answer ok err),
   )
 
--- all that a call of such a text does
+-- the whole contract of a call with such a text
 module _ {X : Type 0} {sql : List ℕ} {params : Row} {cells : X → Row} {of : Contents → List X}
     (f : Find sql params cells of) {old new : State} (answer : Result (Vec Row Global) Error)
     (ok : HasCleanDisk new → IfOk answer (λ rows. Shown sql params old new rows.items))

@@ -62,7 +62,7 @@ puts = record {
 pub put : (x : CertRow) → Write INSERT_CERT.now (cert_cells x) (with_cert x)
 put = insert puts
 
--- ---- SELECT of one
+-- ---- SELECT of one certificate
 
 abbrev columns : List Term
 columns = col 1 0 ∷ col 1 2 ∷ col 1 3 ∷ col 1 4 ∷ col 1 5 ∷ []
@@ -84,7 +84,7 @@ find serial = select tree find_is (has_serial serial)
     shown (λ x. and-true _ ∙ int_test (pos x.serial) (pos serial) ∙ same_number x.serial serial) (λ x. refl) (λ r. refl)
     (λ r. refl) refl (λ c. refl)
 
--- ---- SELECT of those between two serials
+-- ---- SELECT of the certificates between two serials
 
 abbrev within_tests : List Term
 within_tests = op2 (Compare Ge Binary) (col 1 0) (col 0 0) ∷ op2 (Compare Le Binary) (col 1 0) (col 0 1) ∷ []
@@ -176,7 +176,7 @@ module _ (x : CertRow) where
           elim x.signature as (λ o. is_exact (or_null Blob o) ≡ true) [ None ↦ refl | Some b ↦ refl ] in
           (refl, (refl, (refl, (refl, (refl, (last, tt))))))
 
-  -- the row has its department
+  -- the department of the row exists
   has_own : (trees : Trees) (c : Contents) → Lists department_cells department_places (trees 1) c.departments
       → HasOne (λ d. d.name ≡ x.department) c.departments → has_department trees its_row ≡ true
   unfolding first_key
@@ -186,7 +186,7 @@ module _ (x : CertRow) where
       or_right (has_null (2 ∷ []) its_row) _ (some_from (λ r. agree plain (1 ∷ []) r (2 ∷ []) its_row) (trees 1) it.0
       it.1 (rw name (own_name x.department)))
 
-  -- with its department there no reference is broken
+  -- if its department exists, no reference is broken
   referred : (s : State) (c : Contents) (next : Trees) → Means s.now c
       → HasOne (λ d. d.name ≡ x.department) c.departments → Applies whole Enforced s.now.trees
       (one s.now.trees cert_at [] its_row) next → Refers All whole next
@@ -202,7 +202,7 @@ module _ (x : CertRow) where
 -- ---- why a signature is refused
 
 module _ (serial : ℕ) (signature : List ℕ) where
-  -- the department of the row that was there
+  -- the department of the existing row
   own_department : (db : Trees) (x : CertRow) (r : Row) → at_places cert_places r ≡ cert_cells x → has_department db r ≡ true
       → has_department db (cert_row (signed signature x)) ≡ true
   own_department db x r is h =

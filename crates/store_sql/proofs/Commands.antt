@@ -1,4 +1,4 @@
--- What a command is, whatever the tables are: whether it is a query, and whether it may end a transaction.
+-- Properties of a command, whatever the tables are: whether it is a query, and whether it may end a transaction.
 use Rattle.store_sql.proofs.Words.{Bool, Checked, CompileError, Err, List, Name, NoSuchTable, None, Ok, Option, Some}
 use Rattle.store_sql.proofs.Words.{[], and_then, command, false, if◌then◌else◌, is_select, is_some, length, not, refl}
 use Rattle.store_sql.proofs.Words.{true, ℕ, ◌&&◌, ◌==◌, ◌≡◌}
@@ -36,12 +36,12 @@ use Rattle.sqlite_resolve.specs.Define as define
 pub same_ok : {A : Type 0} {a b : A} → ◌≡◌ {A = Checked A} (Ok a) (Ok b) → a ≡ b
 same_ok e = cc
 
--- what gave a value gave it from the value of its first part
+-- a chain that succeeded did so from the value of its first part
 pub gone : {A B : Type 0} (r : Checked A) (f : A → Checked B) (b : B) → and_then r f ≡ Ok b → (a : A) × (r ≡ Ok a) × (f a ≡ Ok b)
 gone (Ok a) f b h = (a, refl, h)
 gone (Err e) f b h = absurd (cc)
 
--- ---- what a command is: whether it is a query, and whether it may end a transaction
+-- ---- whether a command is a query, and whether it may end a transaction
 
 abbrev pub closes : Command → Bool
 closes Commit = true
@@ -53,7 +53,7 @@ abbrev pub Is : Bool → Bool → Checked Command → Type 0
 Is asks ends (Ok c) = (is_select c ≡ asks) × (closes c ≡ ends)
 Is asks ends (Err e) = Unit {0}
 
--- what follows in each case follows
+-- what holds of every continuation holds of the chain
 follows : {A : Type 0} (asks ends : Bool) (r : Checked A) (f : A → Checked Command) → ((a : A) → Is asks ends (f a))
     → Is asks ends (and_then r f)
 follows asks ends (Ok a) f each = each a

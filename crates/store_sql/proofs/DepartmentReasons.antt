@@ -29,7 +29,7 @@ use Rattle.store_sql.proofs.Stops.{IsHalted}
 use Rattle.store_sql.proofs.NumberUpdates.{freed, sole}
 use Rattle.store_sql.proofs.Upserts.{IsUnmet, upsert_halts}
 
--- certificates keep their departments where each name stays
+-- certificates keep their departments if each name stays
 names_stay : (db next : Trees) → next 3 ≡ db 3
     → ((p : Row → Bool) → ((r s : Row) → column r 1 ≡ column s 1 → p r ≡ true → p s ≡ true) → list_any p (db 1) ≡ true
     → list_any p (next 1) ≡ true)
@@ -89,7 +89,7 @@ module _ (d : DepartmentRow) where
         whole.indexes i ((λ e same. same), ((λ e. never e refl), ((λ e. never e refl), ((λ e. never e refl), tt)))) here on same,
   )
 
-  -- ---- where no department has the name
+  -- ---- no department has the name
 
   added : (s : State) (c : Contents) → Means s.now c
       → AreConflicts (Some (1 ∷ [])) whole.indexes department_at (s.now.trees 1) (fresh_row d (s.now.trees 1)) []
@@ -113,7 +113,7 @@ module _ (d : DepartmentRow) where
       some_from p (next 1) found.0 (subst (λ l. Has l found.0) (sym did.rows) (put_all_keeps (new ∷ []) (db 1) found.0 did.fresh found.1)) found.2)
       (each_refers db (means.kept.sound.obeys.rules ForeignKey))))) stopped
 
-  -- ---- where one has it
+  -- ---- a department has the name
 
   module _ (s : State) (c : Contents) (means : Means s.now c) (r0 : Row) (here0 : Has (s.now.trees 1) r0)
       (hit0 : named d.name r0 ≡ true) where
@@ -125,7 +125,7 @@ module _ (d : DepartmentRow) where
         let name : column r0 1 ≡ Text d.name = name_is d c db means.kept r0 here0 hit0 r0 here0 hit0 in
         let new = fresh_is (db 1) in rw (new, id, name) (simp cast_int)
 
-    -- each name is there still
+    -- each name is still there
     renamed : (k : ℕ) (next : Trees) → rowid r0 ≡ Int (pos k)
         → Applies whole Enforced db (one db department_at (pos k ∷ []) (row_at (pos k))) next → (p : Row → Bool)
         → ((r t : Row) → column r 1 ≡ column t 1 → p r ≡ true → p t ≡ true) → list_any p (db 1) ≡ true → list_any p (next 1) ≡ true

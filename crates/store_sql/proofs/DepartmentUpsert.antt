@@ -37,7 +37,7 @@ put_sql = PUT_DEPARTMENT.now
 abbrev pub terms : List Term
 terms = lit Null ∷ col 0 0 ∷ col 0 1 ∷ col 0 2 ∷ col 0 3 ∷ col 0 4 ∷ col 0 5 ∷ col 0 6 ∷ col 0 7 ∷ []
 
--- the parameters, the rowid of the row that is there at 8, the rowid of the new row at 9, and its columns from 10
+-- the parameters from 0, the rowid of the existing row at 8, that of the new row at 9, and the new columns from 10
 abbrev pub put_query : Query
 put_query = on_table 1 (op2 (Compare Eq Binary) (col 1 0) (col 0 8) ∷ [])
     (col 1 0 ∷ col 1 0 ∷ col 1 1 ∷ col 0 11 ∷ col 0 12 ∷ col 0 13 ∷ col 0 14 ∷ col 0 15 ∷ col 0 16 ∷ col 0 17 ∷ []) []
@@ -63,13 +63,13 @@ module _ (d : DepartmentRow) where
   abbrev pub fresh_row : List Row → Row
   fresh_row rows = with_rowid Chosen rows (cast_row department_at source)
 
-  -- the rows that conflict are those of the name
+  -- the conflicting rows are those with the name
   pub conflict_is : (rows : List Row) (r : Row) → conflicts (Some (1 ∷ [])) whole.indexes department_at (fresh_row rows) r
       ≡ named d.name r
   unfolding first_key
   conflict_is rows r = rw cast_null (or-false _)
 
-  -- what the row is after an update, where the new row that was refused is this one
+  -- a row after an update, if this is the new row that conflicted
   abbrev pub next_row : Row → Row → Row
   next_row new r = column r 0 ∷ column r 1 ∷ column new 2 ∷ column new 3 ∷ column new 4 ∷ column new 5 ∷ column new 6
       ∷ column new 7 ∷ column new 8 ∷ []
@@ -82,13 +82,13 @@ module _ (d : DepartmentRow) where
       → at_places department_places (cast_row department_at (next_row (fresh_row rows) r)) ≡ department_cells d
   put_over rows r is = rw (cast_null, is) (simp cast_int)
 
-  -- no row has the name where none conflicts
+  -- if no row conflicts, none has the name
   pub none_named : (rows : List Row) → AreConflicts (Some (1 ∷ [])) whole.indexes department_at rows (fresh_row rows) []
       → (r : Row) → Has rows r → named d.name r ≡ false
   none_named rows none r here = elim (cases_Bool (named d.name r))
       [ inl hit ↦ absurd (none.complete r here (conflict_is rows r ∙ hit)) | inr miss ↦ miss ]
 
-  -- the row of the new struct, beside those of other names
+  -- the row of the new struct, besides those with other names
   replaced : (c : Contents) (db after : Trees) (new : Row) → Holds db c
       → at_places department_places new ≡ department_cells d
       → IsPermutation (new ∷ filter (λ r. not (named d.name r)) (db 1)) (after 1)
@@ -105,7 +105,7 @@ module _ (d : DepartmentRow) where
       (v ∷ map (at_places department_places) left)) (sym is) (IsPermutation-cons (department_cells d) _ _ rest))
       (IsPermutation-map (at_places department_places) _ _ put)
 
-  -- the row that is put in where none conflicts
+  -- the row that is inserted if none conflicts
   put_new : (c : Contents) (db after : Trees) → Holds db c
       → AreConflicts (Some (1 ∷ [])) whole.indexes department_at (db 1) (fresh_row (db 1)) []
       → Applies whole Enforced db (edit_of db department_at [] Given 0 (fresh_row (db 1) ∷ [])) after
@@ -126,7 +126,7 @@ module _ (d : DepartmentRow) where
       (more_numbered (db 1) (after 1) new put
       (rw (cast_null, cast_int (next_rowid (db 1))) (next_number (db 1) h.departments_numbered)) h.departments_numbered)
 
-  -- where a row of the name is there
+  -- if there is a row with the name
   module _ (c : Contents) (db : Trees) (kept : Kept db c) (r0 : Row) (here0 : Has (db 1) r0)
       (hit0 : named d.name r0 ≡ true) where
     abbrev h : Holds db c
@@ -146,7 +146,7 @@ module _ (d : DepartmentRow) where
         (rw (← name) (and_parts _ _ hit).0) in
         name ∙ ap Text ((bytes_eq-Decides it.0.name d.name).0 (sym (text_test it.0.name d.name) ∙ test))
 
-    -- another row of the name would break the rule that names are unique
+    -- another row with the name would break the rule that names are unique
     pub unique : (r : Row) → Has (db 1) r → named d.name r ≡ true → is_eq (value_cmp (rowid r) (rowid r0)) ≡ true
     unfolding first_key
     unique r here hit =
@@ -184,7 +184,7 @@ module _ (d : DepartmentRow) where
       ]
     ]
 
-    -- the row that is put in its place
+    -- the row that replaces it
     put_same : (after : Trees) (rows : List Row) → IsPermutation
         (map (λ r. rowid r ∷ next_row new r) (filter has_id (db 1))) rows
         → Applies whole Enforced db (edit_of db department_at (ids_of rows) Given 1 rows) after
@@ -246,7 +246,7 @@ module _ (d : DepartmentRow) where
 pub put : (d : DepartmentRow) → Write put_sql (department_cells d) (with_department d)
 put d = record { command = put_command; is = put_is; on_rows = tt; does = put_does d }
 
--- ---- SELECT of one
+-- ---- SELECT of one department
 
 abbrev columns : List Term
 columns = col 1 1 ∷ col 1 2 ∷ col 1 3 ∷ col 1 4 ∷ col 1 5 ∷ col 1 6 ∷ col 1 7 ∷ col 1 8 ∷ []
@@ -272,7 +272,7 @@ find name = select tree find_is (has_name name)
     (λ v. is_true (binary (Compare Eq Binary) (column v 0) (Text name)) && true) columns_shown
     (λ x. and-true _ ∙ text_test x.name name) (λ x. refl) (λ r. refl) (λ r. refl) refl (λ c. refl)
 
--- ---- SELECT of all
+-- ---- SELECT of all departments
 
 every_is : IsSelect whole EVERY_DEPARTMENT.now (on_table 1 [] columns ((col 1 1, ascending Binary) ∷ [])) names 0
 unfolding everything

@@ -1,4 +1,4 @@
--- What DELETE and UPDATE leave of the rows.
+-- The rows after a DELETE or an UPDATE.
 use Rattle.store_sql.proofs.Words.{Applies, Bool, Enforced, Equal, Given, Greater, Has, Int, IsPermutation}
 use Rattle.store_sql.proofs.Words.{IsPermutation-cons, IsPermutation-filter, IsPermutation-map, IsPermutation-middle}
 use Rattle.store_sql.proofs.Words.{IsPermutation-refl, IsPermutation-sym, IsPermutation-trans, IsTable, IsTable-put_row}
@@ -85,7 +85,7 @@ module _ (p : Row → Bool) (rows : List Row) (up : IsTable rows)
     | inr none ↦ elim (cases_Bool (hit r)) [ inl was ↦ was ∙ sym (was_hit r here was) | inr never ↦ never ∙ sym none ]
   ]
 
-  -- the rows without those at the rowids of the ones that were picked
+  -- the rows without those whose rowids were selected
   pub left_is : (ids : List ℤ) → IsPermutation picked ids → without_all rows ids ≡ filter (λ r. not (p r)) rows
   left_is ids same =
       without_is ids rows ∙ filter_alike (λ r. not (list_any (λ id. has_rowid id r) ids)) (λ r. not (p r)) rows
@@ -107,7 +107,7 @@ mapped_from f [] y h = absurd h
 mapped_from f (x ∷ xs) y (inl e) = (x, inl refl, e)
 mapped_from f (x ∷ xs) y (inr h) = let it = mapped_from f xs y h in (it.0, inr it.1, it.2)
 
--- each row is a record's
+-- each row is that of a record
 pub of_record : {X : Type 0} (cells : X → Row) (places : List ℕ) (rows : List Row) (xs : List X) (r : Row)
     → Lists cells places rows xs → Has rows r → (x : X) × Has xs x × (at_places places r ≡ cells x)
 of_record cells places rows xs r h here = mapped_from cells xs (at_places places r)
@@ -116,7 +116,7 @@ of_record cells places rows xs r h here = mapped_from cells xs (at_places places
     (all_from (Has (map cells xs)) (map cells xs) (λ e k. k)))
     (mapped_has (at_places places) rows r here))
 
--- each record is a row's
+-- each record has a row
 pub of_row : {X : Type 0} (cells : X → Row) (places : List ℕ) (rows : List Row) (xs : List X) (x : X)
     → Lists cells places rows xs → Has xs x → (r : Row) × Has rows r × (at_places places r ≡ cells x)
 of_row cells places rows xs x h here =
@@ -152,7 +152,7 @@ pub put_all_table : (news rows : List Row) → IsTable rows → IsTable (put_all
 put_all_table [] rows up = up
 put_all_table (n ∷ news) rows up = put_all_table news (put_row n rows) (IsTable-put_row n rows up)
 
--- each that passes is changed
+-- each record that passes is changed
 mixed : {X : Type 0} (p : X → Bool) (u : X → X) (xs : List X)
     → IsPermutation (map (λ x. cond (p x) (u x) x) xs) (map u (filter p xs) ++ filter (λ x. not (p x)) xs)
 mixed p u [] = IsPermutation-refl []
@@ -213,7 +213,7 @@ lists_updated {X} cells places mine u tests change new tested changed rows after
     (IsPermutation-map cells _ _ (mixed mine u xs)) in
     IsPermutation-trans _ (late (map cells xs)) _ p3 (IsPermutation-trans _ (late (map T rows)) _ p2 p1)
 
--- UPDATE .. WHERE: `new` is the new row that its query shows is the row that its query shows, the old rowid and then the new row
+-- UPDATE .. WHERE: a row of its query is the old rowid followed by the new row, `new`
 module _ (schema : Schema) (table : Table) (db after : Trees) (rows : List Row) (p : Row → Bool) (new : Row → Row)
     (up : IsTable (db table.tree)) (ints : (r : Row) → Has (db table.tree) r → is_int (rowid r) ≡ true)
     (all : IsPermutation (map (λ r. rowid r ∷ new r) (filter p (db table.tree))) rows)

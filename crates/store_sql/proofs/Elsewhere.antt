@@ -1,4 +1,4 @@
--- A statement on one table leaves what the others hold; and structs with the same columns are the same.
+-- A statement on one table leaves the contents of the others; and structs with the same columns are the same.
 use Rattle.store_sql.proofs.Words.{AllByRecursion, AreNumbered, Blob, CaRow, CertRow, Contents, DepartmentRow, Holds}
 use Rattle.store_sql.proofs.Words.{List, Lists, None, OfficeRow, Option, RequestRow, Row, RunRow, Some, Trees, ap}
 use Rattle.store_sql.proofs.Words.{blob_in, ca_cells, ca_places, cases_eq, cert_cells, cert_places, column}
@@ -8,11 +8,11 @@ use Rattle.store_sql.proofs.Words.{request_cells, request_places, run_cells, run
 use Rattle.store_sql.proofs.Words.{ℕ, ◌∙◌, ◌≡◌, ◌≢◌}
 use Rattle.store_sql.proofs.Reasons.{this_tree, other_tree}
 
--- the trees of the tables, but for this one, are as they were
+-- the trees of all tables but this one are as they were
 abbrev pub Spares : ℕ → Trees → Trees → Type 0
 Spares tree db after = AllByRecursion (λ t. t.tree ≢ tree → after t.tree ≡ db t.tree) whole.tables
 
--- so they are those that were, with the rows of this one
+-- so the trees are the old ones, with the new rows of this table
 left_or_new : (tree : ℕ) (db after : Trees) (t : ℕ) → (t ≢ tree → after t ≡ db t)
     → with_tree db tree (after tree) t ≡ after t
 left_or_new tree db after t same = elim (cases_eq t tree) [
@@ -20,7 +20,7 @@ left_or_new tree db after t same = elim (cases_eq t tree) [
   | inr other ↦ other_tree db tree (after tree) t other ∙ sym (same other)
 ]
 
--- what each table holds, one beside the other
+-- the contents of the tables, one by one
 abbrev Parts : Trees → Contents → Type 0
 Parts trees c = Lists office_cells office_places (trees 0) c.offices
     × (Lists department_cells department_places (trees 1) c.departments × AreNumbered (trees 1))
@@ -41,7 +41,7 @@ apart trees c h = (
   h.cas,
 )
 
--- of the trees that were, with the rows of one table, and so of the trees that are
+-- from the old trees with the new rows of one table to the new trees
 together : (tree : ℕ) (db after : Trees) (c : Contents) → Spares tree db after
     → Parts (with_tree db tree (after tree)) c → Holds after c
 together tree db after c o p = record {
@@ -57,7 +57,7 @@ together tree db after c o p = record {
   cas = rw (left_or_new tree db after 9 o.1.1.1.1.1.1.0) at p.6;
 }
 
--- what the tables hold where one has changed
+-- the contents of the tables if one has changed
 module _ (db after : Trees) (c : Contents) (h : Holds db c) where
   abbrev was : Parts db c
   was = apart db c h

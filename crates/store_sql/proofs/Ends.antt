@@ -48,7 +48,7 @@ commits old new (Err e) h = stopped commit_text [] old new e h
 commits old new (Ok count) h = (runs_as commit_text [] old new old.now.schema refl Commit (commit_is _).0
     (commit_is _).1 count h).1
 
--- what a text may commit, by its command
+-- what a text may commit, from its command
 module _ (sql : List ℕ) (params : Row) (s : State) (command : Command)
     (is : command_of (understood s.now.schema sql) ≡ command) (plain : IsPlain (understood s.now.schema sql)) where
   pub commits_at : (trees : Trees) → CommitsBy sql params s trees
@@ -131,7 +131,7 @@ rolls old new (Err e) inside (inr h) =
       | inr broke ↦ broke.3
     ]
 
--- why a statement on the transaction itself fails, where it has its place
+-- why a statement on the transaction fails, if it is in its place
 module _ (sql : List ℕ) (command : Command) (is : IsText sql command)
     (shows : (is_query command || (is_pragma command || false)) ≡ false) (writes : IsWrite command → ⊥)
     (big : (old : State) (text : List ℕ) → Does old.step_limit (mode_of old) [] old.now text None command (Err None)

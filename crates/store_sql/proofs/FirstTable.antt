@@ -1,4 +1,4 @@
--- The table of the office is the first of the office's tables.
+-- The `office` table is the first of the office's tables.
 use Rattle.store_sql.proofs.Words.{Contents, Database, HasOffices, List, Means, Schema, Some, Table, [], ap, list_any}
 use Rattle.store_sql.proofs.Words.{office_at, slice_get, subst, sym, true, ◌∷◌, ◌≡◌}
 use Rattle.store_sql.specs.Contents.{MeansWithoutCa}
@@ -18,12 +18,12 @@ former_offices db c means = record {
   holds = means.holds.offices;
 }
 
--- the others, where it is the first
+-- the other tables, if it is the first
 pub first_is : (ts : List Table) → slice_get ts 0 ≡ Some office_at → (others : List Table) × (ts ≡ office_at ∷ others)
 first_is [] e = absurd cc
 first_is (t ∷ ts) e = (ts, let same : t ≡ office_at = cc in ap (λ (u : Table). u ∷ ts) same)
 
--- so it is seen
+-- and thus it is recognized
 pub first_seen : (ts : List Table) → slice_get ts 0 ≡ Some office_at → list_any is_office_table ts ≡ true
 first_seen ts e =
     let it = first_is ts e in

@@ -1,5 +1,5 @@
--- What a text is, whatever the tables are: a query under one schema is a query under each, and a text that ends no
--- transaction under one ends none under each.
+-- Properties of a text, whatever the tables are: a query under one schema is a query under each, and a text that ends
+-- no transaction under one ends none under any.
 use Rattle.store_sql.proofs.Words.{Bool, Checked, CompileError, Compiled, Err, IsPlain, List, Name, NoSuchTable, None}
 use Rattle.store_sql.proofs.Words.{Ok, Option, Result, Returning, and_then, command, false, if◌then◌else◌, inl, inr}
 use Rattle.store_sql.proofs.Words.{is_select, length, reads_listing, refl, subst, sym, true, understood, ℕ, ◌+◌, ◌==◌}
@@ -18,7 +18,7 @@ use Rattle.sqlite_ast.specs.declared.Statement.TheVariants as written
 use Rattle.sqlite_ast.specs.declared.Conflict.TheVariants as conflict
 use Rattle.sqlite_schema.specs.declared.command.Conflict.TheVariants as how
 
--- ---- what the written statement says of it
+-- ---- from the parsed statement
 
 abbrev pub asks : Statement → Bool
 asks (written.Select s) = true
@@ -77,9 +77,9 @@ shows_no_rows schema base (written.Savepoint name) shown is h = sym (same_ok h)
 shows_no_rows schema base (written.Release name) shown is h = sym (same_ok h)
 shows_no_rows schema base (written.RollbackTo name) shown is h = sym (same_ok h)
 
--- ---- of the whole text
+-- ---- for the whole text
 
--- what is made of a statement that is written so
+-- the properties of a compiled statement are those of its parsed form
 record IsMadeOf (s : Statement) (found : Command × Option Returning) : Type 0 where
   pub query : is_select found.0 ≡ asks s
   pub ending : closes found.0 ≡ ends s
@@ -110,7 +110,7 @@ of_planned schema p plan h =
     let same : (formats, m.0) ≡ plan = same_ok m.2 in
     subst (λ (q : List Name × (Command × Option Returning)). IsMadeOf p.statement q.1) same (of_meaning schema p base m.0 m.1)
 
--- what is written in a text, and what is made of it
+-- the text parses to this, and the compiled statement has its properties
 abbrev IsWritten : List ℕ → Compiled → Parsed → Type 0
 IsWritten sql c p = (first sql ≡ Ok p) × IsMadeOf p.statement (c.command, c.returning)
 
@@ -138,13 +138,13 @@ of_understood schema sql c h = elim (of_either (reads_listing schema sql) (compi
   | inr is ↦ of_compiled schema sql c is
 ]
 
--- a text that is plain is understood
+-- a text that is plain compiles
 pub is_compiled : (r : Result Compiled CompileError) → IsPlain r → (c : Compiled) × (r ≡ Ok c)
 is_compiled (Ok c) plain = (c, refl)
 is_compiled (Err e) plain = absurd plain
 
 module _ (schema other : Schema) (sql : List ℕ) (c d : Compiled) (one : understood schema sql ≡ Ok c) (two : understood other sql ≡ Ok d) where
-  -- a query shows no rows of a write
+  -- a query has no RETURNING clause under the other schema either
   pub query_everywhere : is_select c.command ≡ true → d.returning ≡ None
   query_everywhere is =
       let a = of_understood schema sql c one in
@@ -152,7 +152,7 @@ module _ (schema other : Schema) (sql : List ℕ) (c d : Compiled) (one : unders
       let same : a.0 ≡ b.0 = same_ok (sym a.1.0 ∙ b.1.0) in
       b.1.1.silent (subst (λ (p : Parsed). asks p.statement ≡ true) same (sym a.1.1.query ∙ is))
 
-  -- a text that ends no transaction ends none of other tables
+  -- a text that ends no transaction ends none on other tables
   pub ends_nowhere : closes c.command ≡ false → closes d.command ≡ false
   ends_nowhere is =
       let a = of_understood schema sql c one in

@@ -1,4 +1,4 @@
--- From the meaning of a text to what a call of it does, and from what a query shows to what a call finds.
+-- From the meaning of a text to the effect of a call with it, and from a query's rows to a call's result.
 use Rattle.store_sql.proofs.Words.{Changes, Command, CommitsBy, Contents, Damaged, Database, Device, Does, Err, Error}
 use Rattle.store_sql.proofs.Words.{Executes, FailsToQuery, Fault, FindsIn, FindsOne, Global, HasCause, Holds, IfErr}
 use Rattle.store_sql.proofs.Words.{IfOk, IsAnswer, IsDone, IsFirstRead, IsOneOf, IsPermutation, IsPlain, IsEachRead}
@@ -20,15 +20,15 @@ use Rattle.store_sql.specs.Calls.{Fails}
 use Rattle.store_sql.proofs.Statements.{mode, stopped, commits_as}
 use Rattle.store_sql.proofs.Queries.{query_stopped, shown_unchanged}
 
--- of a database that is as one of these says: the rows are those of its structs, in some order, and nothing has changed; or
--- the query fails
+-- if `Has a` holds of the database: the rows are those of the structs `of a`, in some order, and nothing has changed;
+-- or the query fails
 abbrev pub Shows : {A X : Type 0} → (A → Database → Type 0) → (X → Row) → (A → List X) → State → State
     → Result (Vec Row Global) Error → Type 0
 Shows {A} Has cells of old new (Ok rows) = (a : A) → Has a old.now → IsUnchanged old new
     × IsPermutation (map cells (of a)) rows.items
 Shows {A} Has cells of old new (Err e) = Fails old new
 
--- a text that is a write, by what its command does
+-- a text that is a write, from the effect of its command
 module _ (sql : List ℕ) (params : Row) (command : Command) (is : command_of (understood whole sql) ≡ command)
     (plain : IsPlain (understood whole sql)) (writes : IsWrite command)
     (is_write : (old new : State) (text : List ℕ) (count : ℕ) → Runs old new None command text params count
@@ -62,7 +62,7 @@ module _ (sql : List ℕ) (params : Row) (command : Command) (is : command_of (u
             (record { sound = subst (λ s. IsSound s all.2.trees) next.0 all.4; holds = next.1 }),
       )
 
--- a text that is a query, by what answers it
+-- a text that is a query, from its answer
 module _ {A X : Type 0} (schema : Schema) (Has : A → Database → Type 0) (Held : Trees → A → Type 0)
     (known : (a : A) (db : Database) → Has a db → (db.schema ≡ schema) × Held db.trees a) (sql : List ℕ) (params : Row)
     (query : Query) (names : List (List ℕ))
@@ -81,9 +81,9 @@ module _ {A X : Type 0} (schema : Schema) (Has : A → Database → Type 0) (Hel
             ((reads_as sql params old new schema it.0 _ is plain unlisted rows.items ok).answer Null),
       )
 
--- ---- from what a statement does to what a call does
+-- ---- from the effect of a statement to that of a call
 
--- what holds of a statement holds of the call
+-- a claim about the statement holds of the call
 pub done_as : {X : Type 0} (P : Result ℕ Error → Type 0) (Q : Result X Fault → Type 0)
     → ((n : ℕ) (x : X) → P (Ok n) → Q (Ok x)) → ((e : Error) → P (Err e) → Q (Err (fault_of e)))
     → (answer : Result ℕ Error) (r : Result X Fault) → IsDone answer r → P answer → Q r
@@ -92,13 +92,13 @@ done_as P Q done failed (Ok n) (Err f) is h = absurd is
 done_as P Q done failed (Err e) (Ok x) is h = absurd is
 done_as P Q done failed (Err e) (Err f) is h = subst (λ g. Q (Err g)) (sym is) (failed e h)
 
--- a fault has what its error has
+-- a fault has the properties of its error
 pub fault_done : {X : Type 0} (P : Fault → Type 0) (answer : Result ℕ Error) (r : Result X Fault) → IsDone answer r
     → IfErr answer (λ e. P (fault_of e)) → IfErr r P
 fault_done P answer r is h =
     done_as (λ a. IfErr a (λ e. P (fault_of e))) (λ a. IfErr a P) (λ n x h. tt) (λ e h. h) answer r is h
 
--- ---- what is a permutation of images is the images of a permutation
+-- ---- a permutation of images is the images of a permutation
 
 module _ {X Y : Type 0} (f : X → Y) where
   get_or-map : (xs : List X) (j : ℕ) (d : X) → get_or (map f xs) j (f d) ≡ f (get_or xs j d)
@@ -125,7 +125,7 @@ module _ {X Y : Type 0} (f : X → Y) where
     p.is ∙ sym (map-apply_swaps xs p.moves),
   )
 
--- ---- what a call finds
+-- ---- the result of a call
 
 -- rows that are those of structs are not misread
 not_misread : {X : Type 0} (cells : X → Row) (xs : List X) (rows : List Row) → IsPermutation (map cells xs) rows
@@ -205,12 +205,12 @@ finds_first cells of apart old new (Ok rows) (Err f) read shows = λ c means. in
 finds_first cells of apart old new (Err e) (Ok found) read shows = absurd read
 finds_first cells of apart old new (Err e) (Err f) read shows = λ c means. shows
 
--- no error of the database is told as damage
+-- no error of the database is reported as damage
 undamaged : (e : Error) → fault_of e ≡ Damaged → ⊥
 undamaged e is = elim (is_out_of_memory e) as (λ b. (if b then NoMemory else Device) ≡ Damaged → ⊥)
     [ true ↦ λ h. cc | false ↦ λ h. cc ] is
 
--- an answer that was had changed nothing
+-- a query that answered changed nothing
 pub read_only : {A X : Type 0} (Has : A → Database → Type 0) (cells : X → Row) (of : A → List X) (old new : State)
     (answer : Result (Vec Row Global) Error) (r : Result (Vec X Global) Fault) → IsEachRead cells answer r
     → OnOk answer (IsUnchanged old new) → Shows Has cells of old new answer → OnlyReads old new r
@@ -231,13 +231,13 @@ first_only Has cells of old new (Err e) (Err f) read same shows =
 
 -- ---- rows read as structs of their columns
 
--- what a fault says of a part it says of the whole
+-- a fault's claim about a part holds of the whole
 pub misread_more : (P Q : Type 0) (fault : Fault) → (P → Q) → Misread P fault → Misread Q fault
 misread_more P Q NoMemory more h = tt
 misread_more P Q Damaged more h = more h
 misread_more P Q Device more h = h
 
--- a row among the rows of some structs is that of one of them
+-- a row among the rows of structs is that of one of them
 row_of_one : {X : Type 0} (cells : X → Row) (rows : List Row) (all : List X) (i : ℕ) (d : Row) → i < length rows
     → rows ≡ map cells all → (x : X) × (get_or rows i d ≡ cells x)
 row_of_one cells [] all i d low is = absurd (omega arith)
@@ -245,7 +245,7 @@ row_of_one cells (r ∷ rows) [] i d low is = absurd cc
 row_of_one cells (r ∷ rows) (x ∷ all) zero d low is = (x, cc)
 row_of_one cells (r ∷ rows) (x ∷ all) (suc i) d low is = row_of_one cells rows all i d (omega arith) cc
 
--- rows of which one is no struct's are not those of structs
+-- if one row isn't a struct's, the rows aren't those of structs
 pub misread_one : {X : Type 0} (cells : X → Row) (rows : List Row) (i : ℕ) (row : Row) (fault : Fault)
     → i < length rows → row ≡ get_or rows i row
     → Misread ((x : X) → row ≢ cells x) fault → Misread ((all : List X) → rows ≢ map cells all) fault
@@ -253,7 +253,7 @@ misread_one cells rows i row fault low is =
     misread_more _ _ fault (λ none all same. let one = row_of_one cells rows all i row low same in none one.0
     (is ∙ one.1))
 
--- the structs of the first rows, with that of the row after them
+-- the structs of the first rows, and that of the next row
 pub one_more_read : {X : Type 0} (cells : X → Row) (rows : List Row) (i : ℕ) (all : List X) (x : X) (d : Row)
     → i < length rows → map cells all ≡ take i rows → get_or rows i d ≡ cells x
     → map cells (all ++ (x ∷ [])) ≡ take (i + 1) rows

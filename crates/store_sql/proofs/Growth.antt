@@ -1,4 +1,4 @@
--- One table after the other.
+-- Creating the tables one by one.
 use Rattle.store_sql.proofs.Words.{AllByRecursion, Bool, Creates, Err, Fault, HasCause, HasCleanDisk, IsDatabase}
 use Rattle.store_sql.proofs.Words.{IsPermutation-refl, IsSound, IsTrue, KeepsRows, List, Lists, Ok, Result, Row, Schema}
 use Rattle.store_sql.proofs.Words.{State, Stays, Survives, Table, TableName, Trees, WaitsAt, [], ap, arith, before, ca}
@@ -32,12 +32,12 @@ bare_then s table a b p bare =
 
 -- ---- the tables of an office
 
--- each of these tables is made beside those before it, and then all are there
+-- each of these tables is created after those before it, and then all exist
 abbrev pub Completing : Schema → List TableName → Type 0
 Completing s [] = s ≡ whole
 Completing s (t ∷ ts) = (before t ≡ s) × Completing (created s (made t)) ts
 
--- the database has just these tables, with no row, and nothing else has changed
+-- the database has exactly these tables, with no row, and nothing else has changed
 pub record HasMade (s : Schema) (a b : State) : Type 0 where
   pub is_open : b.is_open ≡ a.is_open
   pub bare : IsBare s b.now
@@ -45,7 +45,7 @@ pub record HasMade (s : Schema) (a b : State) : Type 0 where
   pub marks : b.marks ≡ a.marks
   pub last : s ≡ whole → IsTrue b.is_open × IsDatabase b.now × (a.in_transaction ≡ false → b.committed ≡ b.now)
 
--- where a database is bare, these tables are those that are missing
+-- if the database was bare, these are the tables still missing
 pub record IsAt (rest : List TableName) (a b : State) : Type 0 where
   pub lives : Survives a b (WaitsAt no_schema a)
   pub stays : HasCleanDisk b → Stays {X = Unit {0}} {E = Fault} a b (Ok tt)
@@ -77,7 +77,7 @@ none_made rest a all = record {
   );
 }
 
--- ---- one more
+-- ---- one more table
 
 more_made : (s : Schema) (table : Table) (a b c : State) → HasMade s a b → Grown b c s table
     → HasMade (created s table) a c
@@ -101,7 +101,7 @@ module _ (names : List TableName) (i : ℕ) (first : TableName) (inside : i < le
   abbrev rest : List TableName
   rest = drop (i + 1) names
 
-  -- the tables before this one are there, where all began bare
+  -- the tables before this one exist, if the database was bare at the beginning
   at_before : HasCleanDisk c → IsBare no_schema a.now → HasMade (before name) a b
       × Completing (created (before name) (made name)) rest
   at_before clean bare =
@@ -117,7 +117,7 @@ module _ (names : List TableName) (i : ℕ) (first : TableName) (inside : i < le
       survives_then a b c (WaitsAt no_schema a) (WaitsAt (before name) b) (WaitsAt no_schema a) (λ clean db h. h)
       (λ clean db h has. let it = (at_before clean (has, tt)).0 in sym it.mode ∙ h it.bare.0) at.lives lives
 
-  -- the table is made
+  -- the table is created
   pub one_more : (HasCleanDisk c → b.now.schema ≡ before name → Grown b c (before name) (made name))
       → (HasCleanDisk c → Stays {X = Unit {0}} {E = Fault} b c (Ok (tt {0}))) → IsAt rest a c
   one_more grows stays = record {
@@ -132,13 +132,13 @@ module _ (names : List TableName) (i : ℕ) (first : TableName) (inside : i < le
         );
   }
 
-  -- it isn't made, and what was committed before all stays
+  -- it isn't created, and what was committed before all of them stays
   pub none_committed : (f : Fault) → (HasCleanDisk c → Stays {X = Unit {0}} b c (Err f))
       → HasCleanDisk c → Stays {X = Unit {0}} a c (Err f)
   none_committed f stays clean =
       stays_then {X = Unit {0}} {Y = Unit {0}} a b c tt (Err f) (at.stays (omega (arith, lives.clean))) (stays clean)
 
-  -- why it isn't made
+  -- why it isn't created
   pub none_more : (f : Fault) → (HasCleanDisk c → b.now.schema ≡ before name → HasCause b c f)
       → HasCleanDisk c → IsBare no_schema a.now → HasCause a c f
   none_more f cause clean bare =
@@ -185,7 +185,7 @@ completed a b at clean bare =
       marks = h.marks;
     }
 
--- the table of CAs beside the others
+-- the table of CAs next to the others
 pub adds_ca : {X : Type 0} (a b : State) (r : Result X Fault) → Creates without_ca ca a b r → AddsCa a b r
 adds_ca a b (Err e) one = one
 adds_ca a b (Ok x) one = λ c means.

@@ -29,11 +29,11 @@ idle : (b : Bool) → deed_of Enforced b (if b then NoAction else NoAction) ≡ 
 idle true = refl
 idle false = refl
 
--- no foreign key of the tables sets anything off
+-- no foreign key of the tables triggers an action
 pub no_works : (tree : ℕ) (olds news : List Row) → works whole Enforced 0 tree olds news ≡ []
 no_works tree olds news = rw (idle (length news == 0)) refl
 
--- The text that puts the row of a struct in. `row` is that row, beside the rows that are there.
+-- The text that inserts the row of a struct. `row` is that row, which depends on the existing rows.
 pub record IsInsert {X : Type 0} (sql : List ℕ) (cells : X → Row) (places : List ℕ) (at : ℕ) (table : Table)
     (terms : List Term)
     (width : ℕ) (with_x : X → Contents → Contents) (of : Contents → List X) (row : X → List Row → Row) : Type 0 where
@@ -93,7 +93,7 @@ taken_number {cells = cells} {places = places} number {rows = rows} {xs = xs} n 
 
 -- ---- foreign keys
 
--- a row of departments has the name that the certificate's row names, if it names one
+-- a department's row has the name in the certificate's row, unless that is NULL
 abbrev pub has_department : Trees → Row → Bool
 has_department trees row = has_null (2 ∷ []) row || list_any (λ d. agree plain (1 ∷ []) d (2 ∷ []) row) (trees 1)
 
@@ -101,7 +101,7 @@ pub parent_is : (trees : Trees) (row : Row) → has_parent whole.tables trees ro
 unfolding same_name joined
 parent_is trees row = refl
 
--- all references hold where each certificate has its department
+-- all references hold if each certificate's department exists
 pub all_refer : (trees : Trees) → AllByRecursion (λ r. has_department trees r ≡ true) (trees 3) → Refers All whole trees
 all_refer trees all = refers_from All whole trees (λ t ref row listed known is there.
     all_has (λ (u : Table). Has u.references ref → Has (trees u.tree) row
@@ -116,14 +116,14 @@ all_refer trees all = refers_from All whole trees (λ t ref row listed known is 
         (parent_is trees row ∙ all_has (λ r. has_department trees r ≡ true) (trees 3) row all there)
     at_cert ref row (inr none) there = absurd none
 
--- each certificate has its department
+-- each certificate's department exists
 pub each_refers : (trees : Trees) → Keeps ForeignKey whole trees → AllByRecursion (λ r. has_department trees r ≡ true) (trees 3)
 each_refers trees keeps = all_from (λ r. has_department trees r ≡ true) (trees 3) (λ row there.
     sym (parent_is trees row) ∙ test_has (has_parent whole.tables trees row) (to_department 2 ∷ []) (to_department 2)
     (all_has (λ r. Rattle.std.specs.List.list_all (has_parent whole.tables trees r) (to_department 2 ∷ []) ≡ true) (trees 3) row
     keeps.1.1.0 there) (inl refl))
 
--- an edit of another table breaks none
+-- an edit of another table breaks no reference
 pub refers_still : {now : Database} {c : Contents} {next : Trees} {edit : Edit} → Means now c
     → Applies whole Enforced now.trees edit next → (1 == edit.table.tree) ≡ false
     → (3 == edit.table.tree) ≡ false → Refers All whole next
@@ -156,8 +156,8 @@ module _ {X : Type 0} {sql : List ℕ} {cells : X → Row} {places : List ℕ} {
   abbrev pub new_row : State → Row
   new_row s = row x (s.now.trees table.tree)
 
-  -- Why the call fails: the number is out of range or taken, or the key is, or the row is too long, or wants its
-  -- parent.
+  -- Why the call fails: the number is out of range or taken, or the key is taken, or the row is too long, or its parent
+  -- is missing.
   pub insert_fails : (Refuses : Contents → Type 0) → ((s : State) → IsPut (uncounted table) (new_row s))
       → ((s : State) (c : Contents) → Means s.now c → fits_i64 (id_in (rowid (new_row s))) ≡ false → Refuses c)
       → ((s : State) (c : Contents) → Means s.now c → is_taken (s.now.trees table.tree) (new_row s) ≡ true → Refuses c)

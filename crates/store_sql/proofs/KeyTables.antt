@@ -1,5 +1,5 @@
--- The statements on the tables whose rows have no number of their own, of requests and of revoked key ids; and why they
--- are refused.
+-- The statements on the tables whose rows have no number of their own, those of requests and of revoked key IDs; and
+-- why they are refused.
 use Rattle.store_sql.proofs.Words.{AllByRecursion, AreNumbered, Binary, Chosen, Compare, Contents, Eq, FailsBy, Fault}
 use Rattle.store_sql.proofs.Words.{HasOne, Holds, INSERT_REQUEST, INSERT_REVOKED, Insert, Int, List, Lists, Means, Null}
 use Rattle.store_sql.proofs.Words.{Query, RefusedFor, RequestRow, Result, Row, State, Term, Text, Values, [], agree}
@@ -58,7 +58,7 @@ request_puts = record {
 pub put_request : (x : RequestRow) → Write INSERT_REQUEST.now (request_cells x) (with_request x)
 put_request = insert request_puts
 
--- ---- SELECT of one
+-- ---- SELECT of one request
 
 abbrev find_request_query : Query
 find_request_query = on_table 4 (op2 (Compare Eq Binary) (col 1 1) (col 0 0)
@@ -78,7 +78,7 @@ find_request caller key = select request_tree find_request_is (is_request_for ca
     (λ x. ap₂ ◌&&◌ (text_test x.caller caller) (and-true _ ∙ text_test x.key key)) (λ x. refl) (λ r. refl) (λ r. refl)
     refl (λ c. refl)
 
--- ---- revoked key ids
+-- ---- revoked key IDs
 
 pub revoked_tree : IsTreeOf Holds key_id_cells key_id_places 7 (λ c. c.revoked)
 revoked_tree = record { stored = λ trees. refl; held = λ trees c h. h.revoked; apart = key_id_apart }
@@ -111,7 +111,7 @@ revoked_puts = record {
 pub put_revoked : (x : (List ℕ)) → Write INSERT_REVOKED.now (key_id_cells x) (with_revoked x)
 put_revoked = insert revoked_puts
 
--- ---- SELECT of one
+-- ---- SELECT of one key ID
 
 find_revoked_is : IsSelect whole FIND_REVOKED.now
     (on_table 7 (op2 (Compare Eq Binary) (col 1 1) (col 0 0) ∷ []) (col 1 1 ∷ []) []) (codes "keyid" ∷ []) 1
@@ -123,7 +123,7 @@ find_revoked key_id = select revoked_tree find_revoked_is (is_key_id key_id)
     (λ v. is_true (binary (Compare Eq Binary) (column v 0) (Text key_id)) && true)
     (λ v. column v 0 ∷ []) (λ x. and-true _ ∙ text_test x key_id) (λ x. refl) (λ r. refl) (λ r. refl) refl (λ c. refl)
 
--- ---- SELECT of all
+-- ---- SELECT of all key IDs
 
 every_revoked_is : IsSelect whole EVERY_REVOKED.now (on_table 7 [] (col 1 1 ∷ []) ((col 1 1, ascending Binary) ∷ []))
     (codes "keyid" ∷ []) 0
@@ -134,7 +134,7 @@ pub every_revoked : FindSorted EVERY_REVOKED.now ([]) key_id_cells (λ c. c.revo
 every_revoked = select_all revoked_tree every_revoked_is (λ v. column v 0 ∷ []) (λ x. refl) (λ r. refl) refl
     (λ r. refl) text_cmp
 
--- ---- why they are refused: what every such table has in common
+-- ---- why they are refused: lemmas for every such table
 
 -- there are as many rows as structs
 pub counted : {X : Type 0} (cells : X → Row) (places : List ℕ) (rows : List Row) (xs : List X) → Lists cells places rows xs
@@ -145,7 +145,7 @@ counted cells places rows xs h =
     let right = length-map rows (at_places places) in
     omega (arith, same, left, right)
 
--- the next number is out of range where the table is full
+-- the next number is out of range if the table is full
 pub full : {X : Type 0} (cells : X → Row) (places : List ℕ) (rows : List Row) (xs : List X) → Lists cells places rows xs
     → AreNumbered rows → fits_i64 (next_rowid rows) ≡ false → IsFull xs
 full cells places rows xs h all out =
@@ -182,7 +182,7 @@ request_put r rows = record {
       ((λ e. cc), ((λ e. key), ((λ e. cc), ((λ e. cc), tt))));
 }
 
--- a request of the caller has the key
+-- a request of the same caller has the request ID
 request_clash : (r : RequestRow) (s : State) (c : Contents) → Means s.now c
     → HasClash s.now.trees request_at [] (request_row r (s.now.trees 4)) → HasOne (λ k. (k.caller ≡ r.caller) × (k.key ≡ r.key)) c.requests
 unfolding first_key
@@ -213,7 +213,7 @@ request_fails x = insert_fails request_puts x (RefusesRequest x) (λ s. request_
     (λ s c long. inr (inl (request_long x (s.now.trees 4) long)))
     (λ s c next means did broken. absurd (broken (refers_still means did refl refl)))
 
--- ---- why a revoked key id is refused
+-- ---- why a revoked key ID is refused
 
 revoked_put : (k : List ℕ) (rows : List Row) → IsPut revoked_at (revoked_row k rows)
 unfolding joined
@@ -228,7 +228,7 @@ revoked_put k rows = record {
       ((λ e. cc), ((λ e. cc), ((λ e. key), ((λ e. cc), tt))));
 }
 
--- the key id is there
+-- the key ID is there already
 revoked_clash : (k : List ℕ) (s : State) (c : Contents) → Means s.now c
     → HasClash s.now.trees revoked_at [] (revoked_row k (s.now.trees 7)) → HasOne (λ j. j ≡ k) c.revoked
 unfolding first_key

@@ -1,4 +1,4 @@
--- A row that has just these kinds of columns is made of what is read from them; and names of columns.
+-- A row with exactly these kinds of columns is built from the values read from them; and names of columns.
 use Rattle.store_sql.proofs.Words.{Bool, List, Row, Value, [], ap, ap₂, arith, blob_in, bytes_eq, column, drop, false, get_or, length}
 use Rattle.store_sql.proofs.Words.{list_all, map, nat_tests, negsuc, not, number_in, optional_blob_in, or_null, pos, refl}
 use Rattle.store_sql.proofs.Words.{sym, text_in, true, ℕ, ◌&&◌, ◌+◌, ◌<◌, ◌==◌, ◌∙◌, ◌∷◌, ◌≡◌, ◌≤◌}
@@ -12,7 +12,7 @@ use Rattle.std.proofs.Common.{Bor}
 use Rattle.sqlite_schema.specs.declared.schema.Column.{Column}
 use Rattle.sqlite.specs.declared.types.Value.TheVariants as value
 
--- the value that is read from a column, as it is kept
+-- the value read from a column, as it is stored
 abbrev pub kept : Kind → Value → Value
 kept Number v = value.Int (pos (number_in v))
 kept Text v = value.Text (text_in v)
@@ -68,11 +68,11 @@ fits kinds row h =
     let many : length row ≡ length kinds = grind (arith, nat_tests) in
     columns_of row (length kinds) many ∙ all_kept kinds 0 row parts.1
 
--- the value of a number
+-- a number as a value
 abbrev pub number : ℕ → Value
 number n = value.Int (pos n)
 
--- a row whose first cell holds this value, as it holds an equal one
+-- two rows are equal if their first values and their other cells are
 pub cell : {A : Type 0} (made : A → Value) {read shown : A} {rest others : Row} → read ≡ shown → others ≡ rest
     → made shown ∷ others ≡ made read ∷ rest
 cell made is same = ap₂ ◌∷◌ (ap made (sym is)) same
@@ -118,7 +118,7 @@ negated : (b r : Bool) → r ≡ not b → b ≡ not r
 negated true r is = sym (ap not is)
 negated false r is = sym (ap not is)
 
--- what a test of copies says of the names
+-- comparing the copies compares the names
 pub same_or_not : (copy other name wanted : List ℕ) (differ : Bool) → copy ≡ name → other ≡ wanted
     → differ ≡ not (bytes_eq copy other) → bytes_eq name wanted ≡ not differ
 same_or_not copy other name wanted differ is are test = sym (ap₂ bytes_eq is are) ∙ negated _ differ test

@@ -1,4 +1,4 @@
--- The last of the runs that begin with a serial or before it.
+-- The last of the runs that begin at or before a serial.
 use Rattle.store_sql.proofs.Words.{AllByRecursion, Bool, Contents, Err, Fault, FindsOne, IsOneOf, IsPermutation-sym}
 use Rattle.store_sql.proofs.Words.{IsSorted, List, None, Ok, Option, Result, RunRow, Some, State, [], all-permutation}
 use Rattle.store_sql.proofs.Words.{ap, arith, cases_Bool, false, filter, inl, inr, length_permutation, nat_cmp, nat_le}
@@ -10,7 +10,7 @@ pub use Rattle.sqlite_rules.specs.Lists.{Has}
 pub use Rattle.sqlite_rules.proofs.ListLemmas.{has_filtered, has_kept, all_has, all_from, some_has, some_from}
 pub use Rattle.sqlite_rules.proofs.ProbeLemmas.{mapped_has}
 
--- ---- one that is found
+-- ---- a run that is found
 
 abbrev pub listed : {X : Type 0} → Option X → List X
 listed None = []
@@ -28,7 +28,7 @@ pub its_one : {X : Type 0} (of : Contents → Option X) (old new : State) (r : R
 its_one of old new (Ok found) h = λ c means. let it = h c means in (it.0, the_one (of c) found it.1)
 its_one of old new (Err e) h = h
 
--- ---- the last one
+-- ---- the last run
 
 abbrev pub IsLast : ℕ → List RunRow → Option RunRow → Type 0
 IsLast n rs None = AllByRecursion (λ r. n < r.lo) rs
@@ -61,7 +61,7 @@ is_last n (r ∷ rs) = elim (cases_Bool (nat_le r.lo n)) [
   | inr e ↦ rw e (not_it n r rs (last_at n rs) (is_above r.lo n e) (is_last n rs))
 ]
 
--- ---- the first of those that descend
+-- ---- the first of descending runs
 
 abbrev pub falls : RunRow → RunRow → Rattle.std.proofs.Common.Ordering
 falls x y = nat_cmp y.lo x.lo
@@ -81,7 +81,7 @@ has_same : {X : Type 0} (x : X) (xs ys : List X) → IsPermutation xs ys → Has
 has_same x xs ys same here =
     all_has (Has ys) xs x (all-permutation (Has ys) ys xs (IsPermutation-sym xs ys same) (all_from (Has ys) ys (λ e k. k))) here
 
--- where no two begin with the same serial it is the last
+-- if no two begin with the same serial, it is the last
 pub first_is_last : (n : ℕ) (rs zs : List RunRow) → ((x y : RunRow) → Has rs x → Has rs y → x.lo ≡ y.lo → x ≡ y)
     → IsPermutation (filter (λ r. nat_le r.lo n) rs) zs → IsSorted falls zs → take 1 zs ≡ listed (last_at n rs)
 first_is_last n rs zs apart same sorted = go zs (last_at n rs) same sorted (is_last n rs)

@@ -1,16 +1,16 @@
--- A call that comes after another.
+-- One call after another.
 use Rattle.store_sql.proofs.Words.{Bool, Damaged, Device, Fault, HasCause, HasFailed, IsSome, IsTrue, IsUnchanged}
 use Rattle.store_sql.proofs.Words.{KeepsCommit, NoMemory, Option, State, Survives, Trees, arith, false, if◌then◌else◌}
 use Rattle.store_sql.proofs.Words.{inl, inr, subst, true, unchanged_then, ◌∙◌, ◌≡◌}
 use Rattle.std.proofs.lemmas.Bool.{both_ways}
 use Rattle.store_sql.specs.Calls.{Fails}
 
--- what a failure leaves in a transaction
+-- the effect of a failure inside a transaction
 pub stops : (a b : State) → Fails a b → KeepsCommit a b
 stops a b (inl same) = record { was_open = λ _. same.0.was_open; committed = λ _. same.0.committed_is }
 stops a b (inr back) = record { was_open = back.was_open; committed = λ still. (back.undone still).1 }
 
--- inside of a transaction what is committed stays
+-- inside a transaction, what is committed stays
 pub inside_is : (b : Bool) {X : Type 0} (last now shown : X) → IsTrue b → shown ≡ (if b then last else now) → shown ≡ last
 inside_is true last now shown t e = e
 inside_is false last now shown t e = absurd (let f : false ≡ true = t in cc)
@@ -28,7 +28,7 @@ stops_then a b c p (inr back) = inr (record {
   };
 })
 
--- What failed after a call failed since before it: a connection that is shut then was shut before.
+-- A failure after a call is one since before it, if the call didn't close the connection.
 module _ (a b c : State) (P : Trees → Type 0) (one : Survives a b P)
     (was_shut : b.is_open ≡ false → a.is_open ≡ false) where
   failed_since : HasFailed b c → HasFailed a c

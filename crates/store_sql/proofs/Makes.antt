@@ -1,5 +1,5 @@
--- CREATE TABLE: the tables that it makes, that no rule refuses them, and why they can't be made: memory is refused, or
--- the database fails.
+-- CREATE TABLE: the tables that it creates, that no rule refuses them, and why it fails: memory is refused, or the
+-- database fails.
 use Rattle.store_sql.proofs.Words.{CommitsBy, CreateTable, Creates, Database, Does, Err, Error, Executes, ExecutesIn}
 use Rattle.store_sql.proofs.Words.{Fault, Has, HasCause, IfErr, IsDone, IsMisplaced, IsPlain, KeepsRows, List, Mode}
 use Rattle.store_sql.proofs.Words.{None, Ok, Option, Result, Schema, Some, State, Stays, Table, TableName, Tally, Trees}
@@ -36,7 +36,7 @@ use Rattle.sqlite.specs.Does.{MakesTable}
 use Rattle.store_sql.specs.declared.creation.TableName.TheVariants as name
 use Rattle.sqlite_catalog.specs.declared.error.Refusal as alter
 
--- a text that makes this table of the schema before
+-- a text that creates this table in this schema
 pub record Create (text : List ℕ) (before : Schema) (table : Table) : Type 0 where
   pub told : (command_of (understood before text) ≡ CreateTable) × (statement_of text (understood before text) ≡ text)
       × IsPlain (understood before text) × (lacks_sequence (created before table) ≡ false)
@@ -121,7 +121,7 @@ defines name.Run = run_defined
 defines name.RevokedKeyId = revoked_keyid_defined
 defines name.Ca = ca_defined
 
--- and is one statement, which makes a table
+-- and is one statement, which creates a table
 compiles : (n : TableName) → compiled (before n) (sql_of n) ≡ Ok (one_of (sql_of n) CreateTable 0)
 unfolding everything
 compiles name.Office = refl
@@ -132,7 +132,7 @@ compiles name.Run = refl
 compiles name.RevokedKeyId = refl
 compiles name.Ca = refl
 
--- without a count
+-- no table of sequence counts is missing
 uncounted : (n : TableName) → lacks_sequence (created (before n) (made n)) ≡ false
 uncounted name.Office = refl
 uncounted name.Department = refl
@@ -151,18 +151,18 @@ makes n =
 
 -- ---- tables that no rule refuses
 
--- the names are free: that of the table isn't reserved, and none of its indexes is there
+-- the names are free: the table's isn't used or reserved, and none of its indexes exists
 abbrev AreFree : Schema → Table → Type 0
 AreFree before table = (not (is_used before table.name) ≡ true) × (not (is_reserved table.name) ≡ true)
     × (list_all (λ i. not (is_used before i.name)) (automatics table 0 0 table.uniques) ≡ true)
 
--- the text is whole
+-- the text is well-formed
 abbrev IsFormed : List ℕ → Table → Type 0
 IsFormed text table = (is_formed table ≡ true)
     × (is_fit (Text (codes "table")) (Text table.name) (Text table.name) (Text text) ≡ true)
     × (is_utf8 text ≡ true) × (is_utf8 table.name ≡ true)
 
--- numbers are within their bounds, of trees, of reals, of the reals of a key, and of bytes
+-- numbers are within their limits: those of trees, of floats, of floats in a key, and of bytes
 abbrev IsSmall : List ℕ → Schema → Table → Type 0
 IsSmall text before table = (nat_lt (next_tree before + length table.uniques) 65536 ≡ true)
     × (nat_lt (table_reals table) (2 ^ 64) ≡ true)
@@ -182,7 +182,7 @@ all_of n free formed small =
     let is = statement (before n) (sql_of n) CreateTable 0 refl (compiles n) in
     record { create = makes n; one = is.2; free = free; formed = formed; small = small }
 
--- so is each of the office's tables
+-- each of the office's tables can be created
 pub makeable : (n : TableName) → IsMakeable (sql_of n) (before n) (made n)
 unfolding everything same_name same_letters fits_kind is_free_name value_cmp begins lib.Ieee.is_nan lib.Ieee.lt is_utf8 chars lib.Utf8.encode
 makeable name.Office = all_of name.Office (refl, refl, refl) (refl, refl, refl, refl) (refl, refl, refl, refl)
@@ -193,7 +193,7 @@ makeable name.Run = all_of name.Run (refl, refl, refl) (refl, refl, refl, refl) 
 makeable name.RevokedKeyId = all_of name.RevokedKeyId (refl, refl, refl) (refl, refl, refl, refl) (refl, refl, refl, refl)
 makeable name.Ca = all_of name.Ca (refl, refl, refl) (refl, refl, refl, refl) (refl, refl, refl, refl)
 
--- ---- why a table can't be made
+-- ---- why a table can't be created
 
 never_misplaced : (s : State) (e : Error) → IsMisplaced s CreateTable e → ⊥
 never_misplaced s e (inl (_, inl (k, _))) = cc
@@ -250,7 +250,7 @@ module _ {text : List ℕ} {before : Schema} {table : Table} (m : IsMakeable tex
       let all = subst (λ (t : Table). 10 ^ 9 ≤ 2 * length t.name + length text + 200) (sym (is_table other is)) many in
       omega (arith, few, all)
 
-  -- ---- so it is made, or memory is refused, or the database fails
+  -- ---- the table is created, or memory is refused, or the database fails
 
   not_made : (db : Database) (stop : Option Error) → db.schema ≡ before → MakesTable text db (Err stop) → ⊥
   not_made db None is h = not_long h

@@ -1,4 +1,4 @@
--- UPDATE of the struct of one number, whatever its table is: what it makes of the contents, and why it is refused.
+-- UPDATE of the struct with one number, for any table: its effect on the contents, and why it is refused.
 use Rattle.store_sql.proofs.Words.{All, AllByRecursion, Applies, BadReference, Binary, Bool, Check, Command, Compare}
 use Rattle.store_sql.proofs.Words.{Contents, Database, Datatype, Does, Edit, Enforced, Eq, FailsBy, Fault, ForeignKey}
 use Rattle.store_sql.proofs.Words.{Given, Has, HasOne, Holds, Int, IsPermutation, IsTooLong, Keeps, List, Lists, Means}
@@ -31,7 +31,7 @@ no_hits : (p : Row → Bool) (rows : List Row) → ((r : Row) → Has rows r →
 no_hits p [] none = refl
 no_hits p (r ∷ rows) none = rw (none r (inl refl)) (no_hits p rows (λ s here. none s (inr here)))
 
--- a list that is as one element
+-- a permutation of a list of one element
 pub sole : {X : Type 0} (x : X) (xs : List X) → IsPermutation (x ∷ []) xs → xs ≡ x ∷ []
 sole x [] same = let n = length_permutation _ _ same in absurd (omega (arith, n))
 sole x (y ∷ []) same =
@@ -43,7 +43,7 @@ pub void : {X : Type 0} (xs : List X) → IsPermutation [] xs → xs ≡ []
 void [] same = refl
 void (x ∷ xs) same = let n = length_permutation _ _ same in absurd (omega (arith, n))
 
--- the rowid of a row is free once the row is taken out
+-- the rowid of a row is free once the row is deleted
 pub freed : (rows : List Row) (id : ℤ) (new : Row) → rowid new ≡ Int id → is_taken (without_rowid id rows) new ≡ true → ⊥
 freed rows id new is taken =
     let found = some_has (λ r. is_eq (value_cmp (rowid r) (rowid new))) (without_rowid id rows) taken in
@@ -51,7 +51,8 @@ freed rows id new is taken =
     let tie : has_rowid id found.0 ≡ true = subst (λ v. is_eq (value_cmp (rowid found.0) v) ≡ true) is found.2 in
     let wrong = rw tie at left.1 in cc
 
--- The rows that a test picks are none, or the one of a struct that passes; those that a query shows of them are none, or its.
+-- The rows that a test selects are none, or the one of a struct that passes; those that a query shows for them
+-- likewise.
 module _ {X : Type 0} (cells : X → Row) (places : List ℕ) (number : X → ℕ) (n : ℕ) (rows : List Row) (xs : List X)
     (p : Row → Bool) (shows : Row → Row) (h : Lists cells places rows xs)
     (ids : (x : X) (r : Row) → at_places places r ≡ cells x → rowid r ≡ Int (pos (number x)))
@@ -89,7 +90,7 @@ module _ {X : Type 0} (cells : X → Row) (places : List ℕ) (number : X → �
     | inr none ↦ inl (void shown (subst (λ l. IsPermutation (map shows l) shown) (no_hits p rows (none_passes p rows none)) same))
   ]
 
--- ---- no row at all
+-- ---- an edit of no row
 
 same_trees : (db : Trees) (tree t : ℕ) → with_tree db tree (db tree) t ≡ db t
 same_trees db tree t = elim (cases_Bool (t == tree)) [
@@ -97,7 +98,7 @@ same_trees db tree t = elim (cases_Bool (t == tree)) [
   | inr apart ↦ rw apart refl
 ]
 
--- an edit that only takes rows out is made, where keys and references stay
+-- an edit that only deletes rows succeeds, if keys and references stay
 pub removal_halts : (db : Trees) (table : Table) (gone : List ℤ)
     → let edit : Edit = record { table = table; gone = gone; news = [] } in
     Has whole.tables table → Keeps Unique whole (with_tree db table.tree (edited db edit))
@@ -118,7 +119,7 @@ removal_halts db table gone listed unique refers (inl (TooDeep, h)) = h
 removal_halts db table gone listed unique refers (inr (inl (row, none, big))) = none
 removal_halts db table gone listed unique refers (inr (inr (next, did, broken))) = broken (refers next did)
 
--- an edit of no row is made
+-- an edit of no row succeeds
 pub nothing_halts : (db : Trees) (table : Table) → Obeys whole db → Has whole.tables table
     → IsHalted whole db (record { table = table; gone = []; news = [] }) → ⊥
 nothing_halts db table obeys listed = removal_halts db table [] listed
@@ -130,7 +131,7 @@ nothing_halts db table obeys listed = removal_halts db table [] listed
 
 -- ---- UPDATE
 
--- the text that changes the struct of this number so
+-- the text that changes the struct with this number so
 pub record IsUpdate {X : Type 0} (sql : List ℕ) (params : Row) (cells : X → Row) (places : List ℕ) (at : ℕ)
     (table : Table)
     (tests project : List Term) (of : Contents → List X) (after : Contents → Contents) (number : X → ℕ) (n : ℕ)
@@ -140,7 +141,7 @@ pub record IsUpdate {X : Type 0} (sql : List ℕ) (params : Row) (cells : X → 
   pub is : IsStatement sql (Update at (record { lets = []; body = on_table table.tree tests project [] }))
       (length params)
   pub typed : accepts_program whole [] (on_table table.tree tests project []) params ≡ true
-  -- the new row of a row's columns, and their new columns
+  -- the new row for a row's columns, and their new columns
   pub next : Row → Row
   pub change : Row → Row
   pub on_row : (r : Row) → (column (at_places places r) 0 ≡ rowid r) × (list_all (holds (params ∷ r ∷ [])) tests
@@ -209,7 +210,7 @@ module _ {X : Type 0} {sql : List ℕ} {params : Row} {cells : X → Row} {place
   pub update : Write sql params after
   update = record { command = Update at program; is = it.is; on_rows = tt; does = does }
 
-  -- It is refused where the struct is then too long: its number stays, and breaks no reference.
+  -- It is refused if the struct then is too long: its number stays, and no reference breaks.
   module _ (listed : Has whole.tables (uncounted table)) (fits : fits_i64 (pos n) ≡ true)
       (same : (x : X) → number (u x) ≡ number x) (row_number : (x : X) → rowid (row x) ≡ Int (pos (number x)))
       (long : (x : X) → 10 ^ 9 < size (row x) → IsTooLong (cells x))

@@ -1,5 +1,5 @@
--- The statements that write the row of the office, that read it, and that change its counters and the number of its
--- schema; and why that row is refused.
+-- The statements that write the row of the office, that read it, and that change its counters and its schema number;
+-- and why that row is refused.
 use Rattle.store_sql.proofs.Words.{AllByRecursion, Binary, Blob, COUNT_OFFICE, Compare, Contents, Counters, Database}
 use Rattle.store_sql.proofs.Words.{Eq, Err, Error, FailsBy, FailsIn, FailsToQuery, Fault, FindsIn, Global, HasCause}
 use Rattle.store_sql.proofs.Words.{HasOffices, HasOne, Holds, INSERT_OFFICE, IfErr, IfOk, Insert, Int, IsEachRead}
@@ -56,7 +56,7 @@ puts = record {
 pub put : (x : OfficeRow) → Write INSERT_OFFICE.now (office_cells x) (with_office x)
 put = insert puts
 
--- ---- SELECT of all
+-- ---- SELECT of all rows
 
 abbrev columns : List Term
 columns = col 1 0 ∷ col 1 2 ∷ col 1 3 ∷ col 1 4 ∷ col 1 5 ∷ col 1 6 ∷ col 1 7 ∷ col 1 8 ∷ col 1 9 ∷ col 1 10 ∷ []
@@ -72,7 +72,7 @@ shown v = column v 0 ∷ column v 1 ∷ column v 2 ∷ column v 3 ∷ column v 4
 abbrev every_sql : List ℕ
 every_sql = EVERY_OFFICE.now
 
--- a schema with that table first, and these others
+-- a schema that begins with that table, followed by these
 abbrev beginning : Schema → List Table → Schema
 beginning s others = record s { tables = office_at ∷ others }
 
@@ -97,14 +97,14 @@ pub every : FindSorted every_sql ([]) office_cells (λ c. c.offices) (λ o. o.id
 every = select_all tree (every_is whole the_others) shown (λ x. refl) (λ r. refl) refl (λ r. refl)
     (λ x y. number_cmp x.id y.id)
 
--- the rows of that table, whatever the others are
+-- the rows of that table, whatever the other tables are
 module _ (old new : State) (answer : Result (Vec Row Global) Error)
     (ok : IfOk answer (λ rows. Shown every_sql [] old new rows.items))
     (err : IfErr answer (FailsToQuery every_sql [] old new)) where
   abbrev IsBeside : List Table → List OfficeRow → Database → Type 0
   IsBeside others xs db = (db.schema ≡ beginning old.now.schema others) × HoldsOffices db.trees xs
 
-  -- in the schema that the database has
+  -- under the schema of the database
   beside : (xs : List OfficeRow) → HasOffices xs old.now → (others : List Table) × IsBeside others xs old.now
   beside xs has =
       let it = first_is old.now.schema.tables has.first in
@@ -126,7 +126,7 @@ module _ (old new : State) (answer : Result (Vec Row Global) Error)
       let it = beside xs has in
       found_fails (every_beside old.now.schema it.0) (IsBeside it.0) (λ xs db is. is) old new answer ok err (Err f) read xs it.1
 
--- ---- its counters, and the number of its schema
+-- ---- its counters, and its schema number
 
 abbrev pub first_test : List Term
 first_test = op2 (Compare Eq Binary) (col 1 0) (lit (Int (pos 1))) ∷ []
@@ -167,7 +167,7 @@ module _ (k : Counters) where
   pub count : Write COUNT_OFFICE.now (counter_cells k) (with_counters k)
   count = update counts
 
--- ---- UPDATE of the number of the schema
+-- ---- UPDATE of the schema number
 
 abbrev pub number_project : List Term
 number_project = col 1 0 ∷ col 1 0 ∷ lit Null ∷ col 0 0 ∷ col 1 3 ∷ col 1 4 ∷ col 1 5 ∷ col 1 6 ∷ col 1 7 ∷ col 1 8
@@ -229,9 +229,9 @@ office_fails x below = insert_fails puts x (RefusesOffice x) (λ s. office_put x
     ((λ e. never e refl), ((λ e. never e refl), ((λ e. never e refl), ((λ e. never e refl), tt)))) clash))
     (λ s c long. inr (office_long x long)) (λ s c next means did broken. absurd (broken (refers_still means did refl refl)))
 
--- ---- its counters, and the number of its schema
+-- ---- its counters, and its schema number
 
--- the row of the office is not written over by the row of what the office then is, since that is too long
+-- an update of the office's row is refused only if the new row is too long
 module _ {sql : List ℕ} {params : Row} {project : List Term} {after : Contents → Contents} {u : OfficeRow → OfficeRow}
     (it : IsUpdate sql params office_cells office_places 0 office_at first_test project (λ c. c.offices) after
     (λ o. o.id) 1 u office_row)

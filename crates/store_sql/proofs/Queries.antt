@@ -1,4 +1,4 @@
--- What a SELECT on one table shows.
+-- The rows that a SELECT on one table shows.
 use Rattle.store_sql.proofs.Words.{AllByRecursion, Binary, Blob, Bool, CommitsShowing, Compare, Compiled, Eq, Err}
 use Rattle.store_sql.proofs.Words.{Error, FailsToQuery, Ge, Global, IfOk, Int, IsAnswer, IsNotRun, IsPermutation}
 use Rattle.store_sql.proofs.Words.{IsPermutation-filter, IsPermutation-map, IsPermutation-refl, IsPermutation-trans}
@@ -58,7 +58,7 @@ module _ (t : ℕ) (tests project : List Term) (order : List (Term × Key)) (tre
       (subst (λ l. IsPermutation l (map (λ (o : Output). o.1) a.ordered)) (map-map _ _ (filter passes (trees t)))
       (IsPermutation-map (λ (o : Output). o.1) _ _ same))
 
-  -- ORDER BY, where what is shown tells the keys
+  -- ORDER BY, if the keys can be computed from the rows shown
   pub in_order : (keyed : Row → Row) →
       ((r : Row) → eval_all (map (λ k. k.0) order) (params ∷ r ∷ []) ≡ keyed (shows r)) → overlay trees [] t ≡ trees t
       → IsAnswer (on_table t tests project order) (overlay trees []) params rows
@@ -90,7 +90,7 @@ module _ (t : ℕ) (tests project : List Term) (order : List (Term × Key)) (tre
       again [] all = refl
       again (o ∷ os) all = ap₂ ◌∷◌ all.0 (again os all.1)
 
--- a query that failed left the database as it was, or the transaction is undone
+-- a query that failed left the database as it was, or the transaction is rolled back
 pub query_stopped : (sql : List ℕ) (params : Row) (old new : State) (e : Error) → FailsToQuery sql params old new e
     → IsUnchanged old new ⊎ IsRolledBack old new
 unfolding FailsToQuery IsNotRun
@@ -114,7 +114,7 @@ truth_of : (b : Bool) → is_true (from_truth (Some b)) ≡ b
 truth_of true = refl
 truth_of false = refl
 
--- `=` of two texts
+-- `=` on two texts
 pub text_test : (a b : List ℕ) → is_true (binary (Compare Eq Binary) (Text a) (Text b)) ≡ bytes_eq a b
 unfolding binary
 text_test a b = truth_of _ ∙ ap is_eq (value_cmp-Text a b) ∙ is_eq-slice_cmp a b
@@ -139,7 +139,7 @@ pub int_ne_test : (a b : ℤ) → is_true (binary (Compare Ne Binary) (Int a) (I
 unfolding binary
 int_ne_test a b = truth_of _ ∙ ap is_ne (value_cmp-Int a b)
 
--- the same choice from the rows and from the records
+-- the same choice among the rows and among the records
 module _ {X : Type 0} (cells shown : X → Row) (mine : X → Bool) (places : List ℕ) (tests : Row → Bool)
     (shows : Row → Row)
     (tested : (x : X) → tests (cells x) ≡ mine x) (showed : (x : X) → shows (cells x) ≡ shown x) where
@@ -162,7 +162,7 @@ module _ {X : Type 0} (cells shown : X → Row) (mine : X → Bool) (places : Li
       (subst (IsPermutation (map shows (filter tests (map cells xs)))) right both) in
       IsPermutation-trans (map shown (filter mine xs)) wanted out turned same
 
--- the rows that pass are the structs that do
+-- the rows that pass are those of the structs that do
 pub lists_left : {X : Type 0} (cells : X → Row) (mine : X → Bool) (places : List ℕ) (tests : Row → Bool)
     (tested : (x : X) → tests (cells x) ≡ mine x) (rows : List Row) (xs : List X)
     → Lists cells places rows xs → IsPermutation (map cells (filter mine xs))

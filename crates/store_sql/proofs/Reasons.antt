@@ -1,4 +1,4 @@
--- Why one row is not put into a table of the office.
+-- Why a row is not inserted into a table of the office.
 use Rattle.store_sql.proofs.Words.{All, AllByRecursion, Applies, BadReference, Blob, Bool, Check, Datatype, Edit}
 use Rattle.store_sql.proofs.Words.{Enforced, ForeignKey, Has, Index, Int, IsOversized, IsTable, Keeps, List, Mismatch}
 use Rattle.store_sql.proofs.Words.{NoRowid, NotNull, Null, PrimaryKey, Refers, Row, Table, Text, TooDeep, Trees, Unique}
@@ -31,7 +31,7 @@ use Rattle.sqlite_rules.proofs.TableLemmas.{put_has}
 use Rattle.store_sql.proofs.Queries.{int_ne_test}
 use Rattle.store_sql.proofs.Stops.{IsHalted}
 
--- ---- how long a row may be
+-- ---- the limit on a row's length
 
 abbrev pub size : Row → ℕ
 size row = sum_by (λ v. 18 + length (bytes v)) row
@@ -71,7 +71,7 @@ storable reals row none exact columns short = record {
 pub never : {R : Type 0} {b : Bool} → b ≡ true → b ≡ false → R
 never passed failed = absurd (let wrong : true ≡ false = sym passed ∙ failed in cc)
 
--- ---- the tables are apart
+-- ---- other tables are unchanged
 
 apart : IsAscending (λ a b. a.tree ≡ b.tree → ⊥) whole.tables
 apart = search (rules, arith)
@@ -102,7 +102,7 @@ pub the_one : {X : Type 0} (x y : X) → Has (y ∷ []) x → x ≡ y
 the_one x y (inl same) = same
 the_one x y (inr none) = absurd none
 
--- the foreign keys of each table fit, whatever an edit adds and takes out
+-- the foreign keys of each table fit, whatever an edit inserts and deletes
 pub fit : (adds removes : Bool) → AllByRecursion (λ t. references_fit whole t adds removes ≡ true) whole.tables
 unfolding same_name joined
 fit true true = (refl, (refl, (refl, (refl, (refl, (refl, (refl, tt)))))))
@@ -110,7 +110,7 @@ fit true false = (refl, (refl, (refl, (refl, (refl, (refl, (refl, tt)))))))
 fit false true = (refl, (refl, (refl, (refl, (refl, (refl, (refl, tt)))))))
 fit false false = (refl, (refl, (refl, (refl, (refl, (refl, (refl, tt)))))))
 
--- what is seen of a table and of a row that is put in
+-- properties of a table and of a row inserted into it
 pub record IsPut (table : Table) (new : Row) : Type 0 where
   pub listed : Has whole.tables table
   pub formed : ((are_typed table.key 0 table.columns (drop 1 new) && has_computed table new) ≡ true)
@@ -168,11 +168,11 @@ module _ (db : Trees) (table : Table) (gone : List ℤ) (new : Row) where
             )
       ]
 
-  -- nor has any where no index is on the table
+  -- no row has its key, if the table has no index
   pub unclashed : AllByRecursion (λ i. guards i table ≡ true → ⊥) whole.indexes → HasClash → ⊥
   unclashed none (i, here, on, other, there, same) = all_has (λ j. guards j table ≡ true → ⊥) whole.indexes i none here on
 
-  -- Such a row is kept out by its rowid, which is taken or out of range, by its key, by its size, or for want of a parent.
+  -- Such a row is refused for its rowid, which is taken or out of range, its key, its size, or a missing parent.
   pub halted : {R : Type 0} → IsPut table new → IsTable (db table.tree) → Keeps Unique whole db
       → (fits_i64 (id_in (rowid new)) ≡ false → R) → (is_taken (left_by db one) new ≡ true → R) → (HasClash → R)
       → (10 ^ 9 < size new → R)

@@ -1,5 +1,5 @@
--- The rows of a table as records, under the edits; the numbers of rows whose rowid is no column; and the tests that a
--- query makes of a row.
+-- A table's rows as records, under edits; row numbers if the rowid is no column; and the tests that a query makes of a
+-- row.
 use Rattle.store_sql.proofs.Words.{AllByRecursion, Applies, AreNumbered, Binary, Bool, Chosen, Compare, Enforced, Eq}
 use Rattle.store_sql.proofs.Words.{Equal, Greater, Has, Int, IsNumber, IsPermutation, IsPermutation-cons}
 use Rattle.store_sql.proofs.Words.{IsPermutation-map, IsPermutation-middle, IsPermutation-refl, IsPermutation-trans}
@@ -35,7 +35,7 @@ free_first : (a b : Bool) → (a || b) ≡ false → (a ≡ false) × (b ≡ fal
 free_first true b h = absurd (let e = h in cc)
 free_first false b h = (refl, h)
 
--- a row at a rowid that is free is added
+-- a row with a free rowid is added
 pub put_adds : (new : Row) (rows : List Row) → is_taken rows new ≡ false → IsPermutation (new ∷ rows) (put_row new rows)
 put_adds new [] free = IsPermutation-refl _
 put_adds new (r ∷ rs) free = let parts = free_first _ _ free in go (value_cmp (rowid r) (rowid new)) parts.0
@@ -58,7 +58,7 @@ pub inserted : (schema : Schema) (table : Table) (db after : Trees) (source : Ro
 inserted schema table db after source did = subst (IsPermutation _) (sym did.rows)
     (put_adds (with_rowid Chosen (db table.tree) (cast_row table source)) (db table.tree) (and_first _ _ did.fresh))
 
--- a struct more, where its row is added
+-- one more struct, if its row is added
 pub lists_more : {X : Type 0} (cells : X → Row) (places : List ℕ) (table : Table) (db after : Trees) (xs : List X)
     (x : X) (source : Row) → Lists cells places (db table.tree) xs
     → at_places places (with_rowid Chosen (db table.tree) (cast_row table source)) ≡ cells x
@@ -78,7 +78,7 @@ lists_more cells places table db after xs x source h is did = record {
 weaker : (a b : ℕ) (v : Value) → a ≤ b → IsNumber a v → IsNumber b v
 weaker a b v le (n, is, below) = (n, is, omega (arith, le, below))
 
--- a row more, whose number is one more at most
+-- one more row, whose number is at most one above their count
 pub more_numbered : (rows after : List Row) (new : Row) → IsPermutation (new ∷ rows) after
     → IsNumber (length rows + 1) (rowid new) → AreNumbered rows → AreNumbered after
 more_numbered rows after new put one all =
@@ -91,7 +91,7 @@ more_numbered rows after new put one all =
           weaker (length rows) (length rows + 1) (rowid r) (omega arith) (all_has (λ r. IsNumber (length rows) (rowid r)) rows r all here)),
     ))
 
--- as many rows, whose numbers are those that were there
+-- as many rows, with the same numbers
 pub still_numbered : (rows after : List Row) → length after ≡ length rows → AllByRecursion (λ r. IsNumber (length rows) (rowid r)) after
     → AreNumbered after
 still_numbered rows after count all = subst (λ n. AllByRecursion (λ r. IsNumber n (rowid r)) after) (sym count) all
@@ -125,7 +125,7 @@ le_number a b = grind (arith, nat_tests)
 pub ge_number : (a b : ℕ) → is_ge (int_cmp (pos a) (pos b)) ≡ nat_le b a
 ge_number a b = grind (arith, nat_tests)
 
--- tests of two integers, as their order
+-- comparing two integers
 pub eq_tie : (a b : Value) → is_int a ≡ true → is_int b ≡ true
     → is_true (binary (Compare Eq Binary) a b) ≡ is_eq (value_cmp a b)
 eq_tie a b m n = rw (int_is a m, int_is b n)
@@ -145,12 +145,12 @@ pub own_text : (a : List ℕ) → is_true (binary (Compare Eq Binary) (Text a) (
 own_text a = text_test a a ∙ sym (is_eq-slice_cmp a a) ∙ ap is_eq (sym (value_cmp-Text a a))
     ∙ ap is_eq (tied_itself value_cmp_total (Text a))
 
--- a test that no element passes
+-- no element passes the test
 pub none_passes : {X : Type 0} (p : X → Bool) (xs : List X) → list_any p xs ≡ false → (x : X) → Has xs x → p x ≡ false
 none_passes p xs none x here = elim (cases_Bool (p x))
     [ inl hit ↦ absurd (let some : true ≡ false = sym (some_from p xs x here hit) ∙ none in cc) | inr miss ↦ miss ]
 
--- the one row of a table that passes a test
+-- the only row of a table that passes a test
 pub only_one : (p : Row → Bool) (rows : List Row) (r : Row) → IsTable rows → Has rows r → p r ≡ true
     → ((s : Row) → Has rows s → p s ≡ true → s ≡ r) → filter p rows ≡ r ∷ []
 only_one p (x ∷ rows) r up here hit only = elim (cases_Bool (p x)) [

@@ -1,4 +1,4 @@
--- Why a run is refused, and that a deletion of runs is not.
+-- Why a run is refused, and that a deletion of runs never is.
 use Rattle.store_sql.proofs.Words.{AllByRecursion, Bool, Contents, Damaged, Delete, Device, Err, FailsBy, Fault, Has}
 use Rattle.store_sql.proofs.Words.{HasCause, HasCauseOr, INSERT_RUN, Index, Keeps, List, Means, NoMemory, Ok}
 use Rattle.store_sql.proofs.Words.{RefusedFor, Result, Row, RunRow, State, Trees, Unique, [], accepts_program, all_has}
@@ -44,7 +44,7 @@ run_fails x below = insert_fails puts x (RefusesRun x) (λ s. run_put x)
 
 -- ---- DELETE of runs
 
--- a table without an index keeps its rows apart
+-- rows of a table without an index stay unique
 kept_apart : (db : Trees) (tree : ℕ) (rows : List Row) → AllByRecursion (λ i. (i.table == tree) ≡ false) whole.indexes
     → Keeps Unique whole db → Keeps Unique whole (with_tree db tree rows)
 kept_apart db tree rows none keeps = keeps_from Unique whole (with_tree db tree rows) (λ t row listed there.

@@ -1,4 +1,4 @@
--- The statements on the table of runs.
+-- The statements on the table of runs (maximal ranges) of revoked serials.
 use Rattle.store_sql.proofs.Words.{Applies, Binary, Bool, Compare, Contents, Database, Delete, Does, Enforced, Equal}
 use Rattle.store_sql.proofs.Words.{Ge, Given, Has, Holds, INSERT_RUN, Insert, Int, IsAnswer, IsPermutation}
 use Rattle.store_sql.proofs.Words.{IsPermutation-map, IsPermutation-refl, IsSorted, Key, Le, List, Lists, Means, None}
@@ -53,7 +53,7 @@ puts = record {
 pub put : (x : RunRow) → Write INSERT_RUN.now (run_cells x) (with_run x)
 put = insert puts
 
--- ---- SELECT of all
+-- ---- SELECT of all runs
 
 abbrev columns : List Term
 columns = col 1 0 ∷ col 1 2 ∷ []
@@ -80,7 +80,7 @@ begin_apart trees c h x y here there equal =
     let same : r.0 ≡ s.0 = tied_same (trees 6) r.0 s.0 h.runs.apart r.1 s.1 tie in
     run_apart x y (sym r.2 ∙ ap (at_places run_places) same ∙ s.2)
 
--- ---- SELECT of the last one that begins with a serial or before it
+-- ---- SELECT of the last run that begins at or before a serial
 
 abbrev last_sql : List ℕ
 last_sql = LAST_RUN.now
@@ -105,7 +105,7 @@ low_passes : (n : ℕ) (r : RunRow)
     → (is_true (binary (Compare Le Binary) (column (run_cells r) 0) (Int (pos n))) && true) ≡ nat_le r.lo n
 low_passes n r = and-true _ ∙ int_le_test (pos r.lo) (pos n) ∙ le_number r.lo n
 
--- all that begin so, the last of them first
+-- all runs that begin so, the last of them first
 module _ (n : ℕ) (trees : Trees) (rows : List Row) (c : Contents) (h : Holds trees c)
     (answer : IsAnswer last_query (overlay trees []) (Int (pos n) ∷ []) rows) where
   low_answer : IsAnswer low_query (overlay trees []) (Int (pos n) ∷ []) (map (λ (o : Output). o.1) answer.ordered)

@@ -20,7 +20,7 @@ pub record IsTreeOf {A X : Type 0} (Held : Trees → A → Type 0) (cells : X �
   pub held : (trees : Trees) (a : A) → Held trees a → Lists cells places (trees tree) (of a)
   pub apart : (x y : X) → cells x ≡ cells y → x ≡ y
 
--- the structs that pass are those that are wanted
+-- the structs that pass are the wanted ones
 unfoldable pub select : {A X : Type 0} {schema : Schema} {Held : Trees → A → Type 0} {cells : X
     → Row} {places : List ℕ} {tree : ℕ}
     {of wanted : A → List X} {sql : List ℕ} {tests project : List Term} {order : List (Term × Key)}
@@ -70,14 +70,14 @@ number_cmp a b = value_cmp-Int (pos a) (pos b) ∙ int_is_nat a b
 pub text_cmp : (a b : List ℕ) → value_cmp (Text a) (Text b) ≡ slice_cmp nat_cmp a b
 text_cmp a b = value_cmp-Text a b
 
--- a text that finds these structs by this key, which their first column tells
+-- a text that finds these structs ordered by this key, which their first column determines
 pub record FindSorted {X K : Type 0} (sql : List ℕ) (params : Row) (cells : X → Row) (of : Contents → List X)
     (key : X → K) (cmp : K → K → Ordering) : Type 0 where
   pub find : Find sql params cells of
   pub rises : (trees : Trees) (rows : List Row) → IsAnswer find.query (overlay trees []) params rows → AscendBy 0 rows
   pub told : (x y : X) → value_cmp (column (cells x) 0) (column (cells y) 0) ≡ cmp (key x) (key y)
 
--- a query of one table, by the first column that it shows
+-- a query of one table, ordered by the first column that it shows
 pub select_sorted : {X K : Type 0} {cells : X → Row} {places : List ℕ} {tree : ℕ} {of wanted : Contents → List X}
     {sql : List ℕ} {tests project : List Term} {at : Term} {names : List (List ℕ)} {params : Row} {key : X → K}
     {cmp : K → K → Ordering} → IsTreeOf Holds cells places tree of
@@ -114,7 +114,7 @@ select_all {of = of} t is shows showed showing typed keyed told =
     select_sorted t is (λ x. true) (λ v. true) shows (λ x. refl) showed (λ r. refl) showing typed
     (λ c. keep_all (of c)) keyed told
 
--- all that a call of such a text does
+-- the whole contract of a call with such a text
 module _ {X K : Type 0} {sql : List ℕ} {params : Row} {cells : X → Row} {of : Contents → List X} {key : X → K}
     {cmp : K → K → Ordering} (f : FindSorted sql params cells of key cmp) where
   sorts : (old new : State) (answer : Result (Vec Row Global) Error) → IfOk answer
@@ -147,7 +147,7 @@ module _ {X K : Type 0} {sql : List ℕ} {params : Row} {cells : X → Row} {of 
         survives = all.survives;
       }
 
--- ---- downwards
+-- ---- descending order
 
 -- rows descend by the column
 abbrev pub DescendBy : ℕ → List Row → Type 0

@@ -1,4 +1,4 @@
--- What the statements on one table do, whatever the table is.
+-- The effect of statements on one table, for any table.
 use Rattle.store_sql.proofs.Words.{Answers, Applies, AtPlace, Chosen, Command, Commit, CommitsBy, Database, Delete}
 use Rattle.store_sql.proofs.Words.{Does, Edited, Enforced, Err, Error, Executes, ExecutesIn, Given, Insert, IsDatabase}
 use Rattle.store_sql.proofs.Words.{IsNotRun, IsPlain, IsRolledBack, IsTrue, IsUnchanged, IsWrite, List, MayCommit, Mode}
@@ -9,7 +9,7 @@ use Rattle.store_sql.proofs.Words.{shows_rows, slice_get, stamped, statement_of,
 use Rattle.store_sql.proofs.Words.{understood, value_rows, works, ℕ, ◌/◌, ◌∙◌, ◌≡◌, ◌⊎◌}
 use Rattle.sqlite.specs.State.{IsNewestNamed, names_in, begins_at}
 
--- a part that gave a value did not stop on the way
+-- a part that returned a value did not stop on the way
 pub went : {B E R : Type 0} {b : B} {Stops : E → Type 0} → ((stop : E) × Stops stop × (Ok b ≡ Err stop)) ⊎ R → R
 went (inl stopped) = absurd (let e = stopped.2 in cc)
 went (inr on) = on
@@ -17,7 +17,7 @@ went (inr on) = on
 pub same_value : {B E : Type 0} {a b : B} → ◌≡◌ {A = Result B E} (Ok a) (Ok b) → a ≡ b
 same_value e = cc
 
--- whatever the text is, a statement that failed left the database as it was, or the transaction is undone
+-- whatever the text is, a statement that failed left the database as it was, or the transaction is rolled back
 pub stopped : (sql : List ℕ) (params : Row) (old new : State) (e : Error) → Executes sql params old new (Err e)
     → IsUnchanged old new ⊎ IsRolledBack old new
 unfolding ExecutesIn IsNotRun
@@ -28,14 +28,14 @@ stopped sql params old new e (inr h) = elim (cases_Bool (shows_rows false h.0)) 
   | inr runs ↦ elim (rw runs at h.2) [ inl refused ↦ inl refused.1 | inr failed ↦ inr failed.3 ]
 ]
 
--- so that the count in sqlite_sequence computes away
+-- without the count in `sqlite_sequence`, which computes away
 abbrev pub uncounted : Table → Table
 uncounted table = record table { is_counted = false }
 
 abbrev pub mode : Mode
 mode = record { keys = Enforced; in_doubt = false; may_wait = false }
 
--- What a text that is a write commits, if a crash comes, is what it does outside a transaction.
+-- A write that a crash interrupts commits nothing or, outside a transaction, its whole effect.
 module _ (sql : List ℕ) (params : Row) (s : State) (schema : Schema) (has : s.now.schema ≡ schema) (command : Command)
     (is : command_of (understood schema sql) ≡ command)
     (plain : IsPlain (understood schema sql)) (writes : IsWrite command) where
@@ -89,7 +89,7 @@ module _ (limit : Option ℕ) (db after : Database) (tally : Tally) (schema : Sc
       let edit = edit_of db.trees table′ [] Chosen 0 (value_rows (stamped table′ params) width (length terms / width) terms)
       in (rw all (one_step schema Enforced db.trees written.0 edit none wrote), ap (λ (d : Database). d.schema) now)
 
-  -- UPDATE writes the rows that its query shows, each after the rowid that it had
+  -- UPDATE writes the rows that its query shows, each under its old rowid
   pub updates : (q : Program) → Does limit mode params db text None (Update at q) (Ok (tally, after))
       → ((olds news : List Row) → works schema Enforced 0 table.tree olds news ≡ [])
       → (rows : List Row) × Answers (record { schema = schema; trees = db.trees }) q params rows
@@ -111,7 +111,7 @@ module _ (limit : Option ℕ) (db after : Database) (tally : Tally) (schema : Sc
       let step = one_step schema Enforced db.trees written.0 edit (none (taken_by db.trees edit) edit.news) written.1 in
       (given.0, given.1, subst (Applies schema Enforced db.trees edit) (sym all) step, ap (λ (d : Database). d.schema) now)
 
-  -- DELETE takes out the rowids that its query shows
+  -- DELETE deletes the rows whose rowids its query shows
   pub deletes : (q : Program) → Does limit mode params db text None (Delete at q) (Ok (tally, after))
       → ((olds news : List Row) → works schema Enforced 0 table.tree olds news ≡ [])
       → (rows : List Row) × Answers (record { schema = schema; trees = db.trees }) q params rows

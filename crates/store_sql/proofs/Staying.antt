@@ -1,4 +1,4 @@
--- What a statement that ends no transaction leaves of one, whatever the tables are.
+-- A statement that doesn't end a transaction leaves it open, whatever the tables are.
 use Rattle.store_sql.proofs.Words.{Begin, Command, Commit, Compiled, CreateTable, Delete, Err, Error, Executes}
 use Rattle.store_sql.proofs.Words.{ExecutesIn, Fault, Insert, InsertOr, IsDone, IsTrue, IsUnchanged, KeepsCommit, List}
 use Rattle.store_sql.proofs.Words.{Never, Ok, OnlyReads, Option, Release, Result, Returning, Rollback, RollbackTo, Row}
@@ -12,7 +12,7 @@ use Rattle.store_sql.proofs.Commands.{closes}
 use Rattle.store_sql.proofs.Later.{inside_is, stops, stops_then as later_fails}
 use Rattle.store_sql.proofs.Statements.{stopped}
 
--- the transaction goes on, with what was committed
+-- the transaction stays open, with what was committed
 abbrev pub GoesOn : State → State → Type 0
 GoesOn old new = Shows old new new.now old.committed old.in_transaction
 
@@ -119,11 +119,11 @@ reads_then a b c x (Ok y) one rest = unchanged_then a b c one (rest one.0.is_ope
 reads_then a b c x (Err f) one rest =
     let q = rest one.0.is_open in (later_fails a b c one q.0, λ damaged. unchanged_then a b c one (q.1 damaged))
 
--- which commit nothing
+-- two calls that commit nothing
 pub never_then : (a b c : State) → Survives a b Never → Survives b c Never → Survives a c Never
 never_then a b c one two = survives_then a b c Never Never Never (λ clean trees h. h) (λ clean trees h. h) one two
 
--- nothing was asked
+-- no statement ran
 pub reads_none : {X : Type 0} (s : State) (x : X) → IsTrue s.is_open → OnlyReads s s (Ok x)
 reads_none s x is_open = (
   record { was_open = is_open; is_open = is_open; now_is = refl; committed_is = refl; mode = refl },

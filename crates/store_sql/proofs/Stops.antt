@@ -1,4 +1,4 @@
--- What stops a statement on one table: a rule, a row that is too long, or a foreign key.
+-- Why a statement on one table stops: a rule, a row that is too long, or a foreign key.
 use Rattle.store_sql.proofs.Words.{All, Answers, Applies, AtPlace, Chosen, Database, Delete, Does, Edit, Edited}
 use Rattle.store_sql.proofs.Words.{Enforced, Err, Error, Given, Has, Insert, IsOversized, List, None, Ok, OnRows}
 use Rattle.store_sql.proofs.Words.{Option, Program, ProgramOverflows, Refers, Refusal, Result, Row, Schema, Some, Table}
@@ -19,7 +19,7 @@ IsHalted schema db edit = ((why : Refusal) × IsRefused schema Enforced db edit 
     ⊎ (((row : Row) × Has edit.news row × IsOversized schema edit.table row)
     ⊎ ((next : Trees) × Applies schema Enforced db edit next × (Refers All schema next → ⊥)))
 
--- a part that stopped did so in its first part, or later
+-- a part that stopped did so in its first step, or later
 pub halts : {B E R : Type 0} {e : E} {Stops : E → Type 0}
     → ((stop : E) × Stops stop × (◌≡◌ {A = Result B E} (Err e) (Err stop))) ⊎ R → ((stop : E) × Stops stop) ⊎ R
 halts (inl h) = inl (h.0, h.1)
@@ -120,7 +120,7 @@ module _ (db : Database) (schema : Schema) (has : db.schema ≡ schema) (at : �
     abbrev pub removal : List Row → Edit
     removal rs = edit_of db.trees (uncounted table) (ids_of rs) Given 0 []
 
-    -- the rows that the query shows, and why they are not put in place of their own
+    -- the rows that the query shows, and why they can't replace the old ones
     abbrev pub IsKept : (List Row → Edit) → Type 0
     IsKept edit =
         (rs : List Row) × Answers (record { schema = schema; trees = db.trees }) q given rs × IsHalted schema db.trees (edit rs)

@@ -1,4 +1,4 @@
--- What a text is, from what it compiles to, so that this is computed once.
+-- Properties of a text, from its compiled form, so that this is computed only once.
 use Rattle.store_sql.proofs.Words.{Command, CompileError, Compiled, IsPlain, List, None, Ok, Query, Result, Schema}
 use Rattle.store_sql.proofs.Words.{Select, [], ap, codes, command_of, length, refl, subst, sym, take}
 use Rattle.store_sql.proofs.Words.{understood, ℕ, ◌∷◌, ◌≡◌}
@@ -8,12 +8,12 @@ use Rattle.sqlite_resolve.specs.Compile.{compiled}
 use Rattle.store_sql.proofs.CallLemmas.{IsSelect}
 use Rattle.store_sql.proofs.FaultLemmas.{IsWhole}
 
--- the parameters of the texts, as they are written
+-- the parameters of the texts, by name
 abbrev pub numbers : List (List ℕ)
 numbers = codes "?1" ∷ codes "?2" ∷ codes "?3" ∷ codes "?4" ∷ codes "?5" ∷ codes "?6" ∷ codes "?7" ∷ codes "?8"
     ∷ codes "?9" ∷ codes "?10" ∷ []
 
--- what a text is that is this one statement, with the first so many of those
+-- the compiled form of a text that is one such statement, with the first `count` of those parameters
 abbrev pub one_of : List ℕ → Command → ℕ → Compiled
 one_of sql command count = record {
   command = command;
@@ -29,7 +29,7 @@ pub understood_as : (schema : Schema) (sql : List ℕ) (c : Compiled) → compil
 unfolding understood
 understood_as schema sql c is = rw is refl
 
--- the text is one statement with so many parameters, and means this
+-- the text is one statement with this many parameters, and this meaning
 abbrev IsStatementIn : List ℕ → Command → ℕ → Result Compiled CompileError → Type 0
 IsStatementIn sql command count r = (command_of r ≡ command) × IsPlain r × IsWhole sql count r
 

@@ -1,4 +1,4 @@
--- INSERT of one row .. ON CONFLICT .. DO UPDATE, and what stops it.
+-- INSERT of one row .. ON CONFLICT .. DO UPDATE, and why it stops.
 use Rattle.store_sql.proofs.Words.{Abort, Answers, Applies, AreConflicts, AtPlace, Chosen, Clears, Database, Does, Edit}
 use Rattle.store_sql.proofs.Words.{Enforced, Err, Error, Given, InsertOr, IsJudged, Judged, List, Meets, None, Ok}
 use Rattle.store_sql.proofs.Words.{OnRows, Option, Program, ProgramOverflows, Puts, Refusal, Row, Schema, Some, Table}
@@ -23,7 +23,7 @@ module _ (limit : Option ℕ) (db after : Database) (tally : Tally) (schema : Sc
   abbrev clause : Upsert
   clause = record { target = target; update = Some q }
 
-  -- the row is put in where none conflicts, and else the query's rows are put in place of the one that does
+  -- the row is inserted if none conflicts, and otherwise the query's rows replace the one that does
   abbrev pub Upserted : Row → Trees → Type 0
   Upserted new next = (AreConflicts target schema.indexes (uncounted table) (db.trees table.tree) new []
       × Applies schema Enforced db.trees (edit_of db.trees (uncounted table) [] Given 0 (new ∷ [])) next)
@@ -100,7 +100,7 @@ module _ (limit : Option ℕ) (db after : Database) (tally : Tally) (schema : Sc
       let new = with_rowid Chosen (db.trees table.tree) (cast_row (uncounted table) source) in
       (subst (Upserted new) (sym all) (tries new each.0 each.1), ap (λ (d : Database). d.schema) now)
 
--- ---- what stops it
+-- ---- why it stops
 
 module _ (db : Database) (schema : Schema) (has : db.schema ≡ schema) (at : ℕ) (table : Table)
     (found : slice_get schema.tables at ≡ Some (uncounted table)) (params : Row) (text : List ℕ)
@@ -122,8 +122,8 @@ module _ (db : Database) (schema : Schema) (has : db.schema ≡ schema) (at : �
   abbrev given : Row → Row
   given there = params ++ rowid there ∷ shown (uncounted table) new
 
-  -- The row's number is out of range, or the row is no row of the table; or none conflicts and it is not put in; or one does
-  -- and the query's rows are not put in its place.
+  -- The row's number is out of range, or a rule of the table refuses the row; or none conflicts and it can't be
+  -- inserted; or one does and the query's rows can't replace it.
   abbrev pub IsUnmet : Type 0
   IsUnmet = (fits_i64 (id_in (rowid new)) ≡ false) ⊎ (((why : Refusal) × IsJudged (uncounted table) new (Some why))
       ⊎ ((AreConflicts target schema.indexes (uncounted table) (db.trees table.tree) new [] × IsHalted schema db.trees (addition))

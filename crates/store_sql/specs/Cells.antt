@@ -20,7 +20,7 @@ office_cells o =
     ∷ Int (pos o.last)
     ∷ Int (pos o.next) ∷ Int (pos o.version) ∷ Int (pos o.date) ∷ []
 
--- the counters, as the statement that moves them takes them
+-- the counters, as parameters of the statement that updates them
 abbrev pub counter_cells : Counters → Row
 counter_cells k = Int (pos k.next) ∷ Int (pos k.version) ∷ Int (pos k.date) ∷ []
 
@@ -39,7 +39,7 @@ request_cells r = Text r.caller ∷ Text r.key ∷ Blob r.message ∷ Text r.rep
 abbrev pub run_cells : RunRow → Row
 run_cells r = Int (pos r.lo) ∷ Int (pos r.hi) ∷ []
 
--- a revoked key id
+-- a revoked key ID
 abbrev pub key_id_cells : List ℕ → Row
 key_id_cells key_id = Text key_id ∷ []
 

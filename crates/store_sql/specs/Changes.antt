@@ -1,4 +1,4 @@
--- What each write makes of the contents.
+-- The effect of each write on the contents.
 use Rattle.std.specs.Prelude.{ℕ, Bool, not, cond, ◌&&◌, ◌==◌, nat_le, List, ◌∷◌, map, filter, Some, bytes_eq}
 use Rattle.store_sql.specs.declared.offices.OfficeRow.{OfficeRow}
 use Rattle.store_sql.specs.declared.offices.Counters.{Counters}
@@ -37,7 +37,7 @@ has_name name d = bytes_eq d.name name
 abbrev pub departments_named : List ℕ → Contents → List DepartmentRow
 departments_named name c = filter (has_name name) c.departments
 
--- it is put in, in place of the one of its name
+-- it is inserted, or replaces the one with its name
 abbrev pub with_department : DepartmentRow → Contents → Contents
 with_department d c = record c { departments = d ∷ filter (λ e. not (has_name d.name e)) c.departments }
 
@@ -49,7 +49,7 @@ has_serial serial c = c.serial == serial
 abbrev pub certs_numbered : ℕ → Contents → List CertRow
 certs_numbered serial c = filter (has_serial serial) c.certs
 
--- its serial is from the one to the other
+-- its serial is between the two, both included
 abbrev pub is_cert_within : (lo hi : ℕ) → CertRow → Bool
 is_cert_within lo hi c = nat_le lo c.serial && nat_le c.serial hi
 
@@ -82,7 +82,7 @@ with_request r c = record c { requests = r ∷ c.requests }
 abbrev pub with_run : RunRow → Contents → Contents
 with_run r c = record c { runs = r ∷ c.runs }
 
--- ---- revoked key ids
+-- ---- revoked key IDs
 
 abbrev pub is_key_id : List ℕ → List ℕ → Bool
 is_key_id key_id k = bytes_eq k key_id

@@ -1,4 +1,4 @@
--- What the tables hold: the structs of each table's rows, in no order.
+-- The contents of the tables: the structs of each table's rows, in no order.
 use Rattle.std.specs.Prelude.{◌≡◌, ◌≤◌, ℕ, pos, List, [], ◌∷◌, length, map, slice_get, IsPermutation, Some}
 use Rattle.std.specs.List.{AllByRecursion}
 use Rattle.sqlite.specs.Order.{Row, column}
@@ -24,14 +24,14 @@ pub record Contents : Type 0 where
   pub certs : List CertRow
   pub requests : List RequestRow
   pub runs : List RunRow
-  -- the revoked key ids
+  -- the revoked key IDs
   pub revoked : List (List ℕ)
   pub cas : List CaRow
 
 abbrev pub no_contents : Contents
 no_contents = record { offices = []; departments = []; certs = []; requests = []; runs = []; revoked = []; cas = [] }
 
--- the values of a row at these places, where 0 is the rowid and i + 1 is column i
+-- the values of a row at these places: place 0 is the rowid, and place i + 1 is column i
 abbrev pub at_places : List ℕ → Row → Row
 at_places places row = map (column row) places
 
@@ -40,7 +40,7 @@ pub record Lists {X : Type 0} (cells : X → Row) (places : List ℕ) (rows : Li
   pub same : IsPermutation (map cells xs) (map (at_places places) rows)
   pub apart : IsTable rows
 
--- where the columns of each table are; an INTEGER PRIMARY KEY is the rowid
+-- the places of each table's columns; an INTEGER PRIMARY KEY is the rowid
 abbrev pub office_places : List ℕ
 office_places = 0 ∷ 2 ∷ 3 ∷ 4 ∷ 5 ∷ 6 ∷ 7 ∷ 8 ∷ 9 ∷ 10 ∷ []
 
@@ -62,11 +62,11 @@ key_id_places = 1 ∷ []
 abbrev pub ca_places : List ℕ
 ca_places = 0 ∷ 2 ∷ 3 ∷ []
 
--- a number up to this one
+-- a number up to this limit
 abbrev pub IsNumber : ℕ → Value → Type 0
 IsNumber most v = (n : ℕ) × (v ≡ Int (pos n)) × (n ≤ most)
 
--- where the rowid is no column: it is at most as high as there are rows
+-- for tables whose rowid is no column: a rowid is at most the number of rows
 abbrev pub AreNumbered : List Row → Type 0
 AreNumbered rows = AllByRecursion (λ r. IsNumber (length rows) (rowid r)) rows
 
@@ -83,23 +83,23 @@ pub record Holds (trees : Trees) (c : Contents) : Type 0 where
   pub revoked_numbered : AreNumbered (trees 7)
   pub cas : Lists ca_cells ca_places (trees 9) c.cas
 
--- what is enough to find the contents again after an open
+-- everything that is needed to find the contents again after the database is opened
 pub record Kept (trees : Trees) (c : Contents) : Type 0 where
   pub sound : IsSound whole trees
   pub holds : Holds trees c
 
--- the database has just the office's tables, and they hold these contents
+-- the database has exactly the office's tables, and they hold these contents
 pub record Means (db : Database) (c : Contents) : Type 0 where
   pub schema : db.schema ≡ whole
   pub kept : Kept db.trees c
 
--- the same of the tables of schema 1, which have no table of CAs
+-- the same for the tables of schema 1, which have no table of CAs
 pub record MeansWithoutCa (db : Database) (c : Contents) : Type 0 where
   pub schema : db.schema ≡ without_ca
   pub sound : IsSound without_ca db.trees
   pub holds : Holds (with_tree db.trees 9 []) c
 
--- The first table is that of the office, and it holds these rows, whatever other tables there are.
+-- The first table is the `office` table, and it holds these rows, whatever other tables there are.
 pub record HasOffices (rows : List OfficeRow) (db : Database) : Type 0 where
   pub first : slice_get db.schema.tables 0 ≡ Some office_at
   pub holds : Lists office_cells office_places (db.trees 0) rows

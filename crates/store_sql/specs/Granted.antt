@@ -2,6 +2,6 @@
 use Rattle.std.specs.Prelude.{◌≡◌, false}
 use Rattle.store_sql.specs.declared.memory.Memory.{Memory}
 
--- where none was refused up to the later moment, none was up to the earlier one, and this holds
+-- if none was refused by the later time, none was by the earlier one, and this holds
 abbrev pub IfGranted : Memory → Memory → Type 0 → Type 0
 IfGranted earlier later P = later.is_refused ≡ false → (earlier.is_refused ≡ false) × P

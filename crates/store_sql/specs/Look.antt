@@ -1,36 +1,36 @@
--- What a look at the schema tells.
+-- Tests of the schema.
 use Rattle.std.specs.Prelude.{◌≡◌, refl, true, false, ℕ, Bool, ◌&&◌, ◌||◌, ◌==◌, List, [], ◌∷◌, codes, length, bytes_eq}
 use Rattle.std.specs.List.{list_all, list_any, zip}
 use Rattle.sqlite_schema.specs.Names.{same_name}
 use Rattle.sqlite.specs.Table.{Table}
 use Rattle.store_sql.specs.Schema.{office_at, whole, without_ca, no_schema}
 
--- whether a table has the name of one of the office's, in any case
+-- whether a table has the name of one of the office's, ignoring case
 abbrev pub is_office_name : Table → Bool
 is_office_name t =
     same_name t.name (codes "office") || (same_name t.name (codes "department") || (same_name t.name (codes "cert")
     || (same_name t.name (codes "request") || (same_name t.name (codes "run")
     || (same_name t.name (codes "revoked_keyid") || same_name t.name (codes "ca"))))))
 
--- the columns of the table of the office
+-- the columns of the `office` table
 abbrev pub office_columns : List (List ℕ)
 office_columns =
     codes "id" ∷ codes "schema" ∷ codes "ca" ∷ codes "root" ∷ codes "station" ∷ codes "first" ∷ codes "last"
     ∷ codes "next" ∷ codes "version" ∷ codes "date" ∷ []
 
--- whether a table has just the columns of that of the office, by their names
+-- whether a table has exactly the columns of the `office` table, by name
 abbrev pub has_columns : Table → Bool
 has_columns t = (length t.columns == 10) && list_all (λ p. bytes_eq p.0.name p.1) (zip t.columns office_columns)
 
--- whether a table is that of the office, by its name and the names of its columns
+-- whether a table is the `office` table, by its name and the names of its columns
 abbrev pub is_office_table : Table → Bool
 is_office_table t = same_name t.name (codes "office") && has_columns t
 
--- whether a table has the name of that of the CAs, in any case
+-- whether a table has the name of the table of CAs, ignoring case
 abbrev pub is_ca_name : Table → Bool
 is_ca_name t = same_name t.name (codes "ca")
 
--- an office is seen where its table is the first
+-- an office is recognized if its table is the first
 pub first_is_office : (others : List Table) → list_any is_office_table (office_at ∷ others) ≡ true
 unfolding same_name
 first_is_office others = refl
@@ -39,11 +39,11 @@ pub whole_has_tables : list_any is_office_name whole.tables ≡ true
 unfolding same_name
 whole_has_tables = refl
 
--- a database with no table is none
+-- a database without tables isn't recognized as an office
 pub none_is_office : list_any is_office_table no_schema.tables ≡ false
 none_is_office = refl
 
--- an office of schema 1 is seen, and its table of CAs is missed
+-- an office of schema 1 is recognized, and so is the absence of its table of CAs
 pub former_is_office : list_any is_office_table without_ca.tables ≡ true
 unfolding same_name
 former_is_office = refl

@@ -1,4 +1,4 @@
--- The tables by their names, in the order in which they are made.
+-- The tables by name, in the order in which they are created.
 use Rattle.std.specs.Prelude.{ℕ, List, [], ◌∷◌}
 use Rattle.sqlite.specs.Table.{Table}
 use Rattle.sqlite.specs.Schema.{Schema}
@@ -9,7 +9,7 @@ use Rattle.store_sql.specs.declared.sql.TheConstants.{CREATE_RUN, CREATE_REVOKED
 use Rattle.store_sql.specs.Schema.{no_schema, through_office, through_department, through_cert, through_request}
 use Rattle.store_sql.specs.Schema.{through_run, without_ca, office, department, cert, request, run, revoked_keyid, ca}
 
--- the table of this name, as its CREATE text defines it
+-- the table with this name, as its CREATE text defines it
 abbrev pub made : TableName → Table
 made name.Office = office
 made name.Department = department
@@ -19,7 +19,7 @@ made name.Run = run
 made name.RevokedKeyId = revoked_keyid
 made name.Ca = ca
 
--- the schema that it comes to: that of the tables before it
+-- the schema in which it is created: that of the tables before it
 abbrev pub before : TableName → Schema
 before name.Office = no_schema
 before name.Department = through_office
@@ -39,6 +39,6 @@ text_of name.Run = CREATE_RUN.now
 text_of name.RevokedKeyId = CREATE_REVOKED.now
 text_of name.Ca = CREATE_CA.now
 
--- all of them, in the order in which they are made
+-- all of them, in the order in which they are created
 abbrev pub in_order : List TableName
 in_order = name.Office ∷ name.Department ∷ name.Cert ∷ name.Request ∷ name.Run ∷ name.RevokedKeyId ∷ name.Ca ∷ []

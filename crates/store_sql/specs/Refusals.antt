@@ -1,4 +1,4 @@
--- When the tables refuse what is to be written.
+-- When the tables refuse a write.
 use Rattle.std.specs.Prelude.{◌≡◌, ◌⊎◌, ◌<◌, ◌≤◌, ◌+◌, ◌^◌, ℕ, List, length, sum_by, IfErr, Result}
 use Rattle.sqlite.specs.Order.{Row}
 use Rattle.sqlite.specs.State.{State}
@@ -18,22 +18,22 @@ use Rattle.store_sql.specs.Changes.{counted, renumbered, signed}
 use Rattle.store_sql.specs.Contents.{Contents, Means}
 use Rattle.store_sql.specs.Faults.{HasFailed}
 
--- ---- what a table can't hold
+-- ---- limits of a table
 
--- A row of these values is over a billion bytes, where each counts 18 more than its text or bytes, and so does the
--- number of the row.
+-- A row of these values is over a billion bytes long; each value counts as its text or bytes and 18 more, and the row
+-- number counts as 18.
 abbrev pub IsTooLong : Row → Type 0
 IsTooLong values = 10 ^ 9 < 18 + sum_by (λ v. 18 + length (bytes v)) values
 
--- there are as many rows as there are numbers for them
+-- no row number is left for one more row
 abbrev pub IsFull : {X : Type 0} → List X → Type 0
 IsFull xs = 2 ^ 63 ≤ length xs + 1
 
--- one of these is such that this holds of it
+-- `P` holds of one of these
 abbrev pub HasOne : {X : Type 0} → (X → Type 0) → List X → Type 0
 HasOne {X} P xs = (x : X) × Has xs x × P x
 
--- ---- beside these contents
+-- ---- given these contents
 
 -- its number is taken, or it is too long
 abbrev pub RefusesOffice : OfficeRow → Contents → Type 0
@@ -49,25 +49,25 @@ RefusesCert cert c =
     HasOne (λ d. d.serial ≡ cert.serial) c.certs
     ⊎ ((HasOne (λ d. d.name ≡ cert.department) c.departments → ⊥) ⊎ IsTooLong (cert_cells cert))
 
--- the certificate of this serial is too long with the signature
+-- the certificate with this serial is too long with the signature
 abbrev pub RefusesSignature : (serial : ℕ) → (signature : List ℕ) → Contents → Type 0
 RefusesSignature serial signature c =
     HasOne (λ d. (d.serial ≡ serial) × IsTooLong (cert_cells (signed signature d))) c.certs
 
--- its caller has used its key, or it is too long, or there is no room for one more
+-- its caller has used its request ID, or it is too long, or there is no room for one more
 abbrev pub RefusesRequest : RequestRow → Contents → Type 0
 RefusesRequest r c =
     HasOne (λ k. (k.caller ≡ r.caller) × (k.key ≡ r.key)) c.requests ⊎ (IsTooLong (request_cells r) ⊎ IsFull c.requests)
 
--- its first serial is that of another
+-- another run has its first serial
 abbrev pub RefusesRun : RunRow → Contents → Type 0
 RefusesRun r c = HasOne (λ k. k.lo ≡ r.lo) c.runs
 
--- it is there, or it is too long, or there is no room for one more
+-- it is there already, or it is too long, or there is no room for one more
 abbrev pub RefusesKeyId : List ℕ → Contents → Type 0
 RefusesKeyId key_id c = HasOne (λ k. k ≡ key_id) c.revoked ⊎ (IsTooLong (key_id_cells key_id) ⊎ IsFull c.revoked)
 
--- the office is too long with these counters
+-- the office's row is too long with these counters
 abbrev pub RefusesCounters : Counters → Contents → Type 0
 RefusesCounters k c = HasOne (λ o. (o.id ≡ 1) × IsTooLong (office_cells (counted k o))) c.offices
 
@@ -75,18 +75,18 @@ RefusesCounters k c = HasOne (λ o. (o.id ≡ 1) × IsTooLong (office_cells (cou
 abbrev pub RefusesCa : CaRow → Contents → Type 0
 RefusesCa a c = HasOne (λ d. (d.number ≡ a.number) ⊎ (d.ca ≡ a.ca)) c.cas ⊎ IsTooLong (ca_cells a)
 
--- the office is too long with this number of its schema
+-- the office's row is too long with this schema number
 abbrev pub RefusesNumber : ℕ → Contents → Type 0
 RefusesNumber n c = HasOne (λ o. (o.id ≡ 1) × IsTooLong (office_cells (renumbered n o))) c.offices
 
 -- ---- causes
 
--- a fault is want of memory, or a failure of the database, or this refusal
+-- a fault is lack of memory, or a failure of the database, or this refusal
 abbrev pub HasCauseOr : Type 0 → State → State → Fault → Type 0
 HasCauseOr refused old new NoMemory = Unit {0}
 HasCauseOr refused old new Device = HasFailed old new ⊎ refused
 HasCauseOr refused old new Damaged = ⊥
 
--- on tables that mean something a fault is want of memory, or a failure of the database, or what these contents refuse
+-- on tables with contents, a fault is lack of memory, or a failure of the database, or a refusal by these contents
 abbrev pub RefusedFor : {X : Type 0} → (Contents → Type 0) → State → State → Result X Fault → Type 0
 RefusedFor Refuses old new r = IfErr r (λ f. (c : Contents) → Means old.now c → HasCauseOr (Refuses c) old new f)

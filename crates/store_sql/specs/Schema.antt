@@ -102,7 +102,7 @@ ca = record (by_number (codes "ca") (
 abbrev pub no_schema : Schema
 no_schema = record { tables = []; indexes = []; views = [] }
 
--- the schema as each table is created
+-- the schema after each table is created
 abbrev pub through_office : Schema
 through_office = created no_schema office
 
@@ -126,7 +126,7 @@ without_ca = created through_run revoked_keyid
 abbrev pub whole : Schema
 whole = created without_ca ca
 
--- the tables at their trees; an index has the tree after its table's
+-- the tables with their trees; an index has the tree after its table's
 abbrev pub office_at : Table
 office_at = record office { tree = 0 }
 

@@ -21,11 +21,11 @@ use text::Text;
 /// A CA.
 #[derive(Drop)]
 pub struct CaRow {
-    /// From 1 on.
+    /// Its number, from 1 on.
     pub number: Number,
     /// Its key blob, 51 bytes.
     pub ca: Text,
-    /// The serial that it serves first.
+    /// The first serial for which it serves.
     pub since: Number,
 }
 
@@ -70,14 +70,14 @@ impl Columns for CaRow {
     }
 }
 
-/// Keeps a CA. `Device` also where its number or its key blob is taken, or the row is too long.
+/// Inserts a CA. `Device` also if its number or its key blob is taken, or the row is too long.
 pub fn insert_ca<S: Alter>(conn: &mut Connection<S>, ca: &CaRow) -> Result<(), Fault>
     ensures { Writes S.Store (with_ca ca.now) (RefusesCa ca.now) conn.old conn.new result }
 {
     done(conn.execute(INSERT_CA, &ca.values()))
 }
 
-/// Each CA, by number. `Damaged` where a row has another form.
+/// Each CA, by number. `Damaged` if a row has another form.
 pub fn every_ca<S: Alter>(alloc: Global, conn: &mut Connection<S>) -> Result<Vec<CaRow>, Fault>
     ensures { ReadsSorted S.Store (λ c. c.cas) (λ a. a.number) nat_cmp conn.old conn.new result }
 {

@@ -27,7 +27,7 @@ pub struct CertRow {
     /// The name of its department.
     pub department: Text,
     pub key_id: Text,
-    /// All that is signed.
+    /// The unsigned certificate: all bytes that are signed.
     pub body: Text,
     /// 64 bytes, once it is signed.
     pub signature: Option<Text>,
@@ -88,14 +88,14 @@ impl Columns for CertRow {
     }
 }
 
-/// Keeps a certificate. `Device` also where its serial is taken, its department is missing, or the row is too long.
+/// Inserts a certificate. `Device` also if its serial is taken, its department is missing, or the row is too long.
 pub fn insert_cert<S: Alter>(conn: &mut Connection<S>, cert: &CertRow) -> Result<(), Fault>
     ensures { Writes S.Store (with_cert cert.now) (RefusesCert cert.now) conn.old conn.new result }
 {
     done(conn.execute(INSERT_CERT, &cert.values()))
 }
 
-/// The certificate of this serial, if it is there. `Damaged` where its row has another form.
+/// The certificate with this serial, if there is one. `Damaged` if its row has another form.
 pub fn find_cert<S: Alter>(
     alloc: Global,
     conn: &mut Connection<S>,
@@ -106,8 +106,8 @@ pub fn find_cert<S: Alter>(
     found_first(alloc, conn.query_all(FIND_CERT, &[serial.value()]))
 }
 
-/// The certificates whose serials lie between these two, both included, by serial. `Damaged` where a row of one has
-/// another form. It reads those rows alone.
+/// The certificates with serials from `lo` to `hi`, both included, by serial. `Damaged` if one of their rows has
+/// another form. It reads only those rows.
 pub fn certs_within<S: Alter>(
     alloc: Global,
     conn: &mut Connection<S>,
@@ -122,7 +122,7 @@ pub fn certs_within<S: Alter>(
     )
 }
 
-/// Keeps the signature of the certificate of this serial, if it is there. `Device` also where its row is then too long.
+/// Sets the signature of the certificate with this serial, if there is one. `Device` also if its row then is too long.
 pub fn update_signature<S: Alter>(
     conn: &mut Connection<S>,
     serial: Number,

@@ -1,4 +1,4 @@
-//! Rows as structs of their columns.
+//! Conversion of rows to structs of their columns.
 
 ghost use Rattle.std.specs.Prelude.{◌≡◌, ◌≢◌, List, Bool, true, false, map, IfOk, IfErr};
 ghost use Rattle.sqlite_value.specs.Order.{Row as SqlRow};
@@ -10,12 +10,12 @@ use crate::table_fault::Fault;
 use sqlite::{Error, Row};
 use std::alloc::Global;
 
-/// A struct of the columns of a row.
+/// A struct of a row's columns.
 pub(crate) trait Columns: Sized + Drop {
-    /// The row that it is.
+    /// The row that it represents.
     ghost cells: { Self → SqlRow };
 
-    /// Whether a row is one of these.
+    /// Whether a row represents such a struct.
     ghost is_row: { SqlRow → Bool };
 
     fn is_row(row: &Row) -> bool
@@ -27,7 +27,7 @@ pub(crate) trait Columns: Sized + Drop {
     ghost fits: { (x : Self) → is_row (cells x) ≡ true };
 }
 
-/// The columns of one row.
+/// The struct of one row.
 pub(crate) fn read<T: Columns>(alloc: Global, row: &Row) -> Result<T, Fault>
     ensures ok { IfOk result (λ x. row.now ≡ T.cells x) }
     ensures err { IfErr result (Misread ((x : T) → row.now ≢ T.cells x)) }
@@ -43,7 +43,7 @@ pub(crate) fn read<T: Columns>(alloc: Global, row: &Row) -> Result<T, Fault>
     Ok(columns)
 }
 
-/// The columns of each row.
+/// The structs of all rows.
 pub(crate) fn read_all<T: Columns>(alloc: Global, rows: &[Row]) -> Result<Vec<T>, Fault>
     ensures ok { IfOk result (λ all. rows.now ≡ map T.cells all.items) }
     ensures err { IfErr result (Misread ((all : List T) → rows.now ≢ map T.cells all)) }
@@ -65,7 +65,7 @@ pub(crate) fn read_all<T: Columns>(alloc: Global, rows: &[Row]) -> Result<Vec<T>
     Ok(all)
 }
 
-/// The columns of the first row, if there is one.
+/// The struct of the first row, if there is one.
 pub(crate) fn read_first<T: Columns>(alloc: Global, rows: &[Row]) -> Result<Option<T>, Fault>
     ensures ok { IfOk result (IsFirst T.cells rows.now) }
     ensures err { IfErr result (Misread ((all : List T) → rows.now ≢ map T.cells all)) }
@@ -76,7 +76,7 @@ pub(crate) fn read_first<T: Columns>(alloc: Global, rows: &[Row]) -> Result<Opti
     }
 }
 
-/// What a query finds, as structs.
+/// The result of a query, as structs.
 pub(crate) fn found<T: Columns>(
     alloc: Global,
     answer: Result<Vec<Row>, Error>,
@@ -89,7 +89,7 @@ pub(crate) fn found<T: Columns>(
     }
 }
 
-/// The first of what a query finds, as a struct.
+/// The first row of a query's result, as a struct.
 pub(crate) fn found_first<T: Columns>(
     alloc: Global,
     answer: Result<Vec<Row>, Error>,

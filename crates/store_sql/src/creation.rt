@@ -1,4 +1,4 @@
-//! The tables themselves.
+//! Creation of the tables.
 
 ghost use Rattle.std.specs.Prelude.{◌≡◌, IfErr, Ok};
 ghost use Rattle.sqlite.specs.Compile.{table_defined_by};
@@ -15,7 +15,7 @@ use crate::sql::{
 use crate::table_fault::{Fault, done};
 use sqlite::{Alter, Connection};
 
-/// A table of the office, by its name.
+/// The name of one of the office's tables.
 #[derive(Clone, Copy)]
 enum TableName {
     Office,
@@ -28,7 +28,7 @@ enum TableName {
 }
 
 impl TableName {
-    /// The statement that makes the table.
+    /// The statement that creates the table.
     fn create(self) -> &'static str
         ensures text { result.now ≡ text_of self }
         ensures defines { table_defined_by result.now ≡ Ok (made self) }
@@ -45,7 +45,7 @@ impl TableName {
     }
 }
 
-/// Makes this table, where those that come before it are there.
+/// Creates this table, if the tables before it exist.
 fn create<S: Alter>(conn: &mut Connection<S>, name: TableName) -> Result<(), Fault>
     ensures creates { On S.Store (Creates (before name) (made name)) conn.old conn.new result }
     ensures fault { On S.Store (FailsWhere (λ s. s.now.schema ≡ before name)) conn.old conn.new result }
@@ -56,7 +56,7 @@ fn create<S: Alter>(conn: &mut Connection<S>, name: TableName) -> Result<(), Fau
     done(conn.execute(name.create(), &[]))
 }
 
-/// Makes the table of CAs beside the other tables, whose rows stay.
+/// Adds the table of CAs to the other tables, whose rows stay.
 pub fn create_ca<S: Alter>(conn: &mut Connection<S>) -> Result<(), Fault>
     ensures creates { On S.Store (Creates without_ca ca) conn.old conn.new result }
     ensures adds { On S.Store AddsCa conn.old conn.new result }
@@ -68,7 +68,7 @@ pub fn create_ca<S: Alter>(conn: &mut Connection<S>) -> Result<(), Fault>
     create(conn, TableName::Ca)
 }
 
-/// Makes all tables of the office in a database that has none. Where that fails in a transaction, nothing of it is
+/// Creates all tables of the office in a database that has none. If that fails in a transaction, nothing of it is
 /// committed.
 pub fn create_tables<S: Alter>(conn: &mut Connection<S>) -> Result<(), Fault>
     ensures completes { On S.Store (Completes no_schema) conn.old conn.new result }

@@ -23,7 +23,7 @@ use text::Text;
 /// A department. Lists are texts joined by commas, in the order given.
 #[derive(Drop)]
 pub struct DepartmentRow {
-    /// Its key.
+    /// Its name, the primary key.
     pub name: Text,
     /// 1 for users, 2 for hosts.
     pub kind: Number,
@@ -31,7 +31,7 @@ pub struct DepartmentRow {
     pub rules: Text,
     pub options: Text,
     pub extensions: Text,
-    /// The longest life of a certificate, in seconds.
+    /// The longest lifetime of a certificate, in seconds.
     pub max_life: Number,
     pub namespaces: Text,
 }
@@ -97,8 +97,8 @@ impl Columns for DepartmentRow {
     }
 }
 
-/// Puts a department, in place of the one of its name if there is one. `Device` also where the row is too long, or
-/// there are as many rows as numbers for them.
+/// Inserts a department, or replaces the one with its name. `Device` also if the row is too long, or no row number is
+/// left.
 pub fn put_department<S: Alter>(
     conn: &mut Connection<S>,
     department: &DepartmentRow,
@@ -108,7 +108,7 @@ pub fn put_department<S: Alter>(
     done(conn.execute(PUT_DEPARTMENT, &department.values()))
 }
 
-/// The department of this name, if it is there. `Damaged` where its row has another form.
+/// The department with this name, if there is one. `Damaged` if its row has another form.
 pub fn find_department<S: Alter>(
     alloc: Global,
     conn: &mut Connection<S>,
@@ -122,7 +122,7 @@ pub fn find_department<S: Alter>(
     )
 }
 
-/// Each department, in byte order of the names. `Damaged` where a row has another form.
+/// Each department, in byte order of the names. `Damaged` if a row has another form.
 pub fn every_department<S: Alter>(
     alloc: Global,
     conn: &mut Connection<S>,

@@ -1,4 +1,4 @@
-//! What a column may hold, and single columns of a row.
+//! The kinds of columns, and single columns of a row.
 
 ghost use Rattle.std.specs.Prelude.{◌≡◌};
 ghost use Rattle.std.specs.List.{list_all, enumerate_from};
@@ -15,7 +15,7 @@ use sqlite::Row;
 use sqlite::types::ValueRef;
 use text::Text;
 
-/// What a column may hold.
+/// The values that a column may hold.
 #[derive(Clone, Copy)]
 pub(crate) enum Kind {
     Number,
@@ -47,14 +47,14 @@ fn are_held(kinds: &[Kind], columns: &Row) -> bool
     true
 }
 
-/// Whether the row has just these columns, each holding what it may.
+/// Whether the row has exactly these columns, each with a value of its kind.
 pub(crate) fn is_row_of(row: &Row, kinds: &[Kind]) -> bool
     ensures { result ≡ has_kinds kinds.now row.now }
 {
     row.column_count() == kinds.len() && are_held(kinds, row)
 }
 
-/// The text in a column, or no byte where there is none.
+/// The text in a column, or an empty one if there is none.
 pub(crate) fn text_at(memory: &mut Memory, row: &Row, at: usize) -> Text
     ensures { IfGranted memory.old memory.new (result ≡ text_in (column row.now at)) }
 {
@@ -64,7 +64,7 @@ pub(crate) fn text_at(memory: &mut Memory, row: &Row, at: usize) -> Text
     }
 }
 
-/// The bytes in a column, or no byte where there are none.
+/// The bytes in a column, or none if it has no bytes.
 pub(crate) fn blob_at(memory: &mut Memory, row: &Row, at: usize) -> Text
     ensures { IfGranted memory.old memory.new (result ≡ blob_in (column row.now at)) }
 {
@@ -84,7 +84,7 @@ pub(crate) fn optional_blob_at(memory: &mut Memory, row: &Row, at: usize) -> Opt
     }
 }
 
-/// The number in a column, or 0 where there is none.
+/// The number in a column, or 0 if there is none.
 pub(crate) fn number_at(row: &Row, at: usize) -> Number
     ensures { result ≡ number_in (column row.now at) }
 {
@@ -94,7 +94,7 @@ pub(crate) fn number_at(row: &Row, at: usize) -> Number
     }
 }
 
-/// The bytes as a value of SQL, NULL where there are none.
+/// The bytes as a value of SQL, NULL if there are none.
 pub(crate) fn optional_blob(blob: &Option<Text>) -> ValueRef<'_>
     ensures { owned result ≡ or_null Blob blob.now }
 {

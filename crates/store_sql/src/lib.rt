@@ -1,12 +1,12 @@
 //! The tables of the office, and one function for each SQL text.
 //!
-//! Rows go in and come out as structs of their columns, and a contract says what each call makes of the structs that
-//! the tables hold: all of it, or nothing, outside and inside of a transaction. What is found is what the tables hold,
-//! and a fault has its cause. Only this crate names SQL, and the layers above see the structs alone.
+//! Rows are written and read as structs of their columns, and a contract says how each call changes the structs that
+//! the tables hold: entirely or not at all, inside and outside a transaction. The structs that are read are those that
+//! the tables hold, and a fault has its cause. Only this crate contains SQL, and the crates above use only the structs.
 //!
-//! A call that fails answers `NoMemory` where a growth was refused, `Device` where the database failed or was shut, and
-//! beside these what its own comment says. The rows are then as they were, or the transaction that was open is undone.
-//! A row is too long where it takes more than a billion bytes.
+//! A call that fails answers `NoMemory` if an allocation was refused, and `Device` if the database failed or was
+//! closed; its own comment adds further causes. The rows are then as they were, or the transaction that was open is
+//! rolled back. A row is too long if it takes more than a billion bytes.
 #![tactic(auto)]
 
 mod cas;

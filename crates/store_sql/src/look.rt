@@ -1,4 +1,4 @@
-//! A look at the schema, before anything is asked of the tables.
+//! Looking at the schema, before any query of the tables.
 
 ghost use Rattle.std.specs.Prelude.{◌≡◌, length};
 ghost use Rattle.std.specs.Str.{bytes_eq};
@@ -23,7 +23,7 @@ fn has_office_name(table: &Table) -> bool
         || same_name(name, b"ca")
 }
 
-/// Whether the database has a table of the name of one of the office's.
+/// Whether the database has a table with the name of one of the office's.
 pub fn has_any_table<S: Alter>(conn: &Connection<S>) -> bool
     ensures { result ≡ list_any is_office_name (tables_of S.Store conn.now) }
 {
@@ -60,7 +60,7 @@ fn is_office(table: &Table) -> bool
     same_name(table.name.as_slice(), b"office") && has_office_columns(table)
 }
 
-/// Whether the database has the table of the office, with its columns.
+/// Whether the database has the `office` table, with its columns.
 pub fn has_office<S: Alter>(conn: &Connection<S>) -> bool
     ensures { result ≡ list_any is_office_table (tables_of S.Store conn.now) }
 {
@@ -73,7 +73,7 @@ fn has_ca_name(table: &Table) -> bool
     same_name(table.name.as_slice(), b"ca")
 }
 
-/// Whether the database has a table of the name of that of the CAs.
+/// Whether the database has a table with the name of the table of CAs.
 pub fn has_ca_table<S: Alter>(conn: &Connection<S>) -> bool
     ensures { result ≡ list_any is_ca_name (tables_of S.Store conn.now) }
 {

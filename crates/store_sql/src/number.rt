@@ -1,4 +1,4 @@
-//! Numbers that a column of integers holds.
+//! Numbers that an INTEGER column holds.
 
 ghost use Rattle.std.specs.Prelude.{◌≡◌, ◌<◌, ◌^◌, ◌↔◌, IsSome, IfSome, pos};
 ghost use Rattle.sqlite_value.specs.Value.{owned};
@@ -7,7 +7,7 @@ ghost use Rattle.sqlite.specs.declared.types.Value.TheVariants.{Int};
 use sqlite::types::ValueRef;
 use std::marker::Model;
 
-/// A number below 2^63, which an INTEGER column holds as it is. Contracts see it as that number.
+/// A number below 2^63, which an INTEGER column can hold. Contracts see it as that number.
 #[derive(Clone, Copy)]
 pub struct Number {
     value: u64,
@@ -31,7 +31,7 @@ impl Number {
     /// The number 0.
     pub const ZERO: Number = Number { value: 0 };
 
-    /// The number, or `None` where it is 2^63 or more.
+    /// The number, or `None` if it is 2^63 or more.
     pub fn new(value: u64) -> Option<Number>
         ensures fits { IsSome result ↔ (value < 2 ^ 63) }
         ensures value { IfSome result (λ n. n ≡ value) }
@@ -43,7 +43,7 @@ impl Number {
         }
     }
 
-    /// The number that a signed one is, or 0 where it is negative.
+    /// A signed number as an unsigned one, or 0 if it is negative.
     pub(crate) fn from_signed(value: i64) -> Number
         ensures { result ≡ number_in (Int value) }
     {

@@ -1,4 +1,4 @@
-//! The table of the office.
+//! The `office` table.
 
 ghost use Rattle.std.specs.Prelude.{◌≡◌, ◌∷◌, []};
 ghost use Rattle.std.specs.Ordering.{nat_cmp};
@@ -20,16 +20,16 @@ use sqlite::{Alter, Connection, Row};
 use std::alloc::Global;
 use text::Text;
 
-/// The one row of the office.
+/// The one row of an office.
 #[derive(Drop)]
 pub struct OfficeRow {
-    /// 1 in an office.
+    /// 1 in every office.
     pub id: Number,
-    /// The number of the schema.
+    /// The schema number.
     pub schema: Number,
     /// The key blob of the first CA, 51 bytes.
     pub ca: Text,
-    /// The name of the caller that may send anything.
+    /// The name of the caller who may send everything but signatures.
     pub root: Text,
     /// The name of the signing station.
     pub station: Text,
@@ -37,22 +37,22 @@ pub struct OfficeRow {
     pub first: Number,
     /// The last serial.
     pub last: Number,
-    /// The serial that is handed out next, at most one above the last.
+    /// The next serial to be issued, at most one above the last.
     pub next: Number,
-    /// The version of the revocation list.
+    /// The version of the KRL.
     pub version: Number,
-    /// The moment of its last change, in seconds since 1970.
+    /// The time of its last change, in seconds since 1970.
     pub date: Number,
 }
 
-/// What moves as the office works.
+/// The numbers that change while the office works.
 #[derive(Clone, Copy)]
 pub struct Counters {
-    /// The serial that is handed out next.
+    /// The next serial to be issued.
     pub next: Number,
-    /// The version of the revocation list.
+    /// The version of the KRL.
     pub version: Number,
-    /// The moment of its last change, in seconds since 1970-01-01 00:00:00 UTC.
+    /// The time of its last change, in seconds since 1970-01-01 00:00:00 UTC.
     pub date: Number,
 }
 
@@ -136,39 +136,38 @@ impl Columns for OfficeRow {
     }
 }
 
-/// Puts the row of an office. `Device` also where its id is taken, or the row is too long.
+/// Inserts the row of an office. `Device` also if its id is taken, or the row is too long.
 pub fn insert_office<S: Alter>(conn: &mut Connection<S>, office: &OfficeRow) -> Result<(), Fault>
     ensures { Writes S.Store (with_office office.now) (RefusesOffice office.now) conn.old conn.new result }
 {
     done(conn.execute(INSERT_OFFICE, &office.values()))
 }
 
-/// Each row of the table of the office, by id. An office has one. `Damaged` where a row has another form.
+/// Each row of the `office` table, by id. An office has only one. `Damaged` if a row has another form.
 pub fn every_office<S: Alter>(
     alloc: Global,
     conn: &mut Connection<S>,
 ) -> Result<Vec<OfficeRow>, Fault>
-    // Of any tables, of which that of the office is the first.
+    // This holds for any tables of which the office's is the first.
     ensures { ReadsSortedIn S.Store HasOffices (λ rows. rows) (λ o. o.id) nat_cmp conn.old conn.new result }
 {
     found(alloc, conn.query_all(EVERY_OFFICE, &[]))
 }
 
-/// The table of the office is the first of the tables of schema 1, and of those of schema 2.
+/// The `office` table is the first of the tables of schema 1, and of those of schema 2.
 pub fn the_office_is_first()
     ensures former { (db : Database) (c : Contents) → MeansWithoutCa db c → HasOffices c.offices db }
     ensures present { (db : Database) (c : Contents) → Means db c → HasOffices c.offices db }
 {}
 
-/// Moves the counters of the office, the row of id 1, if it is there. `Device` also where the row is then too long.
+/// Updates the office's counters, in the row with id 1, if there is one. `Device` also if the row then is too long.
 pub fn update_office<S: Alter>(conn: &mut Connection<S>, counters: &Counters) -> Result<(), Fault>
     ensures { Writes S.Store (with_counters counters.now) (RefusesCounters counters.now) conn.old conn.new result }
 {
     done(conn.execute(COUNT_OFFICE, &counters.values()))
 }
 
-/// Sets the number of the schema in the office, the row of id 1, if it is there. `Device` also where the row is then
-/// too long.
+/// Sets the office's schema number, in the row with id 1, if there is one. `Device` also if the row then is too long.
 pub fn update_schema<S: Alter>(conn: &mut Connection<S>, schema: Number) -> Result<(), Fault>
     ensures { Writes S.Store (with_schema schema) (RefusesNumber schema) conn.old conn.new result }
 {

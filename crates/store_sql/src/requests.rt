@@ -17,11 +17,11 @@ use sqlite::{Alter, Connection, Row};
 use std::alloc::Global;
 use text::Text;
 
-/// A request that was accepted.
+/// An accepted request.
 #[derive(Drop)]
 pub struct RequestRow {
     pub caller: Text,
-    /// The caller's key of the request.
+    /// The caller's request ID.
     pub key: Text,
     pub message: Text,
     pub reply: Text,
@@ -68,15 +68,15 @@ impl Columns for RequestRow {
     }
 }
 
-/// Keeps a request that was accepted. `Device` also where its caller has used its key, the row is too long, or there
-/// are as many rows as numbers for them.
+/// Inserts an accepted request. `Device` also if its caller has used its request ID before, the row is too long, or no
+/// row number is left.
 pub fn insert_request<S: Alter>(conn: &mut Connection<S>, request: &RequestRow) -> Result<(), Fault>
     ensures { Writes S.Store (with_request request.now) (RefusesRequest request.now) conn.old conn.new result }
 {
     done(conn.execute(INSERT_REQUEST, &request.values()))
 }
 
-/// The request of this caller and key, if one is kept. `Damaged` where its row has another form.
+/// The request with this caller and request ID, if it is stored. `Damaged` if its row has another form.
 pub fn find_request<S: Alter>(
     alloc: Global,
     conn: &mut Connection<S>,

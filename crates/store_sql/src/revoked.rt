@@ -1,4 +1,4 @@
-//! The table of revoked key ids.
+//! The table of revoked key IDs.
 
 ghost use Rattle.std.specs.Ordering.{nat_cmp};
 ghost use Rattle.std.specs.Cmp.Lexicographic.{slice_cmp};
@@ -38,15 +38,14 @@ impl Columns for Text {
     }
 }
 
-/// Keeps a revoked key id. `Device` also where it is there, the row is too long, or there are as many rows as numbers
-/// for them.
+/// Inserts a revoked key ID. `Device` also if it is there already, the row is too long, or no row number is left.
 pub fn insert_revoked<S: Alter>(conn: &mut Connection<S>, key_id: &[u8]) -> Result<(), Fault>
     ensures { Writes S.Store (with_revoked key_id.now) (RefusesKeyId key_id.now) conn.old conn.new result }
 {
     done(conn.execute(INSERT_REVOKED, &[ValueRef::Text(key_id)]))
 }
 
-/// The key id, if it is revoked. `Damaged` where its row has another form.
+/// The key ID, if it is revoked. `Damaged` if its row has another form.
 pub fn find_revoked<S: Alter>(
     alloc: Global,
     conn: &mut Connection<S>,
@@ -60,7 +59,7 @@ pub fn find_revoked<S: Alter>(
     )
 }
 
-/// Each revoked key id, in byte order. `Damaged` where a row has another form.
+/// Each revoked key ID, in byte order. `Damaged` if a row has another form.
 pub fn every_revoked<S: Alter>(alloc: Global, conn: &mut Connection<S>) -> Result<Vec<Text>, Fault>
     ensures { ReadsSorted S.Store (λ c. c.revoked) (λ k. k) (slice_cmp nat_cmp) conn.old conn.new result }
 {

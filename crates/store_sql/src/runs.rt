@@ -1,4 +1,4 @@
-//! The table of runs of revoked serials.
+//! The table of runs (maximal ranges) of revoked serials.
 
 ghost use Rattle.std.specs.Prelude.{◌≡◌, ◌∷◌, []};
 ghost use Rattle.std.specs.Ordering.{nat_cmp};
@@ -18,7 +18,7 @@ use sqlite::types::ValueRef;
 use sqlite::{Alter, Connection, Row};
 use std::alloc::Global;
 
-/// A run of revoked serials, both ends included.
+/// A run of revoked serials: a range that can't be made longer. Both ends are included.
 #[derive(Clone, Copy)]
 pub struct RunRow {
     pub lo: Number,
@@ -61,22 +61,22 @@ impl Columns for RunRow {
     }
 }
 
-/// Keeps a run. `Device` also where another begins with its first serial.
+/// Inserts a run. `Device` also if another one begins with its first serial.
 pub fn insert_run<S: Alter>(conn: &mut Connection<S>, run: &RunRow) -> Result<(), Fault>
     ensures { Writes S.Store (with_run run.now) (RefusesRun run.now) conn.old conn.new result }
 {
     done(conn.execute(INSERT_RUN, &run.values()))
 }
 
-/// Each run, ascending. `Damaged` where a row has another form.
+/// Each run, ascending. `Damaged` if a row has another form.
 pub fn every_run<S: Alter>(alloc: Global, conn: &mut Connection<S>) -> Result<Vec<RunRow>, Fault>
     ensures { ReadsSorted S.Store (λ c. c.runs) (λ r. r.lo) nat_cmp conn.old conn.new result }
 {
     found(alloc, conn.query_all(EVERY_RUN, &[]))
 }
 
-/// The last of the runs that begin with this serial or before it, if there is one. `Damaged` where its row has another
-/// form. It reads that row alone.
+/// The last of the runs that begin at or before this serial, if there is one. `Damaged` if its row has another form. It
+/// reads only that row.
 pub fn last_run<S: Alter>(
     alloc: Global,
     conn: &mut Connection<S>,
@@ -87,7 +87,7 @@ pub fn last_run<S: Alter>(
     found_first(alloc, conn.query_all(LAST_RUN, &[serial.value()]))
 }
 
-/// Takes out the runs that begin between these ends, both included. The tables never refuse that.
+/// Deletes the runs that begin between these ends, both included. The tables never refuse that.
 pub fn delete_runs<S: Alter>(conn: &mut Connection<S>, ends: &RunRow) -> Result<(), Fault>
     ensures { Deletes S.Store (without_runs ends.now) conn.old conn.new result }
 {

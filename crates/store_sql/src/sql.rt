@@ -1,4 +1,4 @@
-//! The statements, each in one place.
+//! All SQL statements, each in one place.
 
 // ---- the office
 
@@ -81,7 +81,7 @@ pub(crate) const LAST_RUN: &str = "SELECT lo, hi FROM run WHERE lo <= ?1 ORDER B
 
 pub(crate) const DELETE_RUNS: &str = "DELETE FROM run WHERE lo >= ?1 AND lo <= ?2";
 
-// ---- revoked key ids
+// ---- revoked key IDs
 
 pub(crate) const CREATE_REVOKED: &str =
     "CREATE TABLE revoked_keyid (keyid TEXT PRIMARY KEY) STRICT";

@@ -9,7 +9,7 @@ use sqlite::{Error, ErrorCode};
 /// Why a call on the tables fails.
 #[derive(Clone, Copy, Debug, PartialEq, Eq)]
 pub enum Fault {
-    /// The database failed for another cause than memory, as the disk or size, or refused the statement.
+    /// The database failed for another reason than memory, such as its disk or a size limit, or refused the statement.
     Device,
     /// A row isn't of the form of its table.
     Damaged,
@@ -42,7 +42,7 @@ impl From<text::NoMemory> for Fault {
     }
 }
 
-/// What a statement that shows no rows answers.
+/// The result of a statement that reads no rows.
 pub(crate) fn done(answer: Result<usize, Error>) -> Result<(), Fault>
     ensures is { IsDone answer result }
     ensures undamaged { IfErr result IsOfStatement }

@@ -1,9 +1,9 @@
-//! The tests of what only calls can show of `wire`, `lines`, `cert` and `krl`.
+//! Tests of `wire`, `lines`, `cert` and `krl` for behavior that only function calls can show.
 //!
-//! They call what any crate can call: readers and writers that end and fail, and the names of faults that no command
-//! prints. Expected values come from outside. What the built programs can show of texts, bodies, key lines and lists
-//! they show, in `tests/test_messages.py`, `tests/test_certificates.py`, `tests/test_key_lines.py` and
-//! `tests/test_krl.py`.
+//! They use only public functions: readers and writers that end and fail, and the names of faults that no command
+//! prints. Expected values come from independent sources. What the built programs can show about texts, unsigned
+//! certificates (bodies), public-key lines and lists is in `tests/test_messages.py`, `tests/test_certificates.py`,
+//! `tests/test_key_lines.py` and `tests/test_krl.py`.
 #![tactic(auto)]
 
 #[cfg(test)]

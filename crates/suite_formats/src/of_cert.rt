@@ -1,4 +1,4 @@
-//! Bytes that are no body, and pairs that are no options.
+//! Bytes that aren't an unsigned certificate (body), and pairs that aren't options.
 
 mod faults;
 mod options;

@@ -15,7 +15,7 @@ const HEAD: KrlHead = KrlHead {
     date: 3000,
 };
 
-/// Under the CA of 32 bytes 0x11 the serials 1 and 5 to 7, under that of 0x12 the serial 9, and the key id web/alice.
+/// Under the CA of 32 bytes 0x11, the serials 1 and 5 to 7; under that of 0x12, the serial 9; and the key ID web/alice.
 const LIST: &[u8; 255] =
     b"SSHKRL\n\0\0\0\0\x01\0\0\0\0\0\0\0\x01\0\0\0\0\0\0\x0b\xb8\0\0\0\0\0\0\0\0\0\0\0\0\0\0\0\0\x01\0\0\0\
     o\0\0\03\0\0\0\x0bssh-ed25519\0\0\0\x20\x11\x11\x11\x11\x11\x11\x11\x11\x11\x11\x11\x11\x11\x11\x11\x11\
@@ -40,7 +40,7 @@ fn key_ids(alloc: Global) -> Result<Texts, NoMemory> {
     Ok(ids)
 }
 
-/// How writing ends, and what a writer of this limit takes.
+/// How writing ends, and the bytes that a writer with this limit takes.
 fn written(
     alloc: Global,
     parts: &[CaPart],
@@ -56,7 +56,7 @@ fn written(
     (done, taken)
 }
 
-/// The first limit at which a writer ends otherwise or takes something else than its beginning of the list, and that.
+/// The first limit at which the result or the bytes taken aren't the expected ones, and what they are.
 fn first_other(
     alloc: Global,
     parts: &[CaPart],

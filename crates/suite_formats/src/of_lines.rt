@@ -5,7 +5,7 @@ use std::alloc::Global;
 use text::{NoMemory, Text, Texts};
 use wire::{Pace, ScriptedWriter};
 
-/// Patterns, namespaces, and the key of 32 bytes 0x11.
+/// A line with patterns, namespaces, and the key of 32 bytes 0x11.
 const LINE: &[u8; 138] = b"alice,*@example.org cert-authority,namespaces=\"file,git\" ssh-ed25519 \
     AAAAC3NzaC1lZDI1NTE5AAAAIBERERERERERERERERERERERERERERERERERERERERER\n";
 
@@ -24,7 +24,7 @@ fn row(alloc: Global) -> Result<SignerRow, NoMemory> {
     })
 }
 
-/// How writing ends, and what a writer of this limit takes.
+/// How writing ends, and the bytes that a writer with this limit takes.
 fn written(
     alloc: Global,
     rows: &[SignerRow],
@@ -37,7 +37,7 @@ fn written(
     (done, taken)
 }
 
-/// The first limit at which a writer ends otherwise or takes something else than its beginning of the line, and that.
+/// The first limit at which the result or the bytes taken aren't the expected ones, and what they are.
 fn first_other(
     alloc: Global,
     rows: &[SignerRow],

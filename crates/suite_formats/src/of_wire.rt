@@ -1,4 +1,4 @@
-//! Worked examples from the standards, and streams that end, fail and go step by step.
+//! Worked examples from the standards, and streams that end, fail and proceed step by step.
 
 mod streams;
 mod texts;

@@ -1,8 +1,8 @@
-//! The tests of `serve_one` and of `server`: readers and writers that end, fail and go step by step, and connections in
-//! memory.
+//! Tests of `serve_one` and of `server`: readers and writers that end, fail and proceed step by step, and connections
+//! in memory.
 //!
-//! They call what any crate can call. What a request is answered by its bytes alone, and which words are a job, the
-//! built program shows, in `tests/test_requests.py` and `tests/test_command_line.py`; sockets and clocks it shows in
+//! They use only public functions. The built program shows which requests are answered for their bytes alone, and which
+//! arguments are a job, in `tests/test_requests.py` and `tests/test_command_line.py`; sockets and clocks are in
 //! `tests/test_serving.py`.
 #![tactic(auto)]
 

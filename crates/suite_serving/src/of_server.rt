@@ -1,4 +1,4 @@
-//! Connections of a listener in memory, by a register in memory.
+//! Connections of an in-memory listener, served by an in-memory register.
 
 use memory_store::PlainStore;
 use office::Opening;
@@ -6,7 +6,7 @@ use server::{ScriptedConnection, ScriptedListener, serve_keeping, serve_on};
 use std::test::Fail;
 use wire::{Ending, ScriptedNonces};
 
-/// The department message of the trial office.
+/// The department message of the in-memory office (trial office).
 const DEPARTMENT: &[u8] =
     b"POST /v1/callers/root/requests/trial-web HTTP/1.1\r\ncontent-length: 191\r\n\r\n\
 department web\nkind user\nadmins ana\nprincipals alice,*@example.org\noptions force-command\n\
@@ -16,10 +16,10 @@ extensions permit-X11-forwarding,permit-agent-forwarding,permit-pty\nmaxlife 864
 const ACCEPTED: &[u8] = b"HTTP/1.1 200 OK\r\ncontent-type: text/plain\r\n\
 content-length: 15\r\nconnection: close\r\n\r\ndepartment web\n";
 
-/// A beginning of a head, without its end.
+/// The beginning of a head, without its end.
 const HALF: &[u8] = b"GET /v1/k";
 
-/// The issue of the rows, and the certificate that is pending after it.
+/// The issue message of the test cases in `examples/rows`, and the certificate that is pending after it.
 const ISSUE: &[u8] = b"POST /v1/callers/ana/requests/i1 HTTP/1.1\r\ncontent-length: 162\r\n\r\n\
 issue web\nkeyid web/alice\nkey ssh-ed25519 \
 AAAAC3NzaC1lZDI1NTE5AAAAICIiIiIiIiIiIiIiIiIiIiIiIiIiIiIiIiIiIiIiIiIi\n\
@@ -48,7 +48,7 @@ fn new_office(rt: &HostRuntime) -> Result<PlainStore, Fail> {
     }
 }
 
-// The second connection sends half a head and ends, and the fourth isn't there.
+// The second connection sends half a head and ends, and the fourth doesn't exist.
 #[test]
 fn connections_in_memory_are_met_in_turn(rt: HostRuntime) -> Result<(), Fail> {
     let all = [
@@ -93,7 +93,7 @@ fn connections_in_memory_are_met_in_turn(rt: HostRuntime) -> Result<(), Fail> {
     Ok(())
 }
 
-// What is pending is asked for before an issue, twice after it, and after the revocation of its serial.
+// The pending certificates are requested before an issue, twice after it, and after the revocation of its serial.
 #[test]
 fn what_is_pending_is_asked_again(rt: HostRuntime) -> Result<(), Fail> {
     let sent = [

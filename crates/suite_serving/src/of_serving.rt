@@ -1,4 +1,4 @@
-//! Requests served from readers in memory, by a register that answers each arrival alike.
+//! Requests served from in-memory readers, by a register that gives each arrival the same answer.
 
 mod register;
 
@@ -23,7 +23,7 @@ AAAAC3NzaC1lZDI1NTE5AAAAICIiIiIiIiIiIiIiIiIiIiIiIiIiIiIiIiIiIiIiIiIi\n\
 principals alice\nafter 1000\nbefore 2000\nextensions\n\
 GET /v1/krl HTTP/1.1\r\n\r\n";
 
-/// What the register's reply makes: the response of `examples/rows/repeat-gets-the-kept-reply.expected`.
+/// The response made from the register's reply: that of `examples/rows/repeat-gets-the-kept-reply.expected`.
 const ISSUED: &[u8; 165] = b"HTTP/1.1 200 OK\r\ncontent-type: text/plain\r\n\
 content-length: 81\r\nconnection: close\r\n\r\n\
 issued 1\ndigest 82e0c34fe67da3fc3dc1be6682073994ec021449271b641cdd36180e95572e79\n";
@@ -36,11 +36,11 @@ SSHKRL\n\0\0\0\0\x01\0\0\0\0\0\0\0\0\0\0\0\0\0\0\0\0\0\0\0\0\0\0\0\0\0\0\0\0\0\0
 const BAD_HEAD: &[u8] = b"HTTP/1.1 400 Bad Request\r\ncontent-type: text/plain\r\n\
 content-length: 18\r\nconnection: close\r\n\r\nrefused 1 BadHead\n";
 
-/// What came of one request: how it ended, how many bytes the reader and the nonces have left, and how many arrivals
+/// The outcome of one request: how it ended, how many bytes the reader and the nonces have left, and how many arrivals
 /// the register has taken.
 type Ended = (Result<(), ServeFault>, usize, usize, u64);
 
-/// One request served, with a writer that takes so many bytes, and what was written.
+/// Serves one request with a writer that takes `room` bytes, and returns what was written.
 fn serve(
     alloc: Global,
     register: &mut Register,
@@ -70,7 +70,7 @@ fn serve(
     )
 }
 
-/// One request served by a new register, from these bytes.
+/// Serves one request from these bytes, with a new register.
 fn serve_bytes(
     alloc: Global,
     bytes: &[u8],

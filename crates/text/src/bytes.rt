@@ -1,4 +1,4 @@
-//! Bytes that a value keeps.
+//! Owned bytes.
 
 ghost use Rattle.std.specs.Prelude.{◌≡◌, ◌==◌, ◌↔◌, List, ℕ, IfOk, IsTrue, [], length};
 ghost use Rattle.std.specs.Str.{bytes_eq};
@@ -20,7 +20,7 @@ impl Model for Text {
 }
 
 impl Text {
-    /// No bytes. It takes no memory.
+    /// No bytes. It allocates nothing.
     pub fn new(alloc: Global) -> Text
         ensures { result ≡ [] }
     {
@@ -33,7 +33,7 @@ impl Text {
     ///
     /// # Errors
     ///
-    /// `NoMemory`, where a growth was refused.
+    /// `NoMemory`, if an allocation was refused.
     pub fn from_slice(alloc: Global, bytes: &[u8]) -> Result<Text, NoMemory>
         ensures { IfOk result (λ t. t ≡ bytes.now) }
     {
@@ -42,25 +42,25 @@ impl Text {
         })
     }
 
-    /// The bytes of a vector, which is taken and not copied.
+    /// The bytes of a vector, which is moved and not copied.
     pub fn from_vec(bytes: Vec<u8>) -> Text
         ensures { result ≡ bytes.items }
     {
         Text { bytes }
     }
 
-    /// The bytes, given up as a vector.
+    /// The bytes as a vector, which is moved and not copied.
     pub fn into_vec(self) -> Vec<u8>
         ensures { result.items ≡ self }
     {
         self.bytes
     }
 
-    /// A copy.
+    /// A copy, in new memory.
     ///
     /// # Errors
     ///
-    /// `NoMemory`, where a growth was refused.
+    /// `NoMemory`, if an allocation was refused.
     pub fn copied(&self, alloc: Global) -> Result<Text, NoMemory>
         ensures { IfOk result (λ t. t ≡ self.now) }
     {
@@ -74,14 +74,14 @@ impl Text {
         self.bytes.as_slice()
     }
 
-    /// Whether there is no byte.
+    /// Whether there are no bytes.
     pub fn is_empty(&self) -> bool
         ensures { result ≡ (length self.now == 0) }
     {
         self.bytes.is_empty()
     }
 
-    /// Whether these are the bytes.
+    /// Whether the bytes are equal to these.
     pub fn is(&self, bytes: &[u8]) -> bool
         ensures is { IsTrue result ↔ (self.now ≡ bytes.now) }
         ensures value { result ≡ bytes_eq self.now bytes.now }

@@ -1,8 +1,8 @@
-//! Owned bytes, and lists of them, that contracts see as lists.
+//! Owned bytes, and lists of them, represented as lists in contracts.
 //!
 //! A `Text` is seen as the list of its bytes, a `Texts` as the list of its texts in order, and a `Pairs` as the list of
-//! its pairs. So a plain struct of them is itself the mathematical record of which definitions speak.
-//! What takes memory answers `NoMemory` where a growth was refused.
+//! its pairs. So a plain struct of them is itself the mathematical record that definitions use.
+//! Functions that allocate return `NoMemory` if an allocation was refused.
 #![tactic(auto)]
 
 mod bytes;

@@ -1,8 +1,8 @@
-//! Memory that was refused.
+//! Refused memory.
 
 use std::alloc::{AllocError, AllocFailed};
 
-/// A growth was refused. What was lent to the call is as its contract says.
+/// An allocation was refused. The contract of the call specifies what its arguments hold then.
 #[derive(Clone, Copy, Debug, PartialEq, Eq)]
 pub struct NoMemory;
 

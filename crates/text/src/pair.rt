@@ -11,16 +11,16 @@ use std::alloc::Global;
 pub struct Pair {
     /// The bytes of the name.
     pub name: Text,
-    /// The bytes of the value. A flag's value has none.
+    /// The bytes of the value, empty for a flag.
     pub value: Text,
 }
 
 impl Pair {
-    /// A copy.
+    /// A copy, in new memory.
     ///
     /// # Errors
     ///
-    /// `NoMemory`, where a growth was refused.
+    /// `NoMemory`, if an allocation was refused.
     pub fn copied(&self, alloc: Global) -> Result<Pair, NoMemory>
         ensures { IfOk result (λ p. p ≡ self.now) }
     {

@@ -25,7 +25,7 @@ impl Model for Pairs {
 }
 
 impl Pairs {
-    /// No pair. It takes no memory.
+    /// No pair. It allocates nothing.
     pub fn new(alloc: Global) -> Pairs
         ensures { result ≡ [] }
     {
@@ -34,18 +34,18 @@ impl Pairs {
         }
     }
 
-    /// The pairs of a vector, which is taken and not copied.
+    /// The pairs of a vector, which is moved and not copied.
     pub fn from_vec(items: Vec<Pair>) -> Pairs
         ensures { result ≡ items.items }
     {
         Pairs { items }
     }
 
-    /// One more pair at the end.
+    /// Appends a pair.
     ///
     /// # Errors
     ///
-    /// `NoMemory`, where a growth was refused. The list is as it was.
+    /// `NoMemory`, if an allocation was refused. The list is unchanged.
     pub fn push(&mut self, pair: Pair) -> Result<(), NoMemory>
         ensures ok { OnOk result (self.new ≡ self.old ++ pair ∷ []) }
         ensures err { OnErr result (self.new ≡ self.old) }
@@ -54,11 +54,11 @@ impl Pairs {
         Ok(())
     }
 
-    /// A copy.
+    /// A copy, in new memory.
     ///
     /// # Errors
     ///
-    /// `NoMemory`, where a growth was refused.
+    /// `NoMemory`, if an allocation was refused.
     pub fn copied(&self, alloc: Global) -> Result<Pairs, NoMemory>
         ensures { IfOk result (λ p. p ≡ self.now) }
     {
@@ -76,7 +76,7 @@ impl Pairs {
         self.items.as_slice()
     }
 
-    /// Whether there is no pair.
+    /// Whether there are no pairs.
     pub fn is_empty(&self) -> bool
         ensures { result ≡ (length self.now == 0) }
     {

@@ -1,12 +1,12 @@
-//! Two steps that may fail, one after the other.
+//! Two independent steps that may fail.
 //!
-//! The second is taken whatever comes of the first. So a function that puts many steps together has one way out, and no
-//! value that it would have to drop there: the proof would take such a value apart field by field, once for each step.
+//! The second is evaluated even if the first fails. So a function that combines many steps has one exit, and no value
+//! that it would have to drop there: the proof would take such a value apart field by field, once for each step.
 
 ghost use Rattle.std.specs.Prelude.{◌≡◌, IfOk, Ok};
 ghost use Rattle.text.specs.Results.{both};
 
-/// What both gave.
+/// The values of both steps.
 ///
 /// # Errors
 ///

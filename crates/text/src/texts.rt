@@ -9,7 +9,7 @@ use crate::memory::NoMemory;
 use std::alloc::Global;
 use std::marker::Model;
 
-/// Texts, in order. Contracts see them as the list of their bytes.
+/// Texts, in order. Contracts see them as a list of lists of bytes.
 #[derive(Drop)]
 pub struct Texts {
     items: Vec<Text>,
@@ -22,7 +22,7 @@ impl Model for Texts {
 }
 
 impl Texts {
-    /// No text. It takes no memory.
+    /// No text. It allocates nothing.
     pub fn new(alloc: Global) -> Texts
         ensures { result ≡ [] }
     {
@@ -31,18 +31,18 @@ impl Texts {
         }
     }
 
-    /// The texts of a vector, which is taken and not copied.
+    /// The texts of a vector, which is moved and not copied.
     pub fn from_vec(items: Vec<Text>) -> Texts
         ensures { result ≡ items.items }
     {
         Texts { items }
     }
 
-    /// One more text at the end.
+    /// Appends a text.
     ///
     /// # Errors
     ///
-    /// `NoMemory`, where a growth was refused. The list is as it was.
+    /// `NoMemory`, if an allocation was refused. The list is unchanged.
     pub fn push(&mut self, text: Text) -> Result<(), NoMemory>
         ensures ok { OnOk result (self.new ≡ self.old ++ text ∷ []) }
         ensures err { OnErr result (self.new ≡ self.old) }
@@ -51,11 +51,11 @@ impl Texts {
         Ok(())
     }
 
-    /// A copy.
+    /// A copy, in new memory.
     ///
     /// # Errors
     ///
-    /// `NoMemory`, where a growth was refused.
+    /// `NoMemory`, if an allocation was refused.
     pub fn copied(&self, alloc: Global) -> Result<Texts, NoMemory>
         ensures { IfOk result (λ t. t ≡ self.now) }
     {
@@ -73,14 +73,14 @@ impl Texts {
         self.items.as_slice()
     }
 
-    /// How many texts there are.
+    /// The number of texts.
     pub fn len(&self) -> usize
         ensures { result ≡ length self.now }
     {
         self.items.len()
     }
 
-    /// Whether there is no text.
+    /// Whether there are no texts.
     pub fn is_empty(&self) -> bool
         ensures { result ≡ (length self.now == 0) }
     {

@@ -1,4 +1,4 @@
--- Which faults are met.
+-- Which faults can occur.
 use Rattle.std.proofs.Common.{◌≡◌, ℕ, ◌+◌, List, take, Option, Some, None, Result, Ok, Err, sym, subst}
 use Rattle.std.specs.Prelude.{IfOk, IfSome}
 use Rattle.office.specs.declared.store_fault.StoreFault.{StoreFault}
@@ -12,7 +12,7 @@ use Rattle.trial.specs.declared.trial_fault.TrialFault.{TrialFault}
 use Rattle.trial.specs.declared.trial_fault.TrialFault.TheVariants.{File, NoMemory, BadExchange, Fault}
 use Rattle.trial.specs.Faults.{IsOfAFile, IsOfExchanges, of_exchanges, of_store}
 
--- the first bytes, so many, were read
+-- the first `MAX_FILE + 1` bytes were read
 pub tells : {T E : Type 0} (items : T → List ℕ) (r : Result T E) (left : Option (List ℕ))
     → IfOk r (λ v. IfSome left (λ bytes. items v ≡ take (MAX_FILE + 1) bytes))
     → IfOk r (λ v. IfSome left (λ file. TellsOf file (items v)))
@@ -29,11 +29,11 @@ pub of_a_record : (e : ExchangesFault) → IsOfExchanges (of_exchanges e)
 of_a_record (exchanges.BadExchange k) = tt
 of_a_record exchanges.NoMemory = tt
 
--- no exchange was run
+-- these faults occur before any exchange is run
 pub not_run : (e : TrialFault) → IsOfExchanges e → ¬ (e ≡ Fault)
 not_run e h same = subst IsOfExchanges same h
 
--- no office that couldn't be made is a fault of an exchange
+-- the fault of an office that couldn't be made isn't `Fault`
 pub no_fault : (e : StoreFault) → ¬ (of_store e ≡ Fault)
 no_fault store.NoMemory same = cc
 no_fault other same = cc

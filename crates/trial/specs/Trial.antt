@@ -9,8 +9,8 @@ use Rattle.exchanges.specs.Exchanges.{AreExchanges, exchanges_text}
 use Rattle.exchanges.specs.Printing.{all_given_text, has_fault}
 use Rattle.trial.specs.TrialOffice.{trial_arrival, trial_opening}
 
--- The file is the text of exchanges. What is printed behind what the output held are the responses that are due to them
--- from the trial office, whose department is there. An exchange that met a fault is no part of the history.
+-- The file is the text of exchanges. Their specified responses from the in-memory office, with its one department, are
+-- printed after the earlier output. An exchange that had a fault is not part of the history.
 pub record AppliesToTrial (file : List ℕ) (old new : Option (List ℕ)) (fault : Bool) : Type 0 where
   pub exchanges : List Exchange
   pub are : AreExchanges exchanges

@@ -1,4 +1,4 @@
-//! Exchanges applied to the trial office.
+//! Applying exchanges to the in-memory office.
 
 ghost use Rattle.std.specs.Prelude.{◌≡◌, ℕ, Err, IfSome, OnOk, false, true};
 ghost use Rattle.exchanges.specs.Exchanges.{IsBadRecord};
@@ -12,7 +12,7 @@ use exchanges::{RunFault, apply_exchanges};
 use std::alloc::Global;
 use std::io::{Read, Write};
 
-// What came of a run, as of a trial.
+// The result of a batch, as that of the program.
 fn of_a_run(done: Result<(), RunFault>) -> Result<(), TrialFault>
     ensures { result ≡ run_result done }
 {
@@ -22,22 +22,22 @@ fn of_a_run(done: Result<(), RunFault>) -> Result<(), TrialFault>
     }
 }
 
-/// Runs the exchanges that a file's reader gives over the trial office, and prints what each was given.
+/// Runs the exchanges from a file's reader over the in-memory office, and prints what each one got.
 #[tactic(auto, using(crate::proofs::Causes::not_run, crate::proofs::Causes::no_fault, crate::proofs::Causes::no_record))]
 pub(crate) fn apply_to_trial<R: Read + Drop, W: Write>(
     alloc: Global,
     file: R,
     out: &mut W,
 ) -> Result<(), TrialFault>
-    // Each exchange is answered, and each answer is the one that is due.
+    // Each exchange is answered, and each answer is the specified one.
     ensures ok { OnOk result (IfSome (R.remaining file) (λ text. AppliesToTrial text (W.contents out.old)
         (W.contents out.new) false)) }
 
-    // All is printed, and an exchange was given a fault.
+    // Everything is printed, and an exchange got no response.
     ensures fault { result ≡ Err TrialFault.Fault → IfSome (R.remaining file) (λ text. AppliesToTrial text
         (W.contents out.old) (W.contents out.new) true) }
 
-    // The file is none of exchanges, and nothing is printed.
+    // The file isn't an exchange file: this is its first bad record. Nothing is printed.
     ensures bad { (k : ℕ) → result ≡ Err (TrialFault.BadExchange k)
         → IfSome (R.remaining file) (λ text. IsBadRecord text k) × (out.new ≡ out.old) }
 {

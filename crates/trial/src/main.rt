@@ -1,11 +1,11 @@
-//! Requests of a file, applied to the trial office: what `./sshoffice apply FILE` runs before the first build.
+//! Applies the requests in a file to the in-memory office: what `./sshoffice apply FILE` runs before the first build.
 //!
 //!     trial FILE
 //!
-//! The trial office is an office in memory, with one CA and one department. `sshoffice apply FILE` keeps it in tables.
-//! Here it is kept as lists, so this program needs few of the crates that `sshoffice` is made of, and is tried in a
-//! part of the time. `tests/test_trial.py` compares what both print. Files and the console are the system's, and nothing
-//! is proved of them.
+//! The in-memory office (trial office) has one CA and one department. `sshoffice apply FILE` keeps it in tables. Here
+//! it is kept as lists, so this program needs few of the crates that `sshoffice` needs, and runs without a build in a
+//! fraction of the time. `tests/test_trial.py` compares the two outputs. Files and the console are the system's, and
+//! nothing is proved about them.
 #![tactic(auto)]
 
 mod applying;
@@ -20,13 +20,13 @@ use std::process::ExitCode;
 use std::rt::Env;
 use std::{env, fs, io};
 
-/// The status of a file whose exchanges were all answered.
+/// The status if all exchanges of the file were answered.
 const DONE: u8 = 0;
 
-/// The status where a fault was met.
+/// The status after a fault.
 const FAULT: u8 = 1;
 
-/// The status of words that name no file.
+/// The status for arguments that name no file.
 const BAD_WORDS: u8 = 2;
 
 fn words_of<R: Env + AllocGlobal>(rt: &R) -> io::Result<Vec<String>> {
@@ -34,7 +34,7 @@ fn words_of<R: Env + AllocGlobal>(rt: &R) -> io::Result<Vec<String>> {
     Ok(words)
 }
 
-// Applies the exchanges of the file at a path, and prints what they are given.
+// Applies the exchanges of the file at a path, and prints what they got.
 fn apply_file(rt: &HostRuntime, path: &str) -> Result<(), TrialFault> {
     let file = fs::open(rt, path).map_err(|error| TrialFault::of_file(error.kind()))?;
     let mut out = BufWriter::new(rt.alloc(), rt.stdout()).map_err(|_| TrialFault::NoMemory)?;
@@ -43,7 +43,7 @@ fn apply_file(rt: &HostRuntime, path: &str) -> Result<(), TrialFault> {
     applied.and(flushed)
 }
 
-// The status of a fault, which is printed by its name.
+// Prints the name of a fault, and returns its status.
 fn told<E: Write>(err: &mut E, fault: TrialFault) -> u8 {
     let _ = writeln!(err, "sshoffice: {fault}");
     FAULT

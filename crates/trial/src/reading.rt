@@ -1,4 +1,4 @@
-//! The exchanges of a file.
+//! Reading the exchanges of a file.
 
 ghost use Rattle.std.specs.Prelude.{◌≡◌, ℕ, Err, IfErr, IfOk, IfSome, take};
 ghost use Rattle.exchanges.specs.Exchanges.{AreExchanges, IsBadRecord, TellsOf, exchanges_text};
@@ -10,7 +10,7 @@ use std::alloc::Global;
 use std::io::Read;
 use web::Exchange;
 
-// The first bytes that a reader gives, `most` of them where it gives so many.
+// The first bytes from a reader: `most` of them, or fewer if it ends before.
 fn read_first<R: Read + Drop>(alloc: Global, reader: R, most: u64) -> Result<Vec<u8>, TrialFault>
     ensures first { IfOk result (λ v. IfSome (R.remaining reader) (λ bytes. v.items ≡ take most bytes)) }
     ensures only { IfErr result IsOfAFile }
@@ -22,7 +22,7 @@ fn read_first<R: Read + Drop>(alloc: Global, reader: R, most: u64) -> Result<Vec
     }
 }
 
-// The bytes of a file of exchanges. A longer one than any is read to where its first bad record is sure.
+// The bytes of an exchange file, or a prefix of a longer file in which the first bad record is certain.
 fn read_bytes<R: Read + Drop>(alloc: Global, reader: R) -> Result<Vec<u8>, TrialFault>
     ensures tells { IfOk result (λ v. IfSome (R.remaining reader) (λ file. TellsOf file v.items)) }
     ensures only { IfErr result IsOfAFile }

@@ -5,20 +5,20 @@ use office::StoreFault;
 use std::fmt;
 use std::io::ErrorKind;
 
-/// Why exchanges were not all answered. It is printed by its name, as `sshoffice` prints it.
+/// Why not all exchanges were answered. It is printed with the name that `sshoffice` prints.
 #[derive(Clone, Copy, Debug, PartialEq, Eq)]
 pub enum TrialFault {
     /// The file can't be read.
     File,
     /// The output can't be written.
     Write,
-    /// A growth was refused.
+    /// An allocation failed.
     NoMemory,
-    /// This record of the file, from 1, is the first bad one.
+    /// This record of the file, counted from 1, is the first bad one.
     BadExchange(usize),
-    /// The trial office couldn't be made.
+    /// The in-memory office couldn't be made.
     Store(StoreFault),
-    /// An exchange was given no response.
+    /// An exchange got no response.
     Fault,
 }
 
@@ -26,7 +26,7 @@ impl TrialFault {
     ghost use Rattle.std.specs.Prelude.{◌≡◌};
     ghost use Rattle.trial.specs.Faults.{IsOfAFile, of_file};
 
-    /// The fault of a file that can't be opened or read.
+    /// The fault for a file that can't be opened or read.
     pub fn of_file(kind: ErrorKind) -> TrialFault
         ensures value { result ≡ of_file kind }
         ensures only { IsOfAFile result }

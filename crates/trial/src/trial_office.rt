@@ -1,4 +1,4 @@
-//! The trial office: an office in memory for exchanges that keep none, with one CA and one department.
+//! The in-memory office (trial office): an office for exchanges that needs no database, with one CA and one department.
 
 ghost use Rattle.std.specs.Prelude.{◌≡◌, [], ◌∷◌, IfOk, OnOk};
 ghost use Rattle.office.specs.Openings.{IsOpening};
@@ -15,7 +15,7 @@ use values::LAST_SERIAL;
 
 const CA_KEY: [u8; 32] = [0x11; 32];
 
-// The arrival issues nothing.
+// The arrival issues no certificate.
 const NO_NONCE: [u8; 32] = [0; 32];
 
 const FIRST_SERIAL: u64 = 1;
@@ -53,7 +53,7 @@ fn trial_arrival(alloc: Global) -> Result<Arrival, NoMemory>
     })
 }
 
-// Puts the trial office's department.
+// Makes the in-memory office's department.
 fn put_department<R: Registry>(office: &mut R, alloc: Global) -> Result<(), StoreFault>
     ensures { R.is_honest office.new → OnOk result (MeansOneMore R.means trial_arrival office.old office.new) }
 {
@@ -75,7 +75,7 @@ fn new_office(alloc: Global) -> Result<PlainStore, StoreFault>
     }
 }
 
-/// The trial office: the opening, and then the department.
+/// The in-memory office: the initial configuration, and then the department.
 pub(crate) fn trial_office(alloc: Global) -> Result<PlainStore, StoreFault>
     ensures { IfOk result (λ s. Shows (state_of s) s.kept trial_opening (trial_arrival ∷ [])) }
 {

@@ -1,4 +1,4 @@
--- Numbers in decimal, and the texts that std writes of them.
+-- Numbers in decimal, and the texts that std writes for them.
 use Rattle.std.proofs.Common.{◌≡◌, ◌≢◌, ◌<◌, ◌≤◌, ◌^◌, ℕ, List, [], ◌∷◌, length, true, ◌||◌}
 use Rattle.std.proofs.Common.{not, ◌==◌, nat_lt, decimal, get_or, Option, Some, None, Result}
 use Rattle.std.proofs.Common.{Ok, Err, IfSome, IfNone, inl, inr, rules, arith, ap, sym, ◌∙◌}
@@ -18,17 +18,17 @@ use Rattle.std.proofs.lemmas.Bool.Decides.{nat_tests}
 use Rattle.std.proofs.lemmas.Option.{cond_some}
 use Rattle.values.specs.Decimals.{is_numeral, is_number_below, number_of}
 
--- the test of digits is std's
+-- the test for digits agrees with std's
 pub own : IsNumeralModel (λ ds. list_all is_ascii_digit ds ≡ true) (digits_value 10)
 own = numerals_by_value _ (search rules)
 
--- what the test of a numeral tells
+-- the facts from the test for a numeral
 pub record Tells (t : List ℕ) : Type 0 where
   pub digits : list_all is_ascii_digit t ≡ true
   pub nonempty : 0 < length t
   pub lone : get_or t 0 0 ≡ 48 → length t ≡ 1
 
--- a first digit 0 stands alone
+-- a numeral whose first digit is 0 has no other digit
 lone_from : (d : ℕ) (rest : List ℕ) → (not (d == 48) || length rest == 0) ≡ true → d ≡ 48 → length (d ∷ rest) ≡ 1
 lone_from d rest k z = grind (arith, nat_tests, or_cases (not (d == 48)) (length rest == 0) k)
 
@@ -60,14 +60,14 @@ numeral_decimal n small = numeral_from (decimal n) (record {
   ];
 })
 
--- the decimal text of a number below the limit is a number below it
+-- the decimal text of a number below the limit passes the test for such numbers
 pub below_decimal : (limit n : ℕ) → limit ≤ 2 ^ 64 → n < limit → is_number_below limit (decimal n) ≡ true
 below_decimal limit n room small =
     let value = digits_value-decimal own n (omega arith) in
     and_from (is_numeral (decimal n)) (nat_lt (digits_value 10 (decimal n)) limit) (numeral_decimal n (omega arith))
     (lt-ltb _ _ (omega arith))
 
--- a number below the limit is the decimal text of its value
+-- a text that passes the test is the decimal text of its value
 pub decimal_below : (limit : ℕ) (t : List ℕ) → limit ≤ 2 ^ 64 → is_number_below limit t ≡ true
     → decimal (digits_value 10 t) ≡ t
 decimal_below limit t room h =
@@ -76,7 +76,7 @@ decimal_below limit t room h =
     let small = ltb-true _ _ parts.1 in
     decimal-digits_value own t tells.digits tells.nonempty tells.lone (omega arith)
 
--- its value is below the limit
+-- the value of a text that passes the test is below the limit
 pub value_below : (limit : ℕ) (t : List ℕ) → is_number_below limit t ≡ true → digits_value 10 t < limit
 value_below limit t h = ltb-true _ _ (and_parts (is_numeral t) (nat_lt (digits_value 10 t) limit) h).1
 
@@ -86,7 +86,7 @@ number_of-decimal n small =
     cond-true (is_number_below (2 ^ 64) (decimal n)) _ _ (below_decimal (2 ^ 64) n (omega arith) small)
     ∙ ap Some (digits_value-decimal own n small)
 
--- digits are text
+-- a numeral is valid UTF-8
 pub numeral_utf8 : (t : List ℕ) → is_numeral t ≡ true → IsUtf8 t
 numeral_utf8 t h = IsUtf8-from_ascii t (IsAscii-from_digits t (own.to t (numeral_tells t h).digits))
 
@@ -101,19 +101,19 @@ value_from t (Err e) h refuted = elim (cases_lt (digits_value 10 t) (2 ^ 64)) [
       (and_right (is_numeral t) (nat_lt (digits_value 10 t) (2 ^ 64)) (le-ltb _ _ large)))
 ]
 
--- what std parses of a numeral is the number that it writes
+-- std parses a numeral as the number that it represents
 pub parsed_number : {E : Type 0} (t : List ℕ) (r : Result ℕ E) → is_numeral t ≡ true → ParsesUnsigned 64 10 t r
     → result_ok r ≡ number_of t
 parsed_number t r h p = value_from t r h (parse_digits own 64 t r p (numeral_tells t h).digits)
 
--- the number that is read is the text's
+-- a text is the decimal text of the number that is read from it
 pub number_found : (t : List ℕ) (r : Option ℕ) → r ≡ number_of t → IfSome r (λ n. t ≡ decimal n)
 number_found t None e = tt
 number_found t (Some n) e =
     let is = cond_some (is_number_below (2 ^ 64) t) (digits_value 10 t) n (sym e) in
     sym (decimal_below (2 ^ 64) t (omega arith) is.0) ∙ ap decimal is.1
 
--- where none is read, the text is that of no number
+-- if no number is read, the text is that of no number
 pub number_only : (t : List ℕ) (r : Option ℕ) → r ≡ number_of t → IfNone r ((n : ℕ) → n < 2 ^ 64 → t ≢ decimal n)
 number_only t None e = λ n small same.
     let there : None ≡ Some n = e ∙ ap number_of same ∙ number_of-decimal n small in

@@ -1,4 +1,4 @@
--- Texts that lack a byte, and how they are cut at it.
+-- Texts that lack a byte, and splitting at it.
 use Rattle.std.proofs.Common.{◌≡◌, ◌<◌, ◌+◌, ◌^◌, ℕ, List, [], ◌∷◌, ◌++◌, length, take, drop, Bool, true}
 use Rattle.std.proofs.Common.{false, ◌==◌, decimal, All, arith, ap, sym, ◌∙◌, refl, length-append, length-drop}
 use Rattle.std.specs.Char.{is_ascii_digit}
@@ -23,11 +23,11 @@ differs p byte b off on = ne_eqb b byte (λ same. let moved = ap p same in both_
 pub lacks_from : (p : ℕ → Bool) (byte : ℕ) (t : List ℕ) → p byte ≡ false → list_all p t ≡ true → Lacks byte t
 lacks_from p byte t off all = λ k d inside. differs p byte _ off (AllPass-from_list_all p t all k d inside)
 
--- the decimal text of a number has digits alone
+-- the decimal text of a number lacks each byte that is no digit
 pub decimal_lacks : (byte n : ℕ) → is_ascii_digit byte ≡ false → n < 2 ^ 64 → Lacks byte (decimal n)
 decimal_lacks byte n off small = lacks_from is_ascii_digit byte (decimal n) off (digits_decimal own n small)
 
--- the first such byte after a text that lacks it is at its end
+-- in a text that lacks the byte, followed by the byte, the first such byte is at the end of the text
 pub first_after : (byte : ℕ) (t rest : List ℕ) → Lacks byte t
     → position_or_len (λ b. b == byte) (t ++ byte ∷ rest) ≡ length t
 first_after byte t rest lacks = position_or_len_is (λ b. b == byte) (t ++ byte ∷ rest) (length t) 0
@@ -45,7 +45,7 @@ pub after_first-append : (byte : ℕ) (t rest : List ℕ) → Lacks byte t
 after_first-append byte t rest lacks =
     ap (λ n. drop (n + 1) (t ++ byte ∷ rest)) (first_after byte t rest lacks) ∙ drop-append-add t (byte ∷ rest) 1
 
--- where something follows the first such byte, the text is what stands before it, the byte and what follows
+-- if something follows the first such byte, the text is the part before it, the byte and the part after it
 pub cut_at : (byte : ℕ) (t : List ℕ) → 0 < length (after_first (λ b. b == byte) t)
     → t ≡ before_first (λ b. b == byte) t ++ (byte ∷ after_first (λ b. b == byte) t)
 cut_at byte t more =
@@ -55,7 +55,7 @@ cut_at byte t more =
     split_at_first (λ b. b == byte) t 0 inside
     ∙ ap (λ b. before_first (λ x. x == byte) t ++ (b ∷ after_first (λ x. x == byte) t)) here
 
--- texts that lack a byte, joined by it, are cut at it into the texts
+-- texts that lack a byte, joined by it and split at it, are the same texts
 pub slice_split-join_with_byte : (byte : ℕ) (t : List ℕ) (ts : List (List ℕ))
     → AllByRecursion (Lacks byte) (t ∷ ts) → slice_split (λ b. b == byte) (join_with_byte byte (t ∷ ts)) ≡ t ∷ ts
 slice_split-join_with_byte byte t [] lacks = slice_split_none (λ b. b == byte) t lacks.0

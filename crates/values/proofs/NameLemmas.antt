@@ -1,4 +1,4 @@
--- Rules and key ids, by how they are spelled.
+-- Rules and key IDs, in terms of their texts.
 use Rattle.std.proofs.Common.{false, ◌≡◌, ◌<◌, ◌-◌, inl, inr, ℕ, List, [], ◌∷◌, ◌++◌, length}
 use Rattle.std.proofs.Common.{take, drop, true, ◌&&◌, not, ◌==◌, nat_lt, arith, ap, sym}
 use Rattle.std.proofs.Common.{◌∙◌, refl, subst, length-append, length-take, take-append-drop}
@@ -49,7 +49,7 @@ meets_suffix_from principal rule m =
     ∙ ap (λ t. ends_longer t m.suffix) m.spelled
     ∙ ends_longer_from m.front m.suffix m.longer
 
--- a principal meets a rule exactly if it is the rule, or longer than the suffix that the rule asks for and ends with it
+-- a principal meets a rule exactly when it is the rule, or is longer than the rule's suffix and ends with it
 pub meets_found : (principal rule : List ℕ) → meets principal rule ≡ true → Meets principal rule
 meets_found principal rule h = elim (or_cases (bytes_eq principal rule) (meets_suffix principal rule) h) [
   | inl same ↦ inl ((bytes_eq-Decides principal rule).0 same)
@@ -62,7 +62,7 @@ meets_from principal rule (inl same) =
 meets_from principal rule (inr m) =
     or_right (bytes_eq principal rule) (meets_suffix principal rule) (meets_suffix_from principal rule m)
 
--- what follows a department in a key id
+-- the rest after the department in a key ID
 record IsEnd (t : List ℕ) : Type 0 where
   rest : List ℕ
   slashed : t ≡ 47 ∷ rest
@@ -76,13 +76,13 @@ end_found (b ∷ rest) h =
     let q = and_parts (has_size 1 64 rest) (list_all is_key_id_byte rest) p.1 in
     record { rest = rest; slashed = ap (λ c. c ∷ rest) (eqb-true b 47 p.0); sized = q.0; printable = q.1 }
 
--- a text is its department and what follows it
+-- a text is its department followed by the rest
 pub department_cut : (t : List ℕ) → t ≡ department_of t ++ drop (length (department_of t)) t
 department_cut t =
     let n = prefix_len (λ b. not (b == 47)) t in
     sym (take-append-drop n t) ∙ ap (λ k. take n t ++ drop k t) (sym (length-prefix_len (λ b. not (b == 47)) t))
 
--- a key id is the name of its department, / and the rest
+-- a key ID is the name of its department, / and the rest
 pub key_id_found : (t : List ℕ) → is_key_id t ≡ true → IsKeyId t (department_of t)
 key_id_found t h =
     let p = and_parts (is_name (department_of t)) (is_key_id_end (drop (length (department_of t)) t)) h in
@@ -95,7 +95,7 @@ key_id_found t h =
       printable = e.printable;
     }
 
--- a name lacks each byte that is none of its alphabet
+-- a name lacks each byte outside its alphabet
 pub name_lacks : (byte : ℕ) (t : List ℕ) → is_name_byte byte ≡ false → is_name t ≡ true → Lacks byte t
 name_lacks byte t off h = lacks_from is_name_byte byte t off (and_parts (has_size 1 32 t) (list_all is_name_byte t) h).1
 

@@ -1,4 +1,4 @@
--- Networks, by how they are spelled.
+-- Networks, in terms of their texts.
 use Rattle.std.proofs.Common.{◌≡◌, ◌<◌, ◌≤◌, ◌+◌, ◌-◌, ◌*◌, ◌%◌, ◌^◌, ℕ, suc, List, []}
 use Rattle.std.proofs.Common.{◌∷◌, ◌++◌, length, map, true, false, ◌&&◌, ◌==◌, nat_le, decimal}
 use Rattle.std.proofs.Common.{Option, Some, arith, ap, sym, ◌∙◌, refl, append_assoc}
@@ -20,7 +20,7 @@ use Rattle.values.specs.Laws.{AreNetworks}
 use Rattle.values.specs.Networks.{are_octets, address_of, is_block, is_network}
 use Rattle.values.specs.Networks.{are_networks, Network, IsNetwork, network_text}
 
--- the text is this network's
+-- a valid network with this text
 pub record Spells (t : List ℕ) : Type 0 where
   pub network : Network
   pub sound : IsNetwork network
@@ -40,7 +40,7 @@ dotted_lacks byte a b c d la lb lc ld digit dot =
     (decimal_lacks byte n digit (omega arith)) in
     more _ d (more _ c (more _ b (decimal_lacks byte a digit (omega arith)) lb) lc) ld
 
--- and so does a network's text, unless the byte is /
+-- a network's text lacks each byte that is no digit, no dot and no /
 pub network_lacks : (byte : ℕ) (n : Network) → IsNetwork n → is_ascii_digit byte ≡ false → (46 == byte) ≡ false
     → (47 == byte) ≡ false → Lacks byte (network_text n)
 network_lacks byte n s digit dot slash =
@@ -51,7 +51,7 @@ network_lacks byte n s digit dot slash =
     (All-append P (dotted_text n.a n.b n.c n.d) (47 ∷ []) front (byte_lacks byte 47 slash))
     (decimal_lacks byte n.size digit (omega arith))
 
--- a network is read from its text
+-- the text of a valid network passes the test for networks
 pub is_network-text : (n : Network) → IsNetwork n → is_network (network_text n) ≡ true
 is_network-text n s =
     let front = dotted_text n.a n.b n.c n.d in
@@ -68,7 +68,7 @@ is_network-text n s =
     ∙ ap (is_block (Some address)) (number_of-decimal n.size (omega arith))
     ∙ and_from (nat_le n.size 32) (address % 2 ^ (32 - n.size) == 0) (le-leb _ _ within) (eq-eqb _ _ s.zeros)
 
--- the numbers that an address was read from
+-- the numbers from which an address was read
 record Address (t : List ℕ) (address : ℕ) : Type 0 where
   a : ℕ
   b : ℕ
@@ -87,7 +87,7 @@ address_found t address e =
     sym e ∙ ap address_of spelled ∙ address_of-dotted_text w.a w.b w.c w.d w.fit.0 w.fit.1 w.fit.2 w.fit.3 in
     record { a = w.a; b = w.b; c = w.c; d = w.d; octets = w.fit; value = cc; spelled = spelled }
 
--- the numbers that a block holds
+-- the address and the size of a block
 record Block (x y : Option ℕ) : Type 0 where
   address : ℕ
   size : ℕ
@@ -130,7 +130,7 @@ network_found t h =
           ∙ sym (append_assoc (dotted_text w.a w.b w.c w.d) (47 ∷ []) (decimal k.size));
     }
 
--- networks whose texts these are
+-- networks with these texts
 record SpellsAll (ts : List (List ℕ)) : Type 0 where
   networks : List Network
   count : length networks ≡ length ts
@@ -160,7 +160,7 @@ all_lack : (ns : List Network) → AllByRecursion IsNetwork ns → AllByRecursio
 all_lack [] each = tt
 all_lack (n ∷ ns) each = (network_lacks 44 n each.0 refl refl refl, all_lack ns each.1)
 
--- networks joined by commas are cut into their texts
+-- the texts of networks, joined by commas, are split into the same texts
 pub split_networks : (ns : List Network) → 0 < length ns → AllByRecursion IsNetwork ns
     → slice_split (λ b. b == 44) (join_with_byte 44 (map network_text ns)) ≡ map network_text ns
 split_networks [] some each = absurd (omega arith)

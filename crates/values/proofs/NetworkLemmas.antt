@@ -1,4 +1,4 @@
--- Networks: what their texts are.
+-- The texts of networks.
 use Rattle.std.proofs.Common.{◌≡◌, ◌<◌, ◌+◌, ◌*◌, ℕ, List, [], ◌∷◌, ◌++◌, length, true, ◌==◌, decimal, Some}
 use Rattle.std.proofs.Common.{None, arith, ap, sym, ◌∙◌, refl, append_assoc, map, cond, inl, inr, subst}
 use Rattle.std.specs.Int.{from_be_bytes, w32}
@@ -18,7 +18,7 @@ regroup : (dot : ℕ) (a b c d : List ℕ)
     → a ++ (dot ∷ []) ++ b ++ (dot ∷ []) ++ c ++ (dot ∷ []) ++ d ≡ a ++ (dot ∷ (b ++ (dot ∷ (c ++ (dot ∷ d)))))
 regroup dot a b c d = simp append_assoc
 
--- four texts without dots, joined by dots, are cut into the four
+-- four texts without dots, joined by dots, are split into the four
 four_parts : (a b c d : List ℕ) → Lacks 46 a → Lacks 46 b → Lacks 46 c → Lacks 46 d
     → slice_split (λ x. x == 46) (a ++ (46 ∷ (b ++ (46 ∷ (c ++ (46 ∷ d)))))) ≡ a ∷ b ∷ c ∷ d ∷ []
 four_parts a b c d la lb lc ld =
@@ -27,7 +27,7 @@ four_parts a b c d la lb lc ld =
     ∙ ap (λ rest. b ∷ rest) (slice_split_at (λ x. x == 46) c 46 _ lc refl
     ∙ ap (λ rest. c ∷ rest) (slice_split_none (λ x. x == 46) d ld)))
 
--- an address is cut into its numbers
+-- the text of an address is split into its numbers
 pub split-dotted_text : (a b c d : ℕ) → a < 256 → b < 256 → c < 256 → d < 256
     → slice_split (λ x. x == 46) (dotted_text a b c d) ≡ decimal a ∷ decimal b ∷ decimal c ∷ decimal d ∷ []
 split-dotted_text a b c d la lb lc ld =
@@ -36,7 +36,7 @@ split-dotted_text a b c d la lb lc ld =
     (decimal_lacks 46 b refl (omega arith)) (decimal_lacks 46 c refl (omega arith))
     (decimal_lacks 46 d refl (omega arith))
 
--- four octets are four octets, of this value
+-- the decimal texts of four numbers below 256 pass the test for octets
 pub octets_decimal : (a b c d : ℕ) → a < 256 → b < 256 → c < 256 → d < 256
     → are_octets (decimal a ∷ decimal b ∷ decimal c ∷ decimal d ∷ []) ≡ true
 octets_decimal a b c d la lb lc ld =
@@ -69,7 +69,7 @@ address_of-dotted_text a b c d la lb lc ld =
     ∙ cond-true (are_octets parts) _ _ (octets_decimal a b c d la lb lc ld)
     ∙ ap Some (value_decimal a b c d la lb lc ld)
 
--- a dotted text writes the address of its octets
+-- the address in a dotted text is that of its octets
 pub address_of-dotted : (t octets : List ℕ) → IsDotted t octets → address_of t ≡ Some (from_be_bytes w32 octets)
 address_of-dotted t octets w =
     ap address_of w.spelled
@@ -101,7 +101,7 @@ octets_dotted texts h =
     let size = (and_parts (length texts == 4) (list_all (is_number_below 256) texts) h).0 in
     absurd (omega (arith, eqb-true (length texts) 4 size))
 
--- where no dotted text is, there is no address
+-- a text that is not dotted has no address
 pub address_of-none : (t : List ℕ) → ((octets : List ℕ) → ¬ (IsDotted t octets)) → address_of t ≡ None
 address_of-none t refuted = elim (cases_Bool (are_octets (slice_split (λ x. x == 46) t))) [
   | inl octets ↦ absurd (refuted _

@@ -1,9 +1,9 @@
--- Names, principals, rules, key ids and namespaces.
+-- Names, principals, rules, key IDs and namespaces.
 use Rattle.std.specs.Prelude.{ℕ, ◌-◌, List, [], ◌∷◌, length, drop, Bool, false, ◌&&◌, ◌||◌, not, ◌==◌, nat_le, nat_lt}
 use Rattle.std.specs.List.{list_all, take_while}
 use Rattle.std.specs.Str.{bytes_eq}
 
--- from low to high bytes
+-- `low` to `high` bytes
 abbrev pub has_size : ℕ → ℕ → List ℕ → Bool
 has_size low high t = nat_le low (length t) && nat_le (length t) high
 
@@ -36,11 +36,11 @@ is_suffix_rule (b ∷ suffix) = b == 42 && (has_size 1 63 suffix && list_all is_
 abbrev pub is_rule : List ℕ → Bool
 is_rule t = is_principal t || is_suffix_rule t
 
--- longer than the suffix, which is its end
+-- the text ends with the suffix and is longer than it
 abbrev pub ends_longer : List ℕ → List ℕ → Bool
 ends_longer t suffix = nat_lt (length suffix) (length t) && bytes_eq (drop (length t - length suffix) t) suffix
 
--- the principal ends with the suffix of a rule * and is longer than it
+-- the rule is * and a suffix, and the principal ends with the suffix and is longer than it
 abbrev pub meets_suffix : List ℕ → List ℕ → Bool
 meets_suffix principal [] = false
 meets_suffix principal (b ∷ suffix) = b == 42 && ends_longer principal suffix
@@ -49,11 +49,11 @@ meets_suffix principal (b ∷ suffix) = b == 42 && ends_longer principal suffix
 abbrev pub meets : List ℕ → List ℕ → Bool
 meets principal rule = bytes_eq principal rule || meets_suffix principal rule
 
--- a printable byte that is no space
+-- a printable byte other than a space
 abbrev pub is_key_id_byte : ℕ → Bool
 is_key_id_byte b = nat_le 33 b && nat_le b 126
 
--- what stands before the first /
+-- the part before the first /, or the whole text if there is none
 abbrev pub department_of : List ℕ → List ℕ
 department_of key_id = take_while (λ b. not (b == 47)) key_id
 
@@ -62,7 +62,7 @@ abbrev pub is_key_id_end : List ℕ → Bool
 is_key_id_end [] = false
 is_key_id_end (b ∷ rest) = b == 47 && (has_size 1 64 rest && list_all is_key_id_byte rest)
 
--- a key id: the name of a department, / and 1 to 64 printable bytes
+-- a key ID: the name of a department, / and 1 to 64 printable bytes
 abbrev pub is_key_id : List ℕ → Bool
 is_key_id t = is_name (department_of t) && is_key_id_end (drop (length (department_of t)) t)
 

@@ -1,4 +1,4 @@
--- IPv4 networks in CIDR notation (RFC 4632 section 3.1), as source-address lists them (PROTOCOL.certkeys).
+-- IPv4 networks in CIDR notation (RFC 4632 section 3.1), as in the source-address option (PROTOCOL.certkeys).
 use Rattle.std.specs.Prelude.{◌≡◌, ℕ, ◌+◌, ◌-◌, ◌*◌, ◌^◌, ◌%◌, ◌<◌, ◌≤◌, List, ◌++◌, length, fold, codes}
 use Rattle.std.specs.Prelude.{decimal, Bool, false, ◌&&◌, ◌==◌, nat_le, Option, Some, None, if◌then◌else◌}
 use Rattle.std.specs.List.{list_all, slice_split, before_first, after_first}
@@ -10,16 +10,16 @@ use Rattle.values.specs.Decimals.{is_number_below, number_of}
 abbrev pub are_octets : List (List ℕ) → Bool
 are_octets texts = length texts == 4 && list_all (is_number_below 256) texts
 
--- the numbers as the digits of one in base 256, the first most significant
+-- the number with these digits in base 256, the most significant first
 abbrev pub octets_value : List (List ℕ) → ℕ
 octets_value texts = fold (λ value text. value * 256 + digits_value 10 text) 0 texts
 
--- the address that a text a.b.c.d writes, as one number of 32 bits
+-- the address in a text a.b.c.d, as one 32-bit number
 abbrev pub address_of : List ℕ → Option ℕ
 address_of t =
     let octets = slice_split (λ b. b == 46) t in if are_octets octets then Some (octets_value octets) else None
 
--- an address and a size of at most 32, and no bit of the address past the first of this size is set
+-- an address and a size of at most 32, with no bit of the address set after the first `size` bits
 abbrev pub is_block : Option ℕ → Option ℕ → Bool
 is_block None size = false
 is_block (Some address) None = false
@@ -42,7 +42,7 @@ pub record Network : Type 0 where
   pub d : ℕ
   pub size : ℕ
 
--- the octets fit, the size is at most 32, and the address's bits past the first of this size are zero
+-- the octets are below 256, the size is at most 32, and the address's bits after the first `size` are zero
 pub record IsNetwork (n : Network) : Type 0 where
   pub octets : (n.a < 256) × (n.b < 256) × (n.c < 256) × (n.d < 256)
   pub within : n.size ≤ 32

@@ -14,19 +14,19 @@ known_names Extensions =
     codes "no-touch-required" ∷ codes "permit-X11-forwarding" ∷ codes "permit-agent-forwarding"
     ∷ codes "permit-port-forwarding" ∷ codes "permit-pty" ∷ codes "permit-user-rc" ∷ []
 
--- an option of this field
+-- the name of an option that a certificate may have in this field
 abbrev pub is_known : OptionField → List ℕ → Bool
 is_known field name = list_any (λ known. bytes_eq known name) (known_names field)
 
--- an option without a value
+-- the name of an option without a value
 abbrev pub is_flag : List ℕ → Bool
 is_flag name = bytes_eq name (codes "verify-required") || is_known Extensions name
 
--- a command: 1 to 200 printable bytes, spaces among them
+-- a command: 1 to 200 printable bytes, including spaces
 abbrev pub is_command : List ℕ → Bool
 is_command t = has_size 1 200 t && list_all (λ b. nat_le 32 b && nat_le b 126) t
 
--- what an option of this name may have as its value: a command, networks, or nothing for a flag
+-- a valid value for an option with this name: a command, networks, or nothing for a flag
 abbrev pub is_option_value : List ℕ → List ℕ → Bool
 is_option_value name value =
     if bytes_eq name (codes "force-command") then is_command value

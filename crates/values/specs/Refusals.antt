@@ -55,11 +55,11 @@ refusal_row SerialsExhausted = (22, codes "SerialsExhausted", 409)
 refusal_row CaInUse = (23, codes "CaInUse", 409)
 refusal_row TooManyCas = (24, codes "TooManyCas", 409)
 
--- the place in the order in which refusals are looked for
+-- the place in the order in which refusals are checked
 abbrev pub refusal_number : Refusal → ℕ
 refusal_number r = (refusal_row r).0
 
--- the name in an answer
+-- the name in a response
 abbrev pub refusal_name : Refusal → List ℕ
 refusal_name r = (refusal_row r).1
 

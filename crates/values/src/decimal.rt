@@ -34,7 +34,7 @@ fn numeral_value(text: &[u8]) -> Option<u64>
     digits.parse::<u64>().ok()
 }
 
-/// The number that the text writes in decimal, without sign or leading zeros. `None` for any other text, and for
+/// The number that the text represents in decimal, without sign or leading zeros. `None` for any other text, and for
 /// numbers over 18446744073709551615.
 pub fn read_decimal(text: &[u8]) -> Option<u64>
     ensures value { result ≡ number_of text.now }
@@ -48,11 +48,11 @@ pub fn read_decimal(text: &[u8]) -> Option<u64>
     }
 }
 
-/// The number in decimal, without leading zeros, at the end of `out`.
+/// Appends the number in decimal, without leading zeros, to `out`.
 ///
 /// # Errors
 ///
-/// `NoMemory`, where a growth was refused. `out` is as it was.
+/// `NoMemory`, if an allocation was refused. `out` is unchanged.
 pub fn put_decimal(out: &mut Vec<u8>, number: u64) -> Result<(), NoMemory>
     ensures ok { OnOk result (out.new.items ≡ out.old.items ++ decimal number) }
     ensures err { OnErr result (out.new.items ≡ out.old.items) }

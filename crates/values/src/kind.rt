@@ -1,6 +1,6 @@
 //! The kinds of certificates.
 
-/// Whom a certificate speaks of (PROTOCOL.certkeys, "type"). A department keeps its kind for good.
+/// The kind of a certificate's subject (PROTOCOL.certkeys, "type"). A department keeps its kind permanently.
 #[derive(Clone, Copy, PartialEq, Eq)]
 pub enum Kind {
     /// A user: SSH_CERT_TYPE_USER, which is 1.

@@ -1,8 +1,8 @@
-//! The values of the profile: names, principals, rules, key ids, options, networks, limits and refusals.
+//! The values in messages and profiles: names, principals, rules, key IDs, options, networks, limits and refusals.
 //!
-//! Each test of a text decides its definition in `specs`, takes no memory and returns on any bytes.
-//! `office_laws` says the definitions once more, by how the texts are spelled.
-//! A refusal's number, name and status stand here in one table, and nowhere else.
+//! Each test of a text decides its definition in `specs`, allocates nothing and returns on any bytes.
+//! `laws` restates the definitions in terms of the texts.
+//! A refusal's number, name and status are in one table here, and nowhere else.
 #![tactic(auto)]
 
 mod decimal;

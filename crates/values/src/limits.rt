@@ -1,9 +1,9 @@
-//! Limits of moments, serials and lists.
+//! Limits of times, serials and lists.
 
-/// 9999-12-31 23:59:59 UTC, the last moment and the last end of a validity, in seconds since 1970-01-01 00:00:00 UTC.
+/// 9999-12-31 23:59:59 UTC, the latest time and the latest end of a validity, in seconds since 1970-01-01 00:00:00 UTC.
 pub const LATEST_MOMENT: u64 = 253402300799;
 
-/// The longest life that a department may grant, in seconds. The shortest is 1.
+/// The longest lifetime that a department may permit, in seconds. The shortest is 1.
 pub const LONGEST_LIFE: u64 = 253402300799;
 
 /// The last serial that may be issued. The first is 1: serial 0 is never used.

@@ -1,4 +1,4 @@
-//! Lists without repeats.
+//! Lists without duplicates.
 
 ghost use Rattle.std.specs.Prelude.{◌≡◌};
 ghost use Rattle.std.specs.List.{list_any};
@@ -14,7 +14,7 @@ pub fn is_member(bytes: &[u8], texts: &[Text]) -> bool
     texts.iter().any(|t| t.is(bytes))
 }
 
-/// Whether no text stands twice.
+/// Whether no text occurs twice.
 pub fn are_distinct(texts: &[Text]) -> bool
     ensures { result ≡ are_distinct texts.now }
 {

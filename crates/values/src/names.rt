@@ -1,4 +1,4 @@
-//! Names, principals, key ids and namespaces.
+//! Names, principals, key IDs and namespaces.
 
 ghost use Rattle.std.specs.Prelude.{◌≡◌, ◌==◌, position};
 ghost use Rattle.std.specs.List.{list_all};
@@ -16,7 +16,7 @@ ghost use Rattle.values.specs.Names.{
   is_principal_byte,
 };
 
-/// Whether there are from `low` to `high` bytes.
+/// Whether there are `low` to `high` bytes.
 pub(crate) fn has_size(text: &[u8], low: usize, high: usize) -> bool
     ensures { result ≡ has_size low high text.now }
 {
@@ -53,7 +53,7 @@ fn has_name_bytes(text: &[u8]) -> bool
     text.iter().all(|b| is_name_byte(*b))
 }
 
-/// Whether each byte is of the alphabet of principals.
+/// Whether each byte is in the alphabet of principals.
 pub(crate) fn has_principal_bytes(text: &[u8]) -> bool
     ensures { result ≡ list_all is_principal_byte text.now }
 {
@@ -87,14 +87,14 @@ pub fn is_namespace(text: &[u8]) -> bool
     has_size(text, 1, 32) && has_principal_bytes(text)
 }
 
-/// Where the first `/` stands.
+/// The position of the first `/`.
 pub(crate) fn first_slash(text: &[u8]) -> Option<usize>
     ensures { result ≡ position (λ b. b == 47) text.now }
 {
     text.iter().position(|b| *b == b'/')
 }
 
-/// What stands before the first `/` of a key id, all of it where there is none.
+/// The part of a key ID before the first `/`, or all of it if there is none.
 pub fn department_of(key_id: &[u8]) -> &[u8]
     ensures { result.now ≡ department_of key_id.now }
 {
@@ -113,7 +113,7 @@ fn is_key_id_end(text: &[u8]) -> bool
     }
 }
 
-/// Whether the text is a key id: the name of a department, `/` and 1 to 64 bytes from 0x21 to 0x7e.
+/// Whether the text is a key ID: the name of a department, `/` and 1 to 64 bytes from 0x21 to 0x7e.
 pub fn is_key_id(text: &[u8]) -> bool
     ensures { result ≡ is_key_id text.now }
 {

@@ -1,4 +1,4 @@
-//! Networks, as source-address lists them.
+//! Networks, as in the source-address option.
 
 ghost use Rattle.std.specs.Prelude.{◌≡◌, ◌==◌, length};
 ghost use Rattle.std.specs.List.{list_all, slice_split};
@@ -8,7 +8,7 @@ use crate::decimal::read_decimal;
 use crate::names::first_slash;
 use std::net::Ipv4Addr;
 
-/// The most networks that one option lists.
+/// The most networks in one option.
 const MOST_NETWORKS: usize = 8;
 
 fn address_of(text: &[u8]) -> Option<u32>
@@ -31,7 +31,7 @@ fn is_block(address: Option<u32>, size: Option<u64>) -> bool
 }
 
 /// Whether the text is an IPv4 network `a.b.c.d/n` (RFC 4632 section 3.1): each of a, b, c, d from 0 to 255 and n from
-/// 0 to 32 in decimal without leading zeros, the address's bits past the first n being zero.
+/// 0 to 32 in decimal without leading zeros, with the address's bits after the first n being zero.
 pub fn is_network(text: &[u8]) -> bool
     ensures { result ≡ is_network text.now }
 {

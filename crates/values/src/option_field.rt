@@ -8,9 +8,9 @@ ghost use Rattle.values.specs.Options.{is_flag, is_known};
 /// The two fields of a certificate that hold options (PROTOCOL.certkeys, "Critical options" and "Extensions").
 #[derive(Clone, Copy, PartialEq, Eq)]
 pub enum OptionField {
-    /// A server that doesn't know one refuses the certificate.
+    /// A server that doesn't recognize one refuses the certificate.
     CriticalOptions,
-    /// A server that doesn't know one passes it over.
+    /// A server that doesn't recognize one ignores it.
     Extensions,
 }
 
@@ -20,7 +20,7 @@ fn is_one_of(names: &[&[u8]], name: &[u8]) -> bool
     names.iter().any(|n| *n == name)
 }
 
-/// Whether a certificate may have an option of this name in the field.
+/// Whether a certificate may have an option with this name in the field.
 pub fn is_known(field: OptionField, name: &[u8]) -> bool
     ensures { result ≡ is_known field name.now }
 {
@@ -43,7 +43,7 @@ pub fn is_known(field: OptionField, name: &[u8]) -> bool
     }
 }
 
-/// Whether an option of this name has no value.
+/// Whether an option with this name has no value.
 pub fn is_flag(name: &[u8]) -> bool
     ensures { result ≡ is_flag name.now }
 {

@@ -23,8 +23,8 @@ fn is_command(text: &[u8]) -> bool
     has_size(text, 1, LONGEST_COMMAND) && has_printable_bytes(text)
 }
 
-/// Whether an option of this name may have this value: force-command 1 to 200 bytes from 0x20 to 0x7e, source-address
-/// 1 to 8 networks joined by commas, a flag no byte. A name that is no option's has no value.
+/// Whether an option with this name may have this value: for force-command 1 to 200 bytes from 0x20 to 0x7e, for
+/// source-address 1 to 8 networks joined by commas, for a flag nothing. For any other name, no value is valid.
 pub fn is_option_value(name: &[u8], value: &[u8]) -> bool
     ensures { result ≡ is_option_value name.now value.now }
 {

@@ -3,60 +3,60 @@
 ghost use Rattle.std.specs.Prelude.{◌≡◌};
 ghost use Rattle.values.specs.Refusals.{refusal_name, refusal_number, refusal_row, refusal_status};
 
-/// Why a request is refused. Of those that apply, the one that stands first here is answered.
+/// Why a request is refused, with an HTTP 4xx response and no change. The first of these that applies is returned.
 #[derive(Clone, Copy, PartialEq, Eq)]
 pub enum Refusal {
-    /// The first 8192 bytes of a request hold no complete head that can be read, or a length that is no number.
+    /// The first 8192 bytes of a request contain no complete head that can be parsed, or a length that is no number.
     BadHead,
     /// No route has the target.
     NoRoute,
-    /// The route is there for another method.
+    /// The route exists for another method.
     WrongMethod,
-    /// A POST without a length of its body.
+    /// A POST without the length of its body.
     LengthRequired,
-    /// A body over the limit.
+    /// A body that exceeds the limit.
     TooLong,
-    /// Fewer bytes after the head than the length says.
+    /// Fewer bytes after the head than the length announces.
     ShortBody,
-    /// The bytes of the message are no message.
+    /// The body of the request is no message.
     BadMessage,
-    /// The moment is over the latest one.
+    /// The time is after the latest one.
     BadMoment,
-    /// Caller and request key are kept with another message.
+    /// The caller and request key were already used for a different message.
     KeyReused,
     /// The caller may not send this message.
     NotAllowed,
-    /// The department isn't there.
+    /// The department doesn't exist.
     NoDepartment,
-    /// The department is there with the other kind.
+    /// The department exists, and has the other kind.
     KindFixed,
-    /// The key id's department isn't the one named.
+    /// The key ID's department isn't the one named.
     BadKeyId,
     /// The department's profile doesn't permit the certificate.
     NotPermitted,
-    /// The validity ended by the moment.
+    /// The validity ends by the time of the request.
     AlreadyEnded,
-    /// The key id is revoked.
+    /// The key ID is revoked.
     KeyIdRevoked,
     /// The serial wasn't issued.
     UnknownSerial,
-    /// The digest isn't that of the serial's body.
+    /// The digest isn't that of the body (the unsigned certificate) with the serial.
     WrongDigest,
-    /// The serial or its key id is revoked.
+    /// The serial or its key ID is revoked.
     Revoked,
-    /// Another signature is kept.
+    /// A different signature is stored.
     AlreadySigned,
-    /// No signature is kept.
+    /// No signature is stored.
     NotSigned,
-    /// The next serial is over the last one.
+    /// The next serial is after the last one.
     SerialsExhausted,
-    /// The key is that of one of the office's CAs.
+    /// One of the office's CAs has the key.
     CaInUse,
-    /// As many CAs are there as an office may have.
+    /// The office already has as many CAs as it may have.
     TooManyCas,
 }
 
-/// What a refusal answers: its number, its name and its status (RFC 9110 section 15).
+/// The properties of a refusal: its number, its name and its status (RFC 9110 section 15).
 #[derive(Drop)]
 struct Row(u8, &'static str, u16);
 
@@ -92,14 +92,14 @@ impl Refusal {
         }
     }
 
-    /// The number, 1 to 24: the place in the order in which refusals are looked for.
+    /// The number, 1 to 24: the place in the order in which refusals are checked.
     pub fn number(self) -> u8
         ensures { result ≡ refusal_number self }
     {
         self.row().0
     }
 
-    /// The name, as it is written in an answer.
+    /// The name, as written in a response.
     pub fn name(self) -> &'static str
         ensures { result.now ≡ refusal_name self }
     {

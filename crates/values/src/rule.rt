@@ -1,4 +1,4 @@
-//! Rules, which say the principals that a department may issue certificates for.
+//! Rules, which specify the principals for which a department may issue certificates.
 
 ghost use Rattle.std.specs.Prelude.{◌≡◌};
 ghost use Rattle.values.specs.Names.{ends_longer, is_rule, is_suffix_rule, meets, meets_suffix};

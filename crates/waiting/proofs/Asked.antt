@@ -1,4 +1,4 @@
--- What an ask finds.
+-- The answer to a request for the pending certificates.
 use Rattle.std.proofs.Common.{◌≡◌, ℕ, zero, suc, ◌+◌, ◌-◌, ◌<◌, List, [], ◌∷◌, ◌++◌, length, get_or, take, filter, Bool, true}
 use Rattle.std.proofs.Common.{false, cond, not, ◌&&◌, Option, Some, None, refl, sym, ap, ap₂, subst, ◌∙◌, arith}
 use Rattle.std.specs.Prelude.{IfErr, IfOk, OnErr, OnOk, Result, Ok, Err, is_none, option_map, slice_get}
@@ -36,7 +36,7 @@ at_place s n c e =
     (le-ltb (s.opening.first + n) s.opening.first (omega arith))
     ∙ ap (slice_get s.certificates) back ∙ e
 
--- the row of a certificate at a place waits still if the certificate waits
+-- the row of the certificate at a place is still pending if and only if the certificate is
 pub at_place_waits : (o : Opening) (l : List Arrival) (n : ℕ) (c : Certificate)
     → slice_get (state o l).certificates n ≡ Some c → serial_waits (state o l) c.fields.serial ≡ is_pending (state o l) c
 at_place_waits o l n c e =
@@ -50,7 +50,7 @@ still_none : {A B : Type 0} (f : A → B) (x : Option A) → is_none (option_map
 still_none f (Some a) = refl
 still_none f None = refl
 
--- what is shown of a serial says whether its certificate waits
+-- the data shown for a serial determine whether its certificate is pending
 pub shown_waits : (o : Opening) (l : List Arrival) (r : Revocations) (serial : ℕ) (issued : Issued)
     → AreRevocations r (state o l) → issued_of (state o l) serial ≡ Some issued
     → (is_none issued.certificate && not (is_named r serial issued.key_id)) ≡ serial_waits (state o l) serial
@@ -69,7 +69,7 @@ shown_waits o l r serial issued are = by_certificate (certificate_of s serial) r
         ∙ ap₂ (λ (a : Bool) (k : ℕ). a && not (is_named r k c.fields.key_id)) (still_none _ c.signature) (sym same)
         ∙ ap (λ (b : Bool). is_none c.signature && not b) (among_is r s c are)
 
--- what isn't shown doesn't wait
+-- a serial that isn't shown isn't pending
 pub unshown : (s : State) (serial : ℕ) → issued_of s serial ≡ None
     → false ≡ serial_waits s serial
 unshown s serial = by_certificate (certificate_of s serial)
@@ -92,7 +92,7 @@ filter_push {X} test (y ∷ ys) x =
     by_test true = refl
     by_test false = refl
 
--- one row more was looked at
+-- one more row was checked
 pub one_row_more : (test : Pending → Bool) (rows : List Pending) (i : ℕ) (d : Pending) (so_far now : List Pending)
     → i < length rows → so_far ≡ filter test (take i rows)
     → now ≡ so_far ++ cond (test (get_or rows i d)) (get_or rows i d ∷ []) [] → now ≡ filter test (take (i + 1) rows)
@@ -108,7 +108,7 @@ slice_get-take (suc n) [] k x e = e
 slice_get-take (suc n) (y ∷ ys) zero x e = e
 slice_get-take (suc n) (y ∷ ys) (suc k) x e = slice_get-take n ys k x e
 
--- what waits still of what is known is what waits before the place
+-- the remembered rows that are still pending are those of the certificates pending before the place
 pub again : (o : Opening) (l : List Arrival) (r : Revocations) (seen : ℕ) (rows : List Pending)
     → AreRevocations r (state o l) → Knows seen rows (state o l)
     → still_waiting (state o l) rows ≡ waiting_rows r (take seen (state o l).certificates)
@@ -118,7 +118,7 @@ again o l r seen rows are k =
     (λ n c e. at_place_waits o l n c (slice_get-take seen s.certificates n c e)) k.covers
     ∙ sym (rows_are r s are (take seen s.certificates))
 
--- then all that waits is known
+-- then all pending rows are known
 pub all_known : (r : Revocations) (s : State) (seen : ℕ) (rows : List Pending) → AreRevocations r s
     → seen ≡ length s.certificates → rows ≡ waiting_rows r s.certificates → Knows seen rows s × (rows ≡ pending_of s)
 all_known r s seen rows are end is =
@@ -133,7 +133,7 @@ all_known r s seen rows are end is =
       waits,
     )
 
--- what an answer is said to be follows, of each history that is meant
+-- a claim about the answer implies a weaker one, under a stronger condition on the history
 pub then_so : {X E : Type 0} (r : Result X E) (M N : Opening → List Arrival → Type 0)
     (P Q : Opening → List Arrival → X → Type 0) → ((o : Opening) (l : List Arrival) → M o l → N o l)
     → ((o : Opening) (l : List Arrival) (x : X) → M o l → P o l x → Q o l x)
@@ -146,7 +146,7 @@ then_so (Err e) M N P Q same so h = tt
 
 module _ {S X : Type 0} (means : S → Opening → List Arrival → Type 0) (register : S) (seen : ℕ) (rows : List Pending)
     (revoked : Option Revocations) (r : Result X StoreFault) where
-  -- what the register below answers is answered
+  -- the answer is that of the register below
   pub same_answer : (P : Opening → List Arrival → X → Type 0)
       → IfOk r (λ x. (o : Opening) (l : List Arrival) → means register o l → P o l x)
       → IfOk r (λ x. (o : Opening) (l : List Arrival) → MeansKnown means register seen rows revoked o l → P o l x)
@@ -174,14 +174,14 @@ pub on_err : {X E : Type 0} (r : Result X E) (A B : Type 0) → (A → B) → On
 on_err (Ok x) A B f a = tt
 on_err (Err e) A B f a = f a
 
--- where the register below means what it meant, nothing else has changed
+-- if the register below represents the same histories, what is known stays true
 pub still_known : {S : Type 0} (means : S → Opening → List Arrival → Type 0) (old new : S) (seen : ℕ) (rows : List Pending)
     (revoked : Option Revocations) → ((o : Opening) (l : List Arrival) → means old o l → means new o l) → (o : Opening)
     (l : List Arrival) → MeansKnown means old seen rows revoked o l → MeansKnown means new seen rows revoked o l
 still_known means old new seen rows revoked same o l m =
     record { register_means = same o l m.register_means; knows = m.knows; revocations = m.revocations }
 
--- and so it is with one arrival more, over which what is revoked is kept or not
+-- the same after one more received request, whether the revocations are still remembered or not
 pub known_with : {S : Type 0} (means : S → Opening → List Arrival → Type 0) (old new : S) (seen : ℕ) (rows : List Pending)
     (revoked kept : Option Revocations) (a : Arrival)
     → ((o : Opening) (l : List Arrival) → IsKept revoked (state o l) → IsKept kept (state o (l ++ a ∷ [])))
@@ -194,9 +194,9 @@ known_with means old new seen rows revoked kept a stays next o l m = record {
   revocations = stays o l m.revocations;
 }
 
--- ---- an ask of the register over another
+-- ---- a request for the pending certificates
 
--- a failure below is one within
+-- a fault's cause implies each weaker cause
 pub caused : (e : StoreFault) (A B : Type 0) → (A → B) → HasCause e A → HasCause e B
 caused Device A B f a = f a
 caused NoMemory A B f a = tt
@@ -210,7 +210,7 @@ pub cause_as : {T : Type 0} (r : Result T StoreFault) (A B : Type 0) → (A → 
 cause_as (Ok x) A B f is = tt
 cause_as (Err e) A B f is = caused e A B f is
 
--- a fault that a `?` hands on
+-- a fault passed on by `?`
 pub raised : {X : Type 0} (r : Result X StoreFault) (e : StoreFault) (A B : Type 0) → IsErrAnd r (λ f. f ≡ e) → (A → B)
     → HasCause e A → IfErr r (λ f. HasCause f B)
 raised (Ok x) e A B is f a = tt

@@ -1,4 +1,4 @@
--- What is known of certificates stays known, whatever arrives.
+-- What is known of certificates stays true, whatever request is received.
 use Rattle.std.proofs.Common.{◌≡◌, ℕ, zero, suc, ◌-◌, List, [], ◌∷◌, ◌++◌, map, take, filter, Bool, true}
 use Rattle.std.proofs.Common.{false, cond, not, ◌&&◌, ◌||◌, Some, refl, sym, ap, ap₂, subst, ◌∙◌, inl, inr, arith}
 use Rattle.std.proofs.Common.{length-append}
@@ -22,7 +22,7 @@ use Rattle.waiting.specs.Knowing.{Covers, Knows}
 
 -- ---- each change
 
--- where no more certificates wait
+-- if no further certificate becomes pending
 fewer : (P Q : Certificate → Bool) → ((c : Certificate) → P c ≡ false → Q c ≡ false) → (cs : List Certificate)
     (rows : List Pending) → Covers P cs rows → Covers Q cs rows
 fewer P Q f [] rows h = h
@@ -31,7 +31,7 @@ fewer P Q f (c ∷ cs) rows h = elim h [
   | inr gone ↦ inr (f c gone.0, fewer P Q f cs rows gone.1)
 ]
 
--- where one of them is signed
+-- if one of them is signed
 one_signed : (s : State) (n : ℕ) (cs : List Certificate) (place : ℕ) (signature : Signature) (rows : List Pending)
     → Covers (is_pending s) (take n cs) rows → Covers (is_pending s) (take n (signed_at cs place signature)) rows
 one_signed s zero cs place signature rows h = h
@@ -93,18 +93,18 @@ knows_each seen rows s moment in_time k =
       ca_published = λ key new some. record { within = k.within; covers = k.covers };
     }
 
--- what is known stays known with one arrival more
+-- what is known stays true after one more received request
 pub knows_more : (o : Opening) (l : List Arrival) (a : Arrival) (seen : ℕ) (rows : List Pending)
     → Knows seen rows (state o l) → Knows seen rows (state o (l ++ a ∷ []))
 knows_more o l a seen rows = always_more (Knows seen rows) (knows_each seen rows) o l (a ∷ [])
 
--- before the first ask
+-- before the first request for the pending certificates
 pub knows_nothing : (s : State) (seen : ℕ) (rows : List Pending) → seen ≡ 0 → rows ≡ [] → Knows seen rows s
 knows_nothing s seen rows none empty = rw (none, empty) (record { within = omega arith; covers = refl })
 
--- ---- an ask
+-- ---- a request for the pending certificates
 
--- the rows that wait still are those of the certificates that wait
+-- the rows still pending are those of the pending certificates
 pub still_are : (P : Certificate → Bool) (still : Pending → Bool) (cs : List Certificate) (rows : List Pending)
     → ((n : ℕ) (c : Certificate) → slice_get cs n ≡ Some c → still (pending_row c) ≡ P c)
     → Covers P cs rows → filter still rows ≡ map pending_row (filter P cs)
@@ -125,7 +125,7 @@ still_are P still (c ∷ cs) rows same h = elim h [
     by_test true = refl
     by_test false = refl
 
--- the rows of those that wait cover all
+-- the rows of the pending certificates cover all certificates
 pub covers_all : (P : Certificate → Bool) (cs : List Certificate) → Covers P cs (map pending_row (filter P cs))
 covers_all P [] = refl
 covers_all P (c ∷ cs) = by_test (P c) refl (covers_all P cs)

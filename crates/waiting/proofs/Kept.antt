@@ -1,4 +1,4 @@
--- What is revoked stays so, whatever arrives that doesn't revoke.
+-- The revocations stay the same after a message that revokes nothing.
 use Rattle.std.proofs.Common.{◌≡◌, ℕ, List, [], ◌∷◌, ◌++◌, Bool, true, false, cond, Option, Some, None, Result, Ok, Err}
 use Rattle.std.proofs.Common.{nat_eq, refl, sym, ap, subst, ◌∙◌}
 use Rattle.std.specs.Prelude.{codes}
@@ -36,7 +36,7 @@ its_text bytes m e =
     subst (λ (x : Message). bytes ≡ message_text x) is.1
     ((bytes_eq-Decides bytes (message_text n)).0 (and_parts (is_message n) _ is.0).1))
 
--- the text of a message that revokes begins so
+-- the text of a message that revokes begins with `revoke-`
 pub no_revocation : (bytes : List ℕ) (m : Message) → message_with_text bytes ≡ Some m
     → starts_with nat_eq bytes (codes "revoke-") ≡ false → is_revocation m ≡ false
 no_revocation bytes m is none = by_kind m (its_text bytes m is)
@@ -57,7 +57,7 @@ no_revocation bytes m is none = by_kind m (its_text bytes m is)
         let bad : true ≡ false = begins (message_text (message.RevokeKeyId k)) e in absurd (cc)
     by_kind (message.Rollover k) e = refl
 
--- ---- one arrival more
+-- ---- one more received request
 
 module _ (r : Revocations) (s : State) (moment : ℕ) (nonce : List ℕ) (are : AreRevocations r s) where
   with_one : (c : Option Certificate) → AreRevocations r (with_one_more s c)
@@ -95,7 +95,7 @@ still_revoked o l a r none are =
         subst (AreRevocations r) (sym (fold_push change (opened o) (first_accepted o l) f))
         (same_after r (state o l) f.arrival.moment f.arrival.nonce are f.message (none f.message first.message))
 
--- where what is kept is the same, and the arrival's message revokes nothing
+-- if the remembered revocations are unchanged, and the request's message revokes nothing
 pub kept_over : (o : Opening) (l : List Arrival) (a : Arrival) (bytes : List ℕ) (kept : Option Revocations)
     → ((m : Message) → message_with_text bytes ≡ Some m → is_revocation m ≡ false) → a.bytes ≡ bytes
     → IsKept kept (state o l) → IsKept kept (state o (l ++ a ∷ []))
@@ -103,7 +103,7 @@ kept_over o l a bytes None none same is = tt
 kept_over o l a bytes (Some r) none same is =
     still_revoked o l a r (λ m e. none m (ap message_with_text (sym same) ∙ e)) is
 
--- where nothing is kept
+-- if no revocations are remembered
 pub none_kept : (kept : Option Revocations) (s : State) → kept ≡ None → IsKept kept s
 none_kept None s e = tt
 none_kept (Some r) s e = absurd cc

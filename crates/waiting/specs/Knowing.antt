@@ -1,4 +1,4 @@
--- What is known of the certificates that wait for their signatures.
+-- What is known of the pending certificates, which wait for their signatures.
 use Rattle.std.specs.Prelude.{◌≡◌, ◌≤◌, ◌⊎◌, ℕ, List, [], ◌∷◌, length, take, filter, Bool, true, false, Option, IfSome}
 use Rattle.std.specs.Option.{option_map_or}
 use Rattle.message.specs.declared.kinds.Message.{Message}
@@ -13,23 +13,23 @@ use Rattle.office.specs.Listing.{AreRevocations}
 use Rattle.office.specs.Publication.{is_pending, pending_row}
 use Rattle.office.specs.State.{State, certificate_of}
 
--- each certificate has its row, in order, or it doesn't wait
+-- each certificate has its row, in order, or isn't pending
 abbrev pub Covers : (waits : Certificate → Bool) → List Certificate → List Pending → Type 0
 Covers waits [] rows = rows ≡ []
 Covers waits (c ∷ cs) rows =
     ((rest : List Pending) × (rows ≡ pending_row c ∷ rest) × Covers waits cs rest)
     ⊎ ((waits c ≡ false) × Covers waits cs rows)
 
--- the rows are of certificates before the place, and those of them that wait have theirs
+-- the rows are those of certificates before the place, including all pending ones
 pub record Knows (seen : ℕ) (rows : List Pending) (s : State) : Type 0 where
   pub within : seen ≤ length s.certificates
   pub covers : Covers (is_pending s) (take seen s.certificates) rows
 
--- the certificate of the serial waits
+-- the certificate with the serial is pending
 abbrev pub serial_waits : State → (serial : ℕ) → Bool
 serial_waits s serial = option_map_or (is_pending s) (certificate_of s serial) false
 
--- the rows whose certificates wait
+-- the rows whose certificates are pending
 abbrev pub still_waiting : State → List Pending → List Pending
 still_waiting s rows = filter (λ row. serial_waits s row.serial) rows
 
@@ -40,11 +40,12 @@ is_revocation (message.RevokeRange range) = true
 is_revocation (message.RevokeKeyId key_id) = true
 is_revocation other = false
 
--- what is kept of it is what the state revokes
+-- the remembered revocations, if any, are the state's
 abbrev pub IsKept : Option Revocations → State → Type 0
 IsKept revoked s = IfSome revoked (λ r. AreRevocations r s)
 
--- a register means a history, and what is known is so of the history's state: what waits, and what is revoked
+-- the register below represents a history, and what is known holds of its state: the pending certificates, and the
+-- revocations
 pub record MeansKnown {S : Type 0} (means : S → Opening → List Arrival → Type 0) (register : S) (seen : ℕ)
     (rows : List Pending) (revoked : Option Revocations) (o : Opening) (l : List Arrival) : Type 0 where
   pub register_means : means register o l

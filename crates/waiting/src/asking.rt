@@ -1,4 +1,4 @@
-//! An ask: what waited is looked at again, and then what was issued since.
+//! A request for the pending certificates: it checks the remembered rows again, and reads certificates issued since.
 
 ghost use Rattle.std.specs.Prelude.{◌≡◌, ◌≤◌, [], ◌∷◌, ◌++◌, ◌&&◌, IfOk, IfErr, OnOk, is_none, length, not, take};
 ghost use Rattle.std.specs.Prelude.{if◌then◌else◌};
@@ -14,7 +14,7 @@ use office::{Issued, Pending, Registry, Revocations, StoreFault, place_behind};
 use std::alloc::Global;
 use text::NoMemory;
 
-// Whether what is shown of a serial waits, where these are revoked.
+// Whether the certificate shown for a serial is pending, given these revocations.
 fn lets_wait(revocations: &Revocations, serial: u64, issued: &Issued) -> bool
     ensures { result ≡ (is_none issued.now.certificate && not (is_named revocations.now serial issued.now.key_id)) }
 {
@@ -22,7 +22,7 @@ fn lets_wait(revocations: &Revocations, serial: u64, issued: &Issued) -> bool
     issued.certificate.is_none() && !is_revoked
 }
 
-/// Whether the certificate of a row waits still, where these are revoked.
+/// Whether the certificate of a row is still pending, given these revocations.
 fn waits_still<R: Registry>(
     register: &mut R,
     alloc: Global,
@@ -41,7 +41,7 @@ fn waits_still<R: Registry>(
     }
 }
 
-// Puts a row if its certificate waits.
+// Appends a row if its certificate is pending.
 fn push_if(rows: &mut Vec<Pending>, row: &Pending, waits: bool) -> Result<(), NoMemory>
     ensures { OnOk result (rows.new.items ≡ rows.old.items ++ (if waits then row.now ∷ [] else [])) }
 {
@@ -51,7 +51,7 @@ fn push_if(rows: &mut Vec<Pending>, row: &Pending, waits: bool) -> Result<(), No
     Ok(())
 }
 
-// Puts a row if its certificate waits still, where these are revoked.
+// Appends a row if its certificate is still pending, given these revocations.
 fn push_waiting<R: Registry>(
     register: &mut R,
     alloc: Global,
@@ -71,7 +71,7 @@ fn push_waiting<R: Registry>(
     Ok(())
 }
 
-/// The rows whose certificates wait still, where these are revoked.
+/// The rows whose certificates are still pending, given these revocations.
 fn still_waiting<R: Registry>(
     register: &mut R,
     alloc: Global,
@@ -92,7 +92,7 @@ fn still_waiting<R: Registry>(
     Ok(kept)
 }
 
-/// What is known of all certificates, where this is known of those before a place, and these are revoked.
+/// What is known of all certificates, from what is known of those before a place and these revocations.
 fn learned<R: Registry>(
     register: &mut R,
     alloc: Global,
@@ -123,7 +123,7 @@ fn learned<R: Registry>(
     }
 }
 
-// What is revoked: what is kept of it, or else what the register says.
+// The revocations: the remembered ones or, if there are none, those of the register.
 fn revocations_by<R: Registry>(
     register: &mut R,
     alloc: Global,
@@ -141,8 +141,8 @@ fn revocations_by<R: Registry>(
     }
 }
 
-/// What is known after an ask, and what is revoked: the rows are those of the certificates that wait. Nothing is read of
-/// what is revoked where it is kept.
+/// What is known afterwards, and the revocations: the rows are those of the pending certificates. The revocations are
+/// read only if none are remembered.
 pub(crate) fn asked<R: Registry>(
     register: &mut R,
     alloc: Global,

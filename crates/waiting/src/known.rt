@@ -1,4 +1,4 @@
-//! What is known between two asks.
+//! What is remembered between two requests for the pending certificates.
 
 ghost use Rattle.std.specs.Prelude.{◌≡◌, [], IfOk};
 
@@ -6,17 +6,17 @@ use office::Pending;
 use std::alloc::Global;
 use text::NoMemory;
 
-/// The rows of the certificates before a place that wait for their signatures. Some may not wait any more.
+/// The rows of the certificates before a place that were pending. Some of them may not be any more.
 #[derive(Drop)]
 pub(crate) struct Known {
-    /// The place: certificates were looked at up to here.
+    /// The place: the certificates before it have been read.
     pub(crate) seen: u64,
     /// By serial.
     pub(crate) rows: Vec<Pending>,
 }
 
 impl Known {
-    /// Nothing is known.
+    /// No knowledge yet.
     pub(crate) fn nothing(alloc: Global) -> Known
         ensures seen { result.seen ≡ 0 }
         ensures rows { result.rows.items ≡ [] }

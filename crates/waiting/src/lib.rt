@@ -1,8 +1,9 @@
-//! A register that keeps in memory what waits for a signature.
+//! A register that remembers the pending certificates in memory.
 //!
-//! `Waiting` is a register over any other. Between two asks it keeps the rows that waited at the last one, and the place
-//! up to which it has looked at certificates, and what is revoked. So an ask looks at what waited and at what was issued
-//! since, and not at every certificate, and reads what is revoked only where a revocation came since the last one.
+//! `Waiting` is a register over any other. Between two requests for the pending certificates it remembers the rows that
+//! were pending at the last one, the place up to which it has read certificates, and the revocations. So a request
+//! checks those rows and reads the certificates issued since, and not every certificate, and reads the revocations only
+//! if one came since the last request.
 #![tactic(auto)]
 
 mod asking;

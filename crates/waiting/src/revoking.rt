@@ -1,4 +1,4 @@
-//! What is revoked, kept over messages.
+//! The revocations, remembered across messages.
 
 ghost use Rattle.std.specs.Prelude.{◌≡◌, ◌++◌, [], ◌∷◌, List, Some, false};
 ghost use Rattle.message.specs.declared.kinds.Message.{Message};
@@ -11,16 +11,16 @@ ghost use Rattle.waiting.specs.Knowing.{IsKept, is_revocation};
 
 use office::Revocations;
 
-// Whether the bytes may be those of a message that revokes. Those of no other message begin so.
+// Whether the bytes may be those of a message that revokes. No other message begins like this.
 fn may_revoke(bytes: &[u8]) -> bool
     ensures { result ≡ false → (m : Message) → message_with_text bytes.now ≡ Some m → is_revocation m ≡ false }
 {
     bytes.starts_with(b"revoke-")
 }
 
-/// Forgets what is revoked, if the bytes of an arrival may be those of a message that revokes.
+/// Forgets the revocations, if the bytes of a received request may be those of a message that revokes.
 pub(crate) fn forget_before(bytes: &[u8], revoked: &mut Option<Revocations>)
-    // What is kept is so of every state of which it was so, and after the arrival.
+    // Revocations still remembered hold for every state for which they held, and after the request.
     ensures before { (s : State) → IsKept revoked.old s → IsKept revoked.new s }
     ensures after { (o : Opening) (l : List Arrival) (a : Arrival) → a.bytes ≡ bytes.now
         → IsKept revoked.old (state o l) → IsKept revoked.new (state o (l ++ a ∷ [])) }

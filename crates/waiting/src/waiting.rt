@@ -14,17 +14,17 @@ use std::alloc::Global;
 use std::mem::replace;
 use text::Text;
 
-/// A register over another, that keeps in memory which certificates wait for their signatures.
+/// A register over another that remembers in memory which certificates are pending.
 #[derive(Drop)]
 pub struct Waiting<R: Registry> {
     pub(crate) register: R,
     pub(crate) known: Known,
-    // What is revoked, unless a revocation came since it was read.
+    // The revocations, unless one came since they were read.
     pub(crate) revoked: Option<Revocations>,
 }
 
 impl<R: Registry> Waiting<R> {
-    /// Over this register. Nothing is read before the first ask.
+    /// Wraps this register. Nothing is read before the first request for the pending certificates.
     pub fn new(alloc: Global, register: R) -> Waiting<R>
         ensures register { result.register ≡ register }
         ensures seen { result.known.seen ≡ 0 }
@@ -100,7 +100,7 @@ impl<R: Registry> Registry for Waiting<R> {
     }
 
     fn pending(&mut self, alloc: Global) -> Result<Vec<Pending>, StoreFault> {
-        // What was known is dropped over a fault.
+        // A fault drops what was known.
         let known = replace(&mut self.known, Known::nothing(alloc));
         let kept = self.revoked.take();
         match asked(&mut self.register, alloc, known, kept) {

@@ -1,4 +1,4 @@
--- What is answered to each kind of ask.
+-- The answer to each kind of ask.
 use Rattle.std.proofs.Common.{◌≡◌, ℕ, List, [], ◌∷◌, ◌++◌, ap, subst, ◌∙◌}
 use Rattle.std.specs.Prelude.{Result, Ok, Err, IfOk, OnOk, Vec}
 use Rattle.std.specs.declared.alloc.Global.{Global}
@@ -28,7 +28,7 @@ of_refusal (Ok v) refusal means keeps request moment nonce asks given = λ o l m
   kept = λ none. absurd none;
 }
 
--- a resource is shown by an open register
+-- a resource is returned by an open register
 pub of_resource : {E : Type 0} (r : Result (Vec ℕ Global) E) (resource : Resource) (before after : Opening → List Arrival → Type 0)
     (is_open : Type 0) (request : List ℕ) (moment : ℕ) (nonce : List ℕ) → Asks request (get resource)
     → ((o : Opening) (l : List Arrival) → before o l → IsOffice o l)

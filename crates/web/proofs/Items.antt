@@ -3,7 +3,7 @@ use Rattle.std.proofs.Common.{◌≡◌, ℕ, ◌+◌, ◌<◌, List, [], ◌∷
 use Rattle.std.specs.List.{flat_map}
 use Rattle.std.proofs.lemmas.List.{flat_map_more, take_more}
 
--- of a list whose items are copied
+-- one more item, for a list of items that can be copied
 pub one_copy_more : {X A : Type 0} (f : X → List A) (xs : List X) (i : ℕ) (d : X) (before so_far now : List A) → i < length xs
     → so_far ≡ before ++ flat_map f (take i xs) → now ≡ so_far ++ f (get_or xs i d)
     → now ≡ before ++ flat_map f (take (i + 1) xs)

@@ -1,4 +1,4 @@
--- No office has more CAs than it may have, and none publishes more parts of its list.
+-- No office has more CAs than the limit, and no published list has more parts.
 use Rattle.std.proofs.Common.{◌≡◌, ℕ, suc, ◌<◌, ◌≤◌, List, [], ◌∷◌, ◌++◌, length, Bool, true, false, cond, Option, Some, None, inl, inr, refl, sym, ap, ◌∙◌, subst, arith, lit≤, length-append}
 use Rattle.std.specs.Prelude.{Result, Ok, Err, IfErr}
 use Rattle.std.proofs.lemmas.Bool.{leb-false}
@@ -31,7 +31,7 @@ few_made : (s : State) (c : Option Certificate) → AreFew s → AreFew (with_on
 few_made s (Some c) few = few
 few_made s None few = few
 
--- a message that isn't refused leaves them few
+-- a message that isn't refused leaves at most 8 CAs
 few_after : IsKept AreFew
 few_after s caller (message.Department d) moment nonce lawful allowed few = few
 few_after s caller (message.Issue i) moment nonce lawful allowed few = few
@@ -55,14 +55,14 @@ length-parts_from : (s : State) (place : ℕ) (cas : List Ca) → length (parts_
 length-parts_from s place [] = refl
 length-parts_from s place (ca ∷ cas) = ap suc (length-parts_from s (suc place) cas)
 
--- a list has no more parts
+-- a list has at most 8 parts
 pub few_parts : (o : Opening) (l : List Arrival) (r : Revoked) → AreRevoked r (state o l) → length r.parts.items ≤ 8
 few_parts o l r is =
     let size = ap (length {A = CaPart}) is.parts ∙ length-parts_from (state o l) 0 (state o l).cas in
     let few = few_cas o l in
     omega (arith, size, few)
 
--- a fault of a list is one of a register
+-- a fault in writing a list is one that a register may return
 pub list_only : {T : Type 0} (r : Result T StoreFault) (count : ℕ) (means : Opening → List Arrival → Type 0) → IfErr r (IsOfAList count)
     → ((o : Opening) (l : List Arrival) → means o l → count ≤ 8) → IfErr r (λ e. (o : Opening) (l : List Arrival) → means o l → IsOfARegister e)
 list_only (Ok x) count means h few = tt
@@ -71,7 +71,7 @@ list_only (Err e) count means h few = λ o l m. elim h [
   | inr many ↦ absurd (omega (arith, many.1, few o l m))
 ]
 
--- and has its cause
+-- and one that it may return even if the database hasn't failed
 pub list_cause : {T : Type 0} (r : Result T StoreFault) (count : ℕ) (failed : Type 0) → IfErr r (IsOfAList count) → IfErr r (λ e. HasCause e failed)
 list_cause (Ok x) count failed h = tt
 list_cause (Err e) count failed h =

@@ -1,4 +1,4 @@
--- No reply that is due is too long for the room.
+-- No specified reply is too long for the reserved room.
 use Rattle.std.proofs.Common.{◌≡◌, subst, sym}
 use Rattle.std.specs.Prelude.{List, Result, Ok, Err, IfErr}
 use Rattle.office.specs.declared.opening.Opening.{Opening}
@@ -13,7 +13,7 @@ pub reply_fits : (o : Opening) (l : List Arrival) (a : Arrival) (outcome : Outco
     → ReplyFits 99 outcome
 reply_fits o l a outcome is same = subst (ReplyFits 99) (sym same) (due_short o l a is)
 
--- an answer whose only error speaks of a reply that doesn't fit
+-- an answer whose only error is that a reply doesn't fit
 pub only_unfit : {T E : Type 0} (r : Result T E) (damaged : E) (outcome : Outcome) (P : E → Type 0)
     → IfErr r (λ e. (e ≡ damaged) × (ReplyFits 99 outcome → ⊥))
     → ((ReplyFits 99 outcome → ⊥) → (e : E) → P e) → IfErr r P

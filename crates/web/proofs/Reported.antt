@@ -1,4 +1,4 @@
--- What is said of batches, one after the other, is said of all.
+-- A report that is written batch by batch covers all certificates.
 use Rattle.std.proofs.Common.{◌≡◌, ℕ, ◌+◌, ◌≤◌, List, [], ◌∷◌, ◌++◌, length, map, take, drop, Bool, refl, sym, ap, ap₂, ◌∙◌, arith, append_assoc}
 use Rattle.std.specs.List.{flat_map}
 use Rattle.std.specs.Prelude.{Result, Ok, Err, Vec, IfOk}
@@ -22,7 +22,7 @@ use Rattle.web.specs.Reports.{entry_line, table_report, total_line}
 
 -- ---- batches
 
--- what is said so far, and of one batch more
+-- the report so far, and with one more batch
 module _ (r : Revocations) (s : State) (place next : ℕ) (before so_far now : List ℕ)
     (fits : place ≤ length s.certificates)
     (said : so_far ≡ before ++ flat_map (line_among r) (take place s.certificates))
@@ -43,7 +43,7 @@ module _ (r : Revocations) (s : State) (place next : ℕ) (before so_far now : L
             ∙ ap (λ (t : List ℕ). before ++ t) (sym both),
       )
 
-  -- where the batch has none, it is said of all
+  -- if the batch is empty, the report covers all certificates
   pub all_said : next ≡ place → Says r s.certificates 0 place before now
   all_said same =
       let cs = s.certificates in
@@ -74,7 +74,7 @@ module _ (r : Revocations) (s : State) (are : AreRevocations r s) where
       ∙ ap (λ (n : ℕ). flat_map entry_line (map (entry_of s) s.certificates) ++ total_line n s.version)
       (sym (length-map s.certificates (entry_of s)))
 
--- a response around a report
+-- a response with a report as its body
 pub shows_report : {E : Type 0} (r : Result (Vec ℕ Global) E) (body : List ℕ) (report : State → List ℕ)
     (means : Opening → List Arrival → Type 0) → ((o : Opening) (l : List Arrival) → means o l → body ≡ report (state o l))
     → IfOk r (λ v. v.items ≡ response_text 200 PlainText body)

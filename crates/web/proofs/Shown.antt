@@ -1,4 +1,4 @@
--- What is shown of a register, and a fault for want of memory.
+-- The data that a register returns, and faults for lack of memory.
 use Rattle.std.proofs.Common.{◌≡◌, ℕ, List, ap, sym, subst, ◌∙◌}
 use Rattle.std.specs.Prelude.{Result, Ok, Err, Vec, IfOk, IfErr}
 use Rattle.std.specs.declared.alloc.Global.{Global}
@@ -13,7 +13,7 @@ use Rattle.office.specs.Faults.{HasCause, IsOfARegister}
 use Rattle.office.specs.Registers.{FailsWithin}
 use Rattle.web.specs.Answers.{AsksNoChange, IsNoMessage}
 
--- a response with what is found is one with what the histories show
+-- a response with the data found is one with the data of each history
 pub shows : {X E : Type 0} (r : Result (Vec ℕ Global) E) (text : X → List ℕ) (found : X) (shown : Opening → List Arrival → X)
     (means : Opening → List Arrival → Type 0) → ((o : Opening) (l : List Arrival) → means o l → found ≡ shown o l)
     → IfOk r (λ v. v.items ≡ text found)
@@ -21,18 +21,18 @@ pub shows : {X E : Type 0} (r : Result (Vec ℕ Global) E) (text : X → List �
 shows (Ok v) text found shown means same is = λ o l m. is ∙ ap text (same o l m)
 shows (Err e) text found shown means same is = tt
 
--- what is asked is no message if the bytes ask none
+-- if the bytes of a request ask nothing that can change the stored rows, their ask is no message
 pub is_no_message : (request : List ℕ) (ask : Ask) → Asks request ask → AsksNoChange request → IsNoMessage ask
 is_no_message request ask asks none =
     let N : Ask → Type 0 = IsNoMessage in
     subst N (one_of request none.0 ask none.1 asks) none.2
 
--- what is so of each fault is so of the one that a call ends with
+-- a property of every fault holds of the one that a call ends with
 pub always_err : {T E : Type 0} (r : Result T E) (P : E → Type 0) → ((e : E) → P e) → IfErr r P
 always_err (Ok x) P is = tt
 always_err (Err e) P is = is e
 
--- a register may lack memory
+-- lack of memory is a fault that a register may return
 pub memory_only : {T : Type 0} (r : Result T StoreFault) (means : Opening → List Arrival → Type 0) → IfErr r (λ e. e ≡ NoMemory)
     → IfErr r (λ e. (o : Opening) (l : List Arrival) → means o l → IsOfARegister e)
 memory_only (Ok x) means is = tt
@@ -43,7 +43,7 @@ pub memory_cause : {T : Type 0} (r : Result T StoreFault) (failed : Type 0) → 
 memory_cause (Ok x) failed is = tt
 memory_cause (Err e) failed is = subst (λ (f : StoreFault). HasCause f failed) (sym is) tt
 
--- a failure of the database has what follows from it
+-- the cause of a fault may be replaced by one that it implies
 caused : (e : StoreFault) (A B : Type 0) → (A → B) → HasCause e A → HasCause e B
 caused Device A B f a = f a
 caused NoMemory A B f a = tt
@@ -57,7 +57,7 @@ pub cause_as : {T : Type 0} (r : Result T StoreFault) (A B : Type 0) → (A → 
 cause_as (Ok x) A B f is = tt
 cause_as (Err e) A B f is = caused e A B f is
 
--- and was met by a register that meant what it had meant
+-- and by a failure within a register that still meant the same histories
 pub cause_within : {T S : Type 0} (means : S → Opening → List Arrival → Type 0) (fails : S → S → Type 0) (old new : S)
     (r : Result T StoreFault) → IfErr r (λ e. HasCause e (fails old new))
     → IfErr r (λ e. HasCause e (FailsWithin means fails old new))

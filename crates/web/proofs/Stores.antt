@@ -1,4 +1,4 @@
--- Why a fault of the register is told as `Store`.
+-- When a fault of the register is reported as `Store`.
 use Rattle.std.proofs.Common.{◌≡◌, sym, ◌∙◌}
 use Rattle.std.specs.Prelude.{Result, Ok, Err, IsErrAnd}
 use Rattle.office.specs.declared.store_fault.StoreFault.{StoreFault}
@@ -8,7 +8,7 @@ use Rattle.web.specs.declared.serve_fault.ServeFault.{ServeFault}
 use Rattle.web.specs.declared.serve_fault.ServeFault.TheVariants.{Store}
 use Rattle.web.specs.Faults.{fault_of}
 
--- of a register that means a history only a fault with a cause is told so
+-- for a register that means a history, only a fault with a cause is reported as `Store`
 cause_of : (e : StoreFault) (stopped : Type 0) → fault_of e ≡ Store → IsOfARegister e → HasCause e stopped → stopped
 cause_of Device stopped same only cause = cause
 cause_of NoMemory stopped same only cause = absurd (cc)
@@ -17,7 +17,7 @@ cause_of NotAnOffice stopped same only cause = absurd only
 cause_of WrongSchema stopped same only cause = absurd only
 cause_of Damaged stopped same only cause = absurd only
 
--- a result that tells it has that cause
+-- a result that reports `Store` has that cause
 pub cause_of_store : {T : Type 0} (told : Result T ServeFault) (e : StoreFault) (stopped : Type 0) → IsErrAnd told (λ f. f ≡ fault_of e)
     → told ≡ Err Store → IsOfARegister e → HasCause e stopped → stopped
 cause_of_store (Ok x) e stopped gives same only cause = absurd (cc)

@@ -1,4 +1,4 @@
--- Bytes that are taken one after the other.
+-- Bytes that are taken one after another.
 use Rattle.std.proofs.Common.{◌≡◌, ℕ, ◌≤◌, List, ◌∷◌, [], ◌++◌, length, take, ap, refl, sym, ◌∙◌, arith, subst, Option}
 use Rattle.std.proofs.Common.{get_or, inl, inr}
 use Rattle.std.specs.Prelude.{Result, Ok, Err, IfOk}
@@ -32,7 +32,7 @@ byte_more old mid new taken buf after n one most some e x y =
     let P : List ℕ → Type 0 = Consumes mid new in
     rw e (Consumes-trans old mid new taken (get_or buf 0 0 ∷ []) x (subst P byte y))
 
--- a request whose head wants no body was taken with its front
+-- a request whose head requires no body is taken once its front is
 pub front_taken : (old new : Option (List ℕ)) (front : List ℕ) (plan : Plan) (request : Request)
     → Consumes old new front → IsFront new front → Plans front plan → plan_size plan ≡ 0
     → plan_ask plan [] ≡ request_ask request → IsTaken old new request
@@ -61,7 +61,7 @@ front_taken old new front plan request taken is (inr (h, rest, good, plans)) siz
       asks = inr (h, [], alone, subst R ask (plans.asks []));
     }
 
--- a request was taken with its front and the body that the head wants
+-- a request is taken once its front and the body that the head requires are
 pub body_taken : (old mid new : Option (List ℕ)) (front : List ℕ) (plan : Plan) (request : Request)
     → Consumes old mid front → IsFront mid front → Plans front plan → ¬ (plan ≡ Refused BadHead)
     → TakesBody mid new (plan_size plan) (plan_ask plan) request → IsTaken old new request
@@ -83,7 +83,7 @@ body_taken old mid new front plan request taken is (inr (h, rest, good, plans)) 
       asks = inr (h, body.body, whole, subst R (sym body.asks) (plans.asks body.body));
     }
 
--- so it is where taking the body may have failed
+-- the same if taking the body may fail
 pub bodies_taken : {E : Type 0} (r : Result Request E) (old mid new : Option (List ℕ)) (front : List ℕ) (plan : Plan)
     → Consumes old mid front → IsFront mid front → Plans front plan → ¬ (plan ≡ Refused BadHead)
     → IfOk r (TakesBody mid new (plan_size plan) (plan_ask plan)) → IfOk r (IsTaken old new)

@@ -1,4 +1,4 @@
--- A run of exchanges over a register, some of which are done.
+-- A batch of exchanges over a register, some of which are done.
 use Rattle.std.proofs.Common.{◌≡◌, ◌⊎◌, inl, inr, ℕ, List, [], ◌∷◌, ◌++◌, refl, sym, subst, append_assoc}
 use Rattle.std.proofs.lemmas.List.{append-nil}
 use Rattle.http_requests.proofs.OneAsk.{one_of}
@@ -11,7 +11,7 @@ use Rattle.web.specs.declared.exchange.Given.TheVariants.{Answer, Fault}
 use Rattle.web.specs.Answers.{AsksTheRegister, IsAnswered, IsOfTheRegister, with_ask}
 use Rattle.web.specs.Runs.{AllDue, HasAnswered, Serves}
 
--- what is known to have answered before is known of more
+-- `HasAnswered` is monotone in its first argument
 answered_still : (A B : Type 0) (xs : List Exchange) (given : List Given) → (A → B) → HasAnswered A xs given → HasAnswered B xs given
 answered_still A B [] [] f h = f h
 answered_still A B [] (g ∷ given) f h = absurd h
@@ -23,7 +23,7 @@ answered_still A B (x ∷ xs) (Answer response ∷ given) f h =
     ]) h
 answered_still A B (x ∷ xs) (Fault ∷ given) f h = h
 
--- the history h is reached, and whatever the rest is given, it goes on from there
+-- the history h is reached, and the results of the remaining exchanges continue from there
 pub record Reaches (o : Opening) (now : Opening → List Arrival → Type 0) (is_open : Type 0) (l : List Arrival) (all rest : List Exchange)
     (given : List Given) : Type 0 where
   pub h : List Arrival
@@ -42,7 +42,7 @@ starts means is_open all = λ o l m. record {
   answered = λ more answered. answered_still ⊥ is_open all more (λ none. absurd none) answered;
 }
 
--- the next was answered
+-- the next exchange was answered
 goes_on : (before now new : Opening → List Arrival → Type 0) (was_open is_open : Type 0) (all rest : List Exchange) (x : Exchange)
     (given : List Given) (response : List ℕ)
     → IsAnswered now new (λ o l. new o l × is_open) x.request x.moment x.nonce response → (was_open → is_open)
@@ -68,7 +68,7 @@ goes_on before now new was_open is_open all rest x given response answers stays 
           (subst (λ (g : List Given). HasAnswered ⊥ all g) (append_assoc given (Answer response ∷ []) more) answered));
     }
 
--- the next met a fault
+-- the next exchange ended with a fault
 goes_by : (before now new : Opening → List Arrival → Type 0) (was_open is_open : Type 0) (all rest : List Exchange) (x : Exchange)
     (given : List Given) → ((o : Opening) (l : List Arrival) → now o l → new o l)
     → IsUnderway before now was_open all (x ∷ rest) given → IsUnderway before new is_open all rest (given ++ Fault ∷ [])
@@ -84,7 +84,7 @@ goes_by before now new was_open is_open all rest x given same u = λ o l m.
           (subst (λ (g : List Given). HasAnswered ⊥ all g) (append_assoc given (Fault ∷ []) more) answered));
     }
 
--- the next was given one of both
+-- the next exchange ended with an answer or a fault
 pub goes_with : (before now new : Opening → List Arrival → Type 0) (was_open is_open : Type 0) (all rest : List Exchange) (x : Exchange)
     (given : List Given) (one : Given)
     → ((response : List ℕ) → one ≡ Answer response
@@ -97,7 +97,7 @@ goes_with before now new was_open is_open all rest x given (Answer response) ans
 goes_with before now new was_open is_open all rest x given Fault answers same =
     goes_by before now new was_open is_open all rest x given (same refl)
 
--- nothing is left
+-- no exchange is left
 pub is_done : (before now : Opening → List Arrival → Type 0) (is_open : Type 0) (all : List Exchange) (given : List Given)
     → IsUnderway before now is_open all [] given → Serves before now (λ o l. now o l × is_open) all given
 is_done before now is_open all given u = λ o l m.

@@ -1,4 +1,4 @@
--- What is answered to a request.
+-- The answer to a request.
 use Rattle.std.specs.Prelude.{◌≡◌, IsTrue, ℕ, List, [], ◌∷◌, ◌++◌, Option, Some, None}
 use Rattle.values.specs.declared.refusal.Refusal.TheVariants.{UnknownSerial, NotSigned}
 use Rattle.lines.specs.CertLines.{certificate_line_text}
@@ -26,12 +26,12 @@ outcome_response (outcome.Accepted reply) = response_text 200 PlainText reply
 outcome_response (outcome.Repeated reply) = response_text 200 PlainText reply
 outcome_response (outcome.Refused refusal) = refusal_response refusal
 
--- the bytes of a body
+-- the response with the bytes of a body (an unsigned certificate)
 abbrev pub body_response : Option (List ℕ) → List ℕ
 body_response (Some body) = response_text 200 Bytes body
 body_response None = refusal_response UnknownSerial
 
--- the line of a certificate, with its key id as comment, where it is signed
+-- the response with the line of a certificate, with its key ID as comment, if it is signed
 abbrev pub signed_response : (key_id : List ℕ) → Option (List ℕ) → List ℕ
 signed_response key_id (Some certificate) =
     response_text 200 PlainText (certificate_line_text certificate key_id ++ 10 ∷ [])
@@ -54,12 +54,12 @@ resource_response s Signers = response_text 200 PlainText (signers_report s)
 resource_response s Table = response_text 200 PlainText (table_report s)
 resource_response s Cas = response_text 200 PlainText (ca_report s)
 
--- each section of the published list has a length of 32 bits
+-- the length of each section of the published list fits in 32 bits
 abbrev pub ListFits : State → Type 0
 ListFits s = IsTrue (fits (published_parts s) s.revoked_key_ids)
 
--- A history after which the list may be given: it is an office's, and the list fits. By the laws of the list so much is
--- enough for it to be exact.
+-- A history after which the list may be returned: it is an office's, and the list fits. By the theorems about the list
+-- this suffices for the list to be exact.
 pub record MayList (o : Opening) (l : List Arrival) : Type 0 where
   pub office : IsOffice o l
   pub fits : ListFits (state o l)
@@ -68,47 +68,47 @@ abbrev pub arrival_by : (caller key message : List ℕ) → ℕ → List ℕ →
 arrival_by caller key message moment nonce =
     record { caller = caller; key = key; bytes = message; moment = moment; nonce = nonce }
 
--- the response that is due after a history
+-- the specified response after a history
 abbrev pub answer_text : Opening → List Arrival → Ask → ℕ → List ℕ → List ℕ
 answer_text o l (refused refusal) moment nonce = refusal_response refusal
 answer_text o l (get resource) moment nonce = resource_response (state o l) resource
 answer_text o l (post caller key message) moment nonce =
     outcome_response (due o l (arrival_by caller key message moment nonce))
 
--- the history with the arrival of what was asked, where it has one
+-- the history followed by the arrival of the ask, if it has one
 abbrev pub with_ask : List Arrival → Ask → ℕ → List ℕ → List Arrival
 with_ask l (refused refusal) moment nonce = l
 with_ask l (get resource) moment nonce = l
 with_ask l (post caller key message) moment nonce = l ++ arrival_by caller key message moment nonce ∷ []
 
--- something is asked of the register; a refusal asks nothing of it, and is given by the bytes of the request alone
+-- the ask needs the register; a refusal does not, since it is determined by the bytes of the request alone
 abbrev pub IsOfTheRegister : Ask → Type 0
 IsOfTheRegister (refused refusal) = ⊥
 IsOfTheRegister (get resource) = Unit {0}
 IsOfTheRegister (post caller key message) = Unit {0}
 
--- nothing is asked that may change what is kept: a resource, or nothing that is answered but by a refusal
+-- the ask can't change the stored rows: it is for a resource, or is refused at once
 abbrev pub IsNoMessage : Ask → Type 0
 IsNoMessage (refused refusal) = Unit {0}
 IsNoMessage (get resource) = Unit {0}
 IsNoMessage (post caller key message) = ⊥
 
--- so it is of the bytes of a request
+-- the bytes of a request ask nothing that can change the stored rows
 abbrev pub AsksNoChange : List ℕ → Type 0
 AsksNoChange request = (ask : Ask) × Asks request ask × IsNoMessage ask
 
--- the bytes of a request ask something of the register
+-- the bytes of a request ask something that needs the register
 abbrev pub AsksTheRegister : List ℕ → Type 0
 AsksTheRegister request = (ask : Ask) × Asks request ask × IsOfTheRegister ask
 
--- a register means a history and is open, so that it keeps the history
+-- the register means a history and is open, so it preserves the history
 abbrev pub Keeps : {S : Type 0} → (means : S → Opening → List Arrival → Type 0) → (is_open : S → Type 0)
     → S → Opening → List Arrival → Type 0
 Keeps means is_open s o l = means s o l × is_open s
 
--- The response is the one that is due to what the request asks, and the list is given only where it may be. The
--- register then means the history with the request's arrival. Where something was asked of the register, it keeps that
--- history.
+-- The response is the one specified for what the request asks, and the list is returned only if it may be. The register
+-- then means the history followed by the request's arrival, if it has one. If the ask needed the register, it preserves
+-- that history.
 pub record Answers (o : Opening) (l : List Arrival) (request : List ℕ) (moment : ℕ) (nonce response : List ℕ)
     (means keeps : List Arrival → Type 0) : Type 0 where
   pub ask : Ask
@@ -118,7 +118,7 @@ pub record Answers (o : Opening) (l : List Arrival) (request : List ℕ) (moment
   pub history : means (with_ask l ask moment nonce)
   pub kept : IsOfTheRegister ask → keeps (with_ask l ask moment nonce)
 
--- so it does, whatever office the register meant before
+-- the same for every office and history that the register meant before
 abbrev pub IsAnswered : (before after keeps : Opening → List Arrival → Type 0) → (request : List ℕ) → ℕ
     → (nonce response : List ℕ) → Type 0
 IsAnswered before after keeps request moment nonce response = (o : Opening) (l : List Arrival) → before o l

@@ -1,11 +1,11 @@
--- What a fault of serving says.
+-- The faults of serving.
 use Rattle.std.specs.Prelude.{Bool, true, false, Result, Ok, Err}
 use Rattle.office.specs.declared.store_fault.StoreFault.{StoreFault}
 use Rattle.office.specs.declared.store_fault.StoreFault.TheVariants as store
 use Rattle.web.specs.declared.serve_fault.ServeFault.{ServeFault}
 use Rattle.web.specs.declared.serve_fault.ServeFault.TheVariants.{Read, Nonces, Store, NoMemory, Write}
 
--- the fault that a fault of the register is
+-- the fault of serving for a fault of the register
 abbrev pub fault_of : StoreFault → ServeFault
 fault_of store.NoMemory = NoMemory
 fault_of store.AlreadyAnOffice = Store
@@ -32,7 +32,7 @@ is_write (Err Store) = false
 is_write (Err NoMemory) = false
 is_write (Err Write) = true
 
--- a fact of a call that wrote nothing
+-- a fact about a call that wrote nothing
 abbrev pub IfUnserved : {A : Type 0} → Result A ServeFault → Type 0 → Type 0
 IfUnserved (Ok a) P = Unit {0}
 IfUnserved (Err Read) P = P
@@ -41,7 +41,7 @@ IfUnserved (Err Store) P = P
 IfUnserved (Err NoMemory) P = P
 IfUnserved (Err Write) P = Unit {0}
 
--- a fact of a call that served its request, though the response may have been cut
+-- a fact about a call that served its request, though the response may have been cut short
 abbrev pub IfServed : {A : Type 0} → Result A ServeFault → Type 0 → Type 0
 IfServed (Ok a) P = P
 IfServed (Err Read) P = Unit {0}
@@ -50,7 +50,7 @@ IfServed (Err Store) P = Unit {0}
 IfServed (Err NoMemory) P = Unit {0}
 IfServed (Err Write) P = P
 
--- a call that takes bytes fails by its reader, or by want of memory
+-- a call that takes bytes fails only because its reader does, or for lack of memory
 abbrev pub IsOfTaking : ServeFault → Type 0
 IsOfTaking Read = Unit {0}
 IsOfTaking NoMemory = Unit {0}

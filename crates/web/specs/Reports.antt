@@ -1,4 +1,4 @@
--- The texts that are given of an office's state.
+-- The reports about an office's state.
 use Rattle.std.specs.Prelude.{ℕ, suc, List, [], ◌∷◌, ◌++◌, length, drop, map, Bool, true, false, ◌&&◌, nat_lt, codes}
 use Rattle.std.specs.Prelude.{decimal, if◌then◌else◌}
 use Rattle.std.specs.List.{flat_map}
@@ -17,9 +17,9 @@ use Rattle.office.specs.State.{State}
 use Rattle.office.specs.Publication.{pending_of, departments_of, entries_of}
 use Rattle.message.specs.Texts.{kind_text}
 
--- ---- what waits for a signature
+-- ---- pending certificates
 
--- the serial, a space, and the digest of the body
+-- the serial, a space, and the digest of the unsigned certificate
 abbrev pub pending_line : Pending → List ℕ
 pending_line p = decimal p.serial ++ (32 ∷ (p.digest ++ (10 ∷ [])))
 
@@ -39,7 +39,7 @@ abbrev pub ca_lines_from : ℕ → List Ca → List ℕ
 ca_lines_from number [] = []
 ca_lines_from number (ca ∷ cas) = ca_line number ca ++ ca_lines_from (suc number) cas
 
--- they are numbered from 1
+-- the lines of the CAs, which are numbered from 1
 abbrev pub ca_lines : List Ca → List ℕ
 ca_lines cas = ca_lines_from 1 cas
 
@@ -52,18 +52,18 @@ abbrev pub is_of_users : Kind → Bool
 is_of_users User = true
 is_of_users Host = false
 
--- a department of users that has namespaces
+-- a department for users that has namespaces
 abbrev pub is_signing : Department → Bool
 is_signing d = is_of_users d.kind && nat_lt 0 (length d.namespaces)
 
 abbrev pub signer_row : Department → Ca → SignerRow
 signer_row d ca = record { rules = d.rules; namespaces = d.namespaces; ca = ca.key }
 
--- a row for each CA by number, where the department signs
+-- a row for each CA by number, if the department signs
 abbrev pub signer_rows_of : List Ca → Department → List SignerRow
 signer_rows_of cas d = if is_signing d then map (signer_row d) cas else []
 
--- by the departments' names
+-- the rows by the departments' names
 abbrev pub signer_rows : List Department → List Ca → List SignerRow
 signer_rows ds cas = flat_map (signer_rows_of cas) ds
 
@@ -72,11 +72,11 @@ signers_report s = signers_text (signer_rows (departments_of s) s.cas)
 
 -- ---- the table
 
--- a text at the right end of places
+-- a text, right-aligned in these places
 abbrev pub right_in : (places text : List ℕ) → List ℕ
 right_in places text = drop (length text) places ++ text
 
--- in 7 places
+-- the status in 7 places
 abbrev pub standing_word : Standing → List ℕ
 standing_word standing.Pending = codes "pending"
 standing_word standing.Signed = codes "signed "
@@ -93,7 +93,7 @@ moment_places = codes "            "
 abbrev pub gap : List ℕ
 gap = codes "  "
 
--- serial, kind, standing, both ends of the validity and key id
+-- serial, kind, status, start and end of the validity, and key ID
 abbrev pub entry_line : Entry → List ℕ
 entry_line e =
     right_in serial_places (decimal e.serial)
@@ -104,7 +104,7 @@ entry_line e =
 abbrev pub total_line : (count version : ℕ) → List ℕ
 total_line count version = codes "total " ++ (decimal count ++ (codes " version " ++ (decimal version ++ (10 ∷ []))))
 
--- a line for each certificate by serial, and the total
+-- a line for each certificate by serial, and then the total
 abbrev pub table_lines : List Entry → ℕ → List ℕ
 table_lines entries version = flat_map entry_line entries ++ total_line (length entries) version
 

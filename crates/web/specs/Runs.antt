@@ -1,4 +1,4 @@
--- What is answered to requests one after the other, some of which met a fault.
+-- The answers to successive requests, some of which end with a fault.
 use Rattle.std.specs.Prelude.{◌≡◌, ◌⊎◌, All, List, [], ◌∷◌}
 use Rattle.http_requests.specs.declared.resource.Resource.TheVariants.{RevocationList}
 use Rattle.http_requests.specs.Asks.{Ask, Asks, get}
@@ -9,8 +9,8 @@ use Rattle.web.specs.declared.exchange.Given.{Given}
 use Rattle.web.specs.declared.exchange.Given.TheVariants.{Answer, Fault}
 use Rattle.web.specs.Answers.{AsksNoChange, AsksTheRegister, MayList, answer_text, with_ask}
 
--- Each exchange is given the response that is due after the arrivals before it that met no fault, or a fault, and the
--- list is given only where it may be. The last history is the first with the arrivals of all that met no fault.
+-- Each exchange gets a fault, or the response specified after the arrivals before it that got no fault, and the list is
+-- returned only if it may be. The last history is the first, followed by the arrivals of all that got no fault.
 abbrev pub AllDue : Opening → List Arrival → List Exchange → List Given → List Arrival → Type 0
 AllDue o l (x ∷ xs) (Answer response ∷ given) last =
     (a : Ask) × Asks x.request a × (response ≡ answer_text o l a x.moment x.nonce)
@@ -20,8 +20,8 @@ AllDue o l [] [] last = last ≡ l
 AllDue o l (x ∷ xs) [] last = ⊥
 AllDue o l [] (g ∷ given) last = ⊥
 
--- The register has answered since the last fault. Before these exchanges that held where `so_far` does. A response to a
--- request that asks nothing of the register leaves it as it is.
+-- The register has answered since the last fault; `so_far` is whether it had before these exchanges. A response to a
+-- request that doesn't need the register leaves this as it is.
 abbrev pub HasAnswered : (so_far : Type 0) → List Exchange → List Given → Type 0
 HasAnswered so_far (x ∷ xs) (Answer response ∷ given) = HasAnswered (so_far ⊎ AsksTheRegister x.request) xs given
 HasAnswered so_far (x ∷ xs) (Fault ∷ given) = HasAnswered ⊥ xs given
@@ -29,8 +29,8 @@ HasAnswered so_far [] [] = so_far
 HasAnswered so_far (x ∷ xs) [] = ⊥
 HasAnswered so_far [] (g ∷ given) = ⊥
 
--- Whatever office the register meant before, all is due, and it then means the last history. Where it has answered
--- since the last fault, it keeps that history.
+-- For every office and history that the register meant before, the results are as specified, and it then means the last
+-- history. If it has answered since the last fault, it preserves that history.
 abbrev pub Serves : (before after keeps : Opening → List Arrival → Type 0) → List Exchange → List Given → Type 0
 Serves before after keeps exchanges given = (o : Opening) (l : List Arrival) → before o l → (last : List Arrival)
     × AllDue o l exchanges given last × after o last × (HasAnswered ⊥ exchanges given → keeps o last)

@@ -1,4 +1,4 @@
--- What one call takes and answers.
+-- The input that one call takes, and its answer.
 use Rattle.std.specs.Prelude.{◌≡◌, ◌⊎◌, ℕ, List, length, Option}
 use Rattle.std.specs.Io.KnownBytes.{Consumes}
 use Rattle.office.specs.declared.opening.Opening.{Opening}
@@ -6,9 +6,9 @@ use Rattle.office.specs.declared.arrival.Arrival.{Arrival}
 use Rattle.web.specs.Answers.{AsksNoChange, IsAnswered}
 use Rattle.web.specs.Requests.{IsOneRequest}
 
--- Exactly one request and one nonce were taken of what the reader and the nonce source had left, and the response is
--- the one that is due to them. The register then means the history with the request's arrival, where it has one. Where
--- something was asked of the register, it keeps that history.
+-- Exactly one request and one nonce were taken from the bytes that the reader and the nonce source had left, and the
+-- response is the one specified for them. The register then means the history followed by the request's arrival, if it
+-- has one. If the ask needed the register, it preserves that history.
 pub record Served (reader reader' nonces nonces' : Option (List ℕ)) (moment : ℕ) (honest : Type 0)
     (before after keeps : Opening → List Arrival → Type 0) : Type 0 where
   pub request : List ℕ
@@ -20,7 +20,7 @@ pub record Served (reader reader' nonces nonces' : Option (List ℕ)) (moment : 
   pub nonce_size : length nonce ≡ 32
   pub answered : honest → IsAnswered before after keeps request moment nonce response
 
--- Exactly one request and one nonce were taken so, and the register was stopped in answering them.
+-- Exactly one request and one nonce were taken in the same way, and the register was stopped in answering them.
 pub record Stopped (reader reader' nonces nonces' : Option (List ℕ)) (stops : (request nonce : List ℕ) → Type 0)
     : Type 0 where
   pub request : List ℕ
@@ -31,13 +31,13 @@ pub record Stopped (reader reader' nonces nonces' : Option (List ℕ)) (stops : 
   pub nonce_size : length nonce ≡ 32
   pub stopped : stops request nonce
 
--- Exactly one request was taken, and all that is kept is as before if that is no message.
+-- Exactly one request was taken, and the stored rows are unchanged if it is no message.
 pub record Takes (reader reader' : Option (List ℕ)) (is_as_before : Type 0) : Type 0 where
   pub request : List ℕ
   pub taken : Consumes reader reader' request
   pub one : IsOneRequest reader' request
   pub reads : AsksNoChange request → is_as_before
 
--- So it is, or no request was answered, and all that is kept is as before.
+-- The stored rows are unchanged, or exactly one request was taken, and they are unchanged if it is no message.
 abbrev pub KeepsIfRead : (reader reader' : Option (List ℕ)) → (is_as_before : Type 0) → Type 0
 KeepsIfRead reader reader' is_as_before = is_as_before ⊎ Takes reader reader' is_as_before

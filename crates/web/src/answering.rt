@@ -1,4 +1,4 @@
-//! Arrivals answered.
+//! Answering arrivals.
 
 ghost use Rattle.std.specs.Prelude.{◌≡◌, ◌≢◌, ◌≤◌, ◌++◌, [], ◌∷◌, IfOk, OnOk, OnErr, IfErr, length, vec_capacity};
 ghost use Rattle.http_requests.specs.declared.response.MediaType.TheVariants.{PlainText};
@@ -16,10 +16,10 @@ use office::{Arrival, Outcome, Registry, StoreFault};
 use std::alloc::Global;
 use text::Text;
 
-/// The most bytes of a reply that an office gives.
+/// The most bytes in a reply of an office.
 const MAX_REPLY: usize = 99;
 
-/// The response with a reply. A longer one than any that an office gives is damage.
+/// The response with a reply. A reply longer than any of an office's is treated as damage.
 fn to_reply(room: Vec<u8>, reply: &Text) -> Result<Vec<u8>, StoreFault>
     requires empty { room.items ≡ [] }
     requires space { ROOM ≤ vec_capacity room }
@@ -33,7 +33,7 @@ fn to_reply(room: Vec<u8>, reply: &Text) -> Result<Vec<u8>, StoreFault>
     Ok(respond(room, MediaType::PlainText, reply))
 }
 
-/// The response with what an arrival is answered.
+/// The response with the answer to an arrival.
 fn to_outcome(room: Vec<u8>, outcome: &Outcome) -> Result<Vec<u8>, StoreFault>
     requires empty { room.items ≡ [] }
     requires space { ROOM ≤ vec_capacity room }

@@ -1,4 +1,4 @@
-//! What the table says of each certificate, in batches: no more than one batch of certificates is held.
+//! The table's lines, in batches: at most one batch of certificates is held in memory.
 
 ghost use Rattle.std.specs.Prelude.{◌≡◌, ◌≤◌, ◌++◌, IfOk, OnOk, IfErr};
 ghost use Rattle.std.specs.List.{flat_map};
@@ -39,7 +39,7 @@ fn put_lines(
     Ok(())
 }
 
-/// Puts what the table says of a batch, and answers the place behind it, which is its own place where it has none.
+/// Appends the lines of a batch, and returns the place after it, which is the batch's own place if it is empty.
 fn put_batch<R: Registry>(
     registry: &mut R,
     alloc: Global,
@@ -60,7 +60,7 @@ fn put_batch<R: Registry>(
     Ok(place_behind(place, &batch)?)
 }
 
-/// Puts what the table says of each certificate, and answers how many certificates there are.
+/// Appends the lines of all certificates, and returns the number of certificates.
 pub(crate) fn put_all<R: Registry>(
     registry: &mut R,
     alloc: Global,

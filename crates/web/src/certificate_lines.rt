@@ -1,4 +1,4 @@
-//! Certificates given.
+//! Responses with certificates.
 
 ghost use Rattle.std.specs.Prelude.{◌≡◌, ◌++◌, IfOk, OnOk, IfErr};
 ghost use Rattle.http_requests.specs.declared.response.MediaType.TheVariants.{PlainText};
@@ -20,7 +20,7 @@ use std::alloc::Global;
 use text::NoMemory;
 use values::{Refusal, put_decimal};
 
-/// The response with the body of a serial.
+/// The response with the body (the unsigned certificate) for a serial.
 pub(crate) fn to_serial_body<R: Registry>(
     registry: &mut R,
     alloc: Global,
@@ -39,7 +39,7 @@ pub(crate) fn to_serial_body<R: Registry>(
     }
 }
 
-/// The response with the line of a certificate, whose comment is the key id.
+/// The response with the line of a certificate, whose comment is the key ID.
 fn to_line(alloc: Global, issued: &Issued) -> Result<Vec<u8>, StoreFault>
     ensures ok { IfOk result (λ v. v.items ≡ issued_response issued.now) }
     ensures err { IfErr result (λ e. e ≡ StoreFault.NoMemory) }
@@ -54,7 +54,7 @@ fn to_line(alloc: Global, issued: &Issued) -> Result<Vec<u8>, StoreFault>
     to_body(alloc, MediaType::PlainText, &line)
 }
 
-/// The response with the certificate of a serial.
+/// The response with the certificate for a serial.
 pub(crate) fn to_certificate<R: Registry>(
     registry: &mut R,
     alloc: Global,
@@ -73,7 +73,7 @@ pub(crate) fn to_certificate<R: Registry>(
     }
 }
 
-/// Puts the line of a certificate that waits for its signature.
+/// Appends the line of a pending certificate.
 fn put_pending(out: &mut Vec<u8>, row: &Pending) -> Result<(), NoMemory>
     ensures { OnOk result (out.new.items ≡ out.old.items ++ pending_line row.now) }
 {
@@ -91,7 +91,7 @@ fn pending_lines(alloc: Global, rows: &[Pending]) -> Result<Vec<u8>, NoMemory>
     Ok(out)
 }
 
-/// The response with the certificates that wait for their signatures.
+/// The response with the pending certificates.
 pub(crate) fn to_pending<R: Registry>(
     registry: &mut R,
     alloc: Global,

@@ -1,8 +1,8 @@
-//! Requests that were handed in, and what they were given.
+//! Requests for `run`, and their results.
 
 use text::Text;
 
-/// A request with the moment and the nonce that are handed in with it.
+/// A request, with the time and the nonce to be used for it.
 #[derive(Drop)]
 pub struct Exchange {
     /// The bytes of an HTTP request.
@@ -12,11 +12,11 @@ pub struct Exchange {
     pub nonce: [u8; 32],
 }
 
-/// What an exchange was given.
+/// The result of an exchange.
 #[derive(Drop)]
 pub enum Given {
     /// The bytes of a response.
     Answer(Text),
-    /// Nothing: a fault was met, and nothing changed.
+    /// Nothing: a fault occurred, and the office is unchanged.
     Fault,
 }

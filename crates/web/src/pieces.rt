@@ -1,4 +1,4 @@
-//! Pieces of a text, put at its end.
+//! Appending pieces to a text.
 
 ghost use Rattle.std.specs.Prelude.{◌≡◌, ◌++◌, length, drop, decimal, OnOk};
 ghost use Rattle.std.specs.List.{flat_map};
@@ -8,7 +8,7 @@ use itoa::Buffer;
 use text::NoMemory;
 use values::put_decimal;
 
-/// Puts the pieces, one after the other.
+/// Appends the pieces, one after another.
 pub(crate) fn put_pieces(out: &mut Vec<u8>, pieces: &[&[u8]]) -> Result<(), NoMemory>
     ensures { OnOk result (out.new.items ≡ out.old.items ++ flat_map (λ p. p.now) pieces.now) }
 {
@@ -18,7 +18,7 @@ pub(crate) fn put_pieces(out: &mut Vec<u8>, pieces: &[&[u8]]) -> Result<(), NoMe
     Ok(())
 }
 
-/// Puts a word and a number in decimal.
+/// Appends a word and a number in decimal.
 pub(crate) fn put_number(out: &mut Vec<u8>, word: &[u8], number: u64) -> Result<(), NoMemory>
     ensures { OnOk result (out.new.items ≡ out.old.items ++ (word.now ++ decimal number)) }
 {
@@ -26,7 +26,7 @@ pub(crate) fn put_number(out: &mut Vec<u8>, word: &[u8], number: u64) -> Result<
     put_decimal(out, number)
 }
 
-/// What is left of the places before a text at their right end.
+/// The places that are left before a right-aligned text.
 fn places_before<'a>(places: &'a [u8], text: &[u8]) -> &'a [u8]
     ensures { result.now ≡ drop (length text.now) places.now }
 {
@@ -36,7 +36,7 @@ fn places_before<'a>(places: &'a [u8], text: &[u8]) -> &'a [u8]
     &places[text.len()..]
 }
 
-/// Puts a number in decimal, at the right end of these places where it is shorter, and the gap before the next column.
+/// Appends a number in decimal, right-aligned in these places if it is shorter, and the gap before the next column.
 pub(crate) fn put_column(out: &mut Vec<u8>, places: &[u8], number: u64) -> Result<(), NoMemory>
     ensures { OnOk result (out.new.items ≡ out.old.items ++ (right_in places.now (decimal number) ++ gap)) }
 {

@@ -1,4 +1,4 @@
-//! What is published: the key revocation list, the allowed signers and the CAs.
+//! Published data: the key revocation list, the allowed signers and the CAs.
 
 ghost use Rattle.std.specs.Prelude.{◌≡◌, ◌++◌, length, IsTrue, IfOk, OnOk, IfErr};
 ghost use Rattle.krl.specs.Published.{fits, published_text};
@@ -27,8 +27,8 @@ use text::NoMemory;
 use values::{Kind, put_decimal};
 use wire::VecSink;
 
-/// The response with a list, written from front to back into the room for it. A section too long for its length of 32
-/// bits counts as want of memory, and more parts than an office has CAs are damage.
+/// The response with a list, written from front to back into the room for it. A section whose length doesn't fit in 32
+/// bits counts as lack of memory, and more parts than an office may have CAs as damage.
 fn list_response(alloc: Global, revoked: &Revoked) -> Result<Vec<u8>, StoreFault>
     ensures ok { IfOk result (λ v. v.items ≡ response_text 200 Bytes
         (published_text revoked.now.head revoked.now.parts.items revoked.now.key_ids)) }
@@ -127,7 +127,7 @@ fn signers_text(alloc: Global, rows: &[SignerRow]) -> Result<Vec<u8>, NoMemory>
     }
 }
 
-/// The response with the rows of these departments and CAs.
+/// The response with the rows for these departments and CAs.
 fn signers_response(
     alloc: Global,
     departments: &[Department],

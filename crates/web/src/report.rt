@@ -58,7 +58,7 @@ fn put_words(out: &mut Vec<u8>, kind: Kind, standing: Standing) -> Result<(), No
     put_pieces(out, &[kind_word(kind), b"  ", standing, b"  "])
 }
 
-/// Puts the line of a certificate.
+/// Appends the line of a certificate.
 pub(crate) fn put_entry(out: &mut Vec<u8>, entry: &Entry) -> Result<(), NoMemory>
     ensures { OnOk result (out.new.items ≡ out.old.items ++ entry_line entry.now) }
 {
@@ -77,7 +77,7 @@ fn put_total(out: &mut Vec<u8>, count: u64, version: u64) -> Result<(), NoMemory
     put_pieces(out, &[b"\n"])
 }
 
-/// The table, where these are revoked.
+/// The table, given the revocations.
 fn table_beside<R: Registry>(
     registry: &mut R,
     alloc: Global,

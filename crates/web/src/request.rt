@@ -1,4 +1,4 @@
-//! What a request is answered.
+//! The answer to a request.
 
 ghost use Rattle.std.specs.Prelude.{◌≡◌, ◌≢◌, ℕ, List, IfOk, OnOk, OnErr, IfErr};
 ghost use Rattle.http_requests.specs.declared.resource.Resource.TheVariants.{RevocationList};
@@ -23,14 +23,14 @@ use std::alloc::Global;
 use text::{NoMemory, Text};
 use values::Refusal;
 
-/// What a request asks, with texts of its own.
+/// What a request asks, with owned texts.
 #[derive(Drop)]
 pub(crate) enum Request {
-    /// Nothing that is answered.
+    /// A request that is refused without the register.
     Refused(Refusal),
-    /// A resource.
+    /// A GET of a resource.
     Get(Resource),
-    /// That the office take a message of this caller under this request key.
+    /// A POST: a message from this caller under this request key.
     Post {
         caller: Text,
         key: Text,
@@ -39,7 +39,7 @@ pub(crate) enum Request {
 }
 
 impl Request {
-    /// What was asked.
+    /// A copy of what was asked.
     fn of(alloc: Global, asked: Asked<'_>) -> Result<Request, NoMemory>
         ensures { IfOk result (λ request. request_ask request ≡ ask_of asked.entry) }
     {
@@ -86,7 +86,7 @@ fn to_resource<R: Registry>(
     }
 }
 
-/// The response to a request that was read before, whatever its bytes were.
+/// The response to a request that was already read, independent of its bytes.
 pub(crate) fn answer_request<R: Registry>(
     registry: &mut R,
     alloc: Global,
@@ -128,7 +128,7 @@ pub(crate) fn answer_request<R: Registry>(
     }
 }
 
-/// As `answer`, by routes that were made before.
+/// Like `answer`, but with routes that were built beforehand.
 pub fn answer_by<R: Registry>(
     routes: &Routes,
     registry: &mut R,
@@ -154,17 +154,17 @@ pub fn answer_by<R: Registry>(
     answer_request(registry, alloc, request, moment, nonce)
 }
 
-/// The response to the bytes of a request (RFC 9112): the one that is due after the arrivals so far. Bytes after the
-/// request aren't looked at.
+/// The response to the bytes of a request (RFC 9112): the one specified after the arrivals so far. Bytes after the
+/// request are ignored.
 ///
-/// The routes and room for a response are made before the register is asked, so after a fault nothing was applied.
-/// Where something was asked of the register and answered, the register is open, and so keeps what it means. A refusal
-/// that the bytes alone give asks nothing of it.
+/// The routes and room for a response are made before the register is called, so after a fault nothing was applied.
+/// If the request needed the register and was answered, the register is open, and so preserves what it means. A refusal
+/// that is determined by the bytes alone doesn't need the register.
 ///
 /// # Errors
 ///
-/// `Device` where the database failed, or refused what was to be kept of the arrival, and `NoMemory` where a growth was
-/// refused or a section of the list would be too long. A register that means a history answers no other.
+/// `Device` if the database failed, or refused the rows of the arrival, and `NoMemory` if an allocation was refused or
+/// a section of the list would be too long. A register that means a history returns no other fault.
 pub fn answer<R: Registry>(
     registry: &mut R,
     alloc: Global,
@@ -178,8 +178,8 @@ pub fn answer<R: Registry>(
         (R.means registry.new) (Keeps R.means R.is_open registry.new) request.now moment nonce.now v.items) }
     ensures fault { R.is_honest registry.new → OnErr result (MeansTheSame R.means registry.old registry.new) }
 
-    // A request that is no message leaves all that is kept as it was, whatever it means. So does each fault but
-    // `Damaged`, which a register that means a history doesn't answer.
+    // A request that is no message leaves the stored rows unchanged, whatever they mean. So does each fault except
+    // `Damaged`, which a register that means a history doesn't return.
     ensures before { R.is_honest registry.new → R.is_open registry.new
         → IfErr result (λ e. e ≢ StoreFault.Damaged → R.is_as_before registry.old registry.new) }
     ensures reads { R.is_honest registry.new → R.is_open registry.new → AsksNoChange request.now

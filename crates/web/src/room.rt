@@ -8,10 +8,10 @@ use office::StoreFault;
 use std::alloc::Global;
 use values::Refusal;
 
-/// The room that is reserved for a response before anything is applied: it takes the longest reply and each refusal.
+/// The room that is reserved for a response before anything is applied: it fits the longest reply and every refusal.
 pub(crate) const ROOM: usize = 512;
 
-/// Room for so many bytes.
+/// Room for `size` bytes.
 pub(crate) fn room(alloc: Global, size: usize) -> Result<Vec<u8>, StoreFault>
     ensures ok { IfOk result (λ v. (v.items ≡ []) × (size ≤ vec_capacity v)) }
     ensures err { IfErr result (λ e. e ≡ StoreFault.NoMemory) }
@@ -31,7 +31,7 @@ pub(crate) fn to_body(alloc: Global, media: MediaType, body: &[u8]) -> Result<Ve
     Ok(respond(room, media, body))
 }
 
-/// The response with a body, in the body's own memory: the head is put behind it, and both are turned.
+/// The response with a body, in the body's own memory: the head is appended, and then rotated to the front.
 pub(crate) fn around(body: Vec<u8>, media: MediaType) -> Result<Vec<u8>, StoreFault>
     ensures ok { IfOk result (λ v. v.items ≡ response_text 200 media body.items) }
     ensures err { IfErr result (λ e. e ≡ StoreFault.NoMemory) }
@@ -47,7 +47,7 @@ pub(crate) fn around(body: Vec<u8>, media: MediaType) -> Result<Vec<u8>, StoreFa
     Ok(response)
 }
 
-/// The response that says a refusal.
+/// The response with a refusal.
 pub(crate) fn to_refusal(alloc: Global, refusal: Refusal) -> Result<Vec<u8>, StoreFault>
     ensures ok { IfOk result (λ v. v.items ≡ refusal_response refusal) }
     ensures err { IfErr result (λ e. e ≡ StoreFault.NoMemory) }

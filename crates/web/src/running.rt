@@ -1,4 +1,4 @@
-//! Exchanges one after the other.
+//! Successive exchanges.
 
 ghost use Rattle.std.specs.Prelude.{◌≡◌, ℕ, List, IfOk, OnErr};
 ghost use Rattle.office.specs.Registers.{FailuresPersist, MeansTheSame};
@@ -12,7 +12,7 @@ use office::Registry;
 use std::alloc::Global;
 use text::{NoMemory, Text};
 
-/// What one exchange is given.
+/// The result of one exchange.
 fn given_by<R: Registry>(
     routes: &Routes,
     registry: &mut R,
@@ -43,7 +43,7 @@ fn given_by<R: Registry>(
     }
 }
 
-/// What each exchange is given, one after the other. After a fault it goes on with the next.
+/// The results of successive exchanges. After a fault it continues with the next.
 ///
 /// The result and the routes are made before the first exchange, so after `NoMemory` nothing was applied.
 pub fn run<R: Registry>(
@@ -53,14 +53,14 @@ pub fn run<R: Registry>(
 ) -> Result<Vec<Given>, NoMemory>
     ensures failures { FailuresPersist R.is_honest R.is_open registry.old registry.new }
 
-    // Each exchange is given the response that is due after the arrivals before it that met no fault, or a fault, and
-    // the list only where it may be given. The register then means the history with all arrivals that met none. Where
-    // it has answered since the last fault, it is open, and so keeps that history.
+    // Each exchange gets a fault, or the response specified after the arrivals before it that got no fault, and the
+    // list only if it may be returned. The register then means the history followed by all arrivals that got no fault.
+    // If it has answered since the last fault, it is open, and so preserves that history.
     ensures serves { R.is_honest registry.new → IfOk result (λ given. Serves (R.means registry.old)
         (R.means registry.new) (Keeps R.means R.is_open registry.new) exchanges.now given.items) }
     ensures err { OnErr result (registry.new ≡ registry.old) }
 
-    // Exchanges of which none is a message leave all that the register keeps as it was, whatever it means.
+    // If no exchange is a message, the stored rows are unchanged, whatever they mean.
     ensures reads { R.is_honest registry.new → R.is_open registry.new → AskNoChange exchanges.now
         → R.is_as_before registry.old registry.new }
 {

@@ -1,4 +1,4 @@
-//! One request served.
+//! Serving one request.
 
 ghost use Rattle.std.specs.Prelude.{◌≡◌, ◌<◌, ◌+◌, List, Err, OnOk, if◌then◌else◌};
 ghost use Rattle.std.specs.Io.KnownBytes.{Appends};
@@ -20,12 +20,12 @@ use office::Registry;
 use std::alloc::Global;
 use wire::{Failed, Sink, Source, write_all};
 
-/// Serves one request: takes its bytes from the reader and no byte more, takes a nonce of 32 bytes, has the register
-/// answer by them and the moment, and writes the response (RFC 9112).
+/// Serves one request: takes its bytes and no more from the reader, takes a nonce of 32 bytes, has the register answer
+/// with them and the time, and writes the response (RFC 9112).
 ///
-/// The head is taken byte by byte, up to the shortest beginning that is a whole head or can't become one, or
-/// `MAX_HEAD` bytes, or the end; then just the body that it asks for, and nothing of it where the head is refused. Each
-/// of the three is lent with fewer than 18446744073709551615 failures.
+/// The head is taken byte by byte, up to the shortest prefix that is a whole head or can't become one, or
+/// `MAX_HEAD` bytes, or the end; then exactly the body that it announces, and nothing of it if the head is refused.
+/// The reader, the writer and the nonce source must have had fewer than 18446744073709551615 failures before.
 pub fn serve_one<R: Source, W: Sink, S: Registry, N: Source>(
     routes: &Routes,
     reader: &mut R,
@@ -41,13 +41,13 @@ pub fn serve_one<R: Source, W: Sink, S: Registry, N: Source>(
     ensures failures { FailuresPersist S.is_honest S.is_open registry.old registry.new }
     ensures stays_open { S.is_honest registry.new → IfServed result (S.is_open registry.old → S.is_open registry.new) }
 
-    // One request and one nonce were taken, and the response that is due to them was written. Where something was asked
-    // of the register, it is open and so keeps the history.
+    // One request and one nonce were taken, and the response specified for them was written. If the request needed the
+    // register, it is open and so preserves the history.
     ensures ok { OnOk result ((x : Served (R.remaining reader.old) (R.remaining reader.new) (N.remaining nonces.old)
         (N.remaining nonces.new) moment (S.is_honest registry.new) (S.means registry.old) (S.means registry.new)
         (Keeps S.means S.is_open registry.new)) × Appends (W.taken writer.old) (W.taken writer.new) x.response) }
 
-    // The same, but the writer failed after a beginning of the response.
+    // The same, except that the writer failed after a prefix of the response.
     ensures write { result ≡ Err ServeFault.Write → (x : Served (R.remaining reader.old) (R.remaining reader.new)
         (N.remaining nonces.old) (N.remaining nonces.new) moment (S.is_honest registry.new) (S.means registry.old)
         (S.means registry.new) (Keeps S.means S.is_open registry.new))
@@ -57,16 +57,16 @@ pub fn serve_one<R: Source, W: Sink, S: Registry, N: Source>(
     ensures unwritten { IfUnserved result (writer.new ≡ writer.old) }
     ensures unchanged { S.is_honest registry.new → IfUnserved result (MeansTheSame S.means registry.old registry.new) }
 
-    // A request that is no message leaves all that the register keeps as it was, whatever it means.
+    // A request that is no message leaves the stored rows unchanged, whatever they mean.
     ensures reads { S.is_honest registry.new → S.is_open registry.new → KeepsIfRead (R.remaining reader.old)
         (R.remaining reader.new) (S.is_as_before registry.old registry.new) }
 
-    // The bytes that are drawn of the nonces are the next ones, whatever comes of the call: a nonce, or nothing where
-    // no request came, or less where the source failed or ended.
+    // The bytes drawn from the nonce source are the next ones, whatever the result of the call: a nonce, or nothing if
+    // no request was read, or less if the source failed or ended.
     ensures drawn { Draws result (N.remaining nonces.old) (N.remaining nonces.new) }
 
-    // Each fault is answered only where what it names failed, `Nonces` also where the source ended, and `Store` also
-    // where the database refused what was to be kept of the request that was taken.
+    // Each fault is returned only if the part that it names failed, `Nonces` also if the source ended, and `Store` also
+    // if the database refused the rows of the request that was taken.
     ensures store { S.is_honest registry.new → result ≡ Err ServeFault.Store → (o : Opening) (l : List Arrival)
         → S.means registry.old o l → Stopped (R.remaining reader.old) (R.remaining reader.new)
         (N.remaining nonces.old) (N.remaining nonces.new)

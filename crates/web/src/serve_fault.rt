@@ -1,4 +1,4 @@
-//! Why a request wasn't served.
+//! The faults of serving a request.
 
 ghost use Rattle.std.specs.Prelude.{◌≡◌};
 ghost use Rattle.web.specs.declared.serve_fault.ServeFault.TheVariants.{NoMemory};
@@ -6,18 +6,18 @@ ghost use Rattle.web.specs.Faults.{fault_of};
 
 use office::StoreFault;
 
-/// Why a request wasn't served. But for `Write`, nothing was written then, and nothing changed.
+/// Why a request wasn't served. Except for `Write`, nothing was written, and the office is unchanged.
 #[derive(Clone, Copy, Debug, PartialEq, Eq)]
 pub enum ServeFault {
     /// The reader failed.
     Read,
     /// The nonce source failed or ended.
     Nonces,
-    /// The register failed, for another cause than memory, or its database refused what was to be kept of the request.
+    /// The register failed, for another reason than lack of memory, or its database refused the rows of the request.
     Store,
-    /// A growth was refused.
+    /// An allocation was refused.
     NoMemory,
-    /// The writer failed, after a beginning of the response. What was asked is done, and a repeat gets the same reply.
+    /// The writer failed after a prefix of the response. The request was carried out; a repeat gets the same reply.
     Write,
 }
 

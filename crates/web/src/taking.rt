@@ -1,4 +1,4 @@
-//! Requests and nonces taken from where they come.
+//! Taking requests and nonces from their sources.
 
 ghost use Rattle.std.specs.Prelude.{◌≡◌, ◌<◌, ◌+◌, length, IfOk, IfErr, if◌then◌else◌};
 ghost use Rattle.std.specs.Io.KnownBytes.{Consumes};
@@ -15,7 +15,7 @@ use text::Text;
 use values::Refusal;
 use wire::{Source, read_full};
 
-/// Takes bytes one at a time, up to the first that tells whether a head comes.
+/// Takes bytes one at a time, up to the first that decides whether there is a head.
 fn take_front<R: Source>(source: &mut R, alloc: Global) -> Result<Vec<u8>, ServeFault>
     requires { R.failed source.old < u64.MAX }
     ensures consumed { IfOk result (λ taken. Consumes (R.remaining source.old) (R.remaining source.new) taken.items) }
@@ -46,7 +46,7 @@ fn take_front<R: Source>(source: &mut R, alloc: Global) -> Result<Vec<u8>, Serve
     Ok(taken)
 }
 
-/// Takes a message of so many bytes, or all bytes there are.
+/// Takes a message of `size` bytes, or all bytes there are.
 fn take_message<R: Source>(
     source: &mut R,
     alloc: Global,
@@ -76,7 +76,7 @@ fn take_message<R: Source>(
     })
 }
 
-/// Takes the bytes of one request and no more. The head is parsed once, for what it asks.
+/// Takes the bytes of one request and no more. The head is parsed once, to find what it asks.
 pub(crate) fn take_request<R: Source>(
     routes: &Routes,
     source: &mut R,

@@ -1,4 +1,4 @@
--- What a source that is read ahead holds.
+-- The bytes that a buffered source holds.
 use Rattle.std.proofs.Common.{◌≡◌, ℕ, ◌+◌, ◌-◌, ◌<◌, ◌≤◌, min, List, [], ◌++◌, length, take, drop, ap, sym, ◌∙◌, arith}
 use Rattle.std.proofs.Common.{length-drop, Option, Result}
 use Rattle.std.proofs.Math.Seq.{take-add}
@@ -8,18 +8,18 @@ use Rattle.std.specs.List.{slice_range}
 use Rattle.std.specs.Io.KnownBytes.{Consumes, IsAtEnd, Keeps, ReadConsumes, prepend_known}
 use Rattle.wire.specs.declared.failure.Failed.{Failed}
 
--- nothing is held where its end is reached
+-- nothing is held once the end is reached
 pub none_held : (room : List ℕ) (at end : ℕ) → at ≡ end → slice_range room at end ≡ []
 none_held room at end same = ap (λ n. take n (drop at room)) {y = 0} (omega arith)
 
--- where nothing is held, the source itself is read
+-- if nothing is held, the underlying source is read
 pub read_through : (room : List ℕ) (at end : ℕ) (old new : Option (List ℕ)) (r : Result ℕ Failed) (buf : List ℕ)
     → at ≡ end → ReadConsumes old new r buf
     → ReadConsumes (prepend_known (slice_range room at end) old) (prepend_known (slice_range room at end) new) r buf
 read_through room at end old new r buf same read =
     rw (none_held room at end same, prepend_known-nil old, prepend_known-nil new) read
 
--- what is held is its first n bytes and the rest
+-- the bytes held are the first n of them, followed by the rest
 held_split : (room : List ℕ) (at end n : ℕ) → at + n ≤ end
     → slice_range room at end ≡ take n (slice_range room at end) ++ slice_range room (at + n) end
 held_split room at end n fits =
@@ -29,7 +29,7 @@ held_split room at end n fits =
     ∙ ap (λ t. t ++ take m (drop n (drop at room))) (sym (take-take n (end - at) (drop at room) (omega arith)))
     ∙ ap (λ t. take n (slice_range room at end) ++ take m t) (drop-drop n at room)
 
--- n bytes of what is held were given: all that fit
+-- n of the bytes held were returned: all that fit
 pub read_held : (room : List ℕ) (at end n : ℕ) (buf : List ℕ) (old left : Option (List ℕ)) → at ≤ end
     → end ≤ length room → Keeps old (prepend_known (slice_range room at end) left) → (at ≡ end → IsAtEnd left)
     → n ≡ min (length (slice_range room at end)) (length buf) → take n buf ≡ take n (slice_range room at end)

@@ -1,4 +1,4 @@
--- What is read is what was written, and what was written is read again.
+-- Bytes are read as a value exactly when they begin with the value's text.
 use Rattle.std.proofs.Common.{◌≡◌, ℕ, ◌+◌, ◌^◌, ◌<◌, ◌≤◌, Bool, true, false, cond, ltb, List, ◌++◌, length}
 use Rattle.std.proofs.Common.{get_or, take, drop, Some, None, refl, sym, ap, ◌∙◌, append_assoc, arith, inl, inr}
 use Rattle.std.specs.Int.{Width, w32, w64, byte_len, from_be_bytes, to_be_bytes}
@@ -26,12 +26,12 @@ IsBytes-take n bytes h i =
       | inr le ↦ rw (get_or_past (take n bytes) i 0 (omega (arith, length-take n bytes))) (omega arith)
     ]
 
--- a test that let something through
+-- a test that did not rule out the value
 some_if : {A : Type 0} (b : Bool) (x y : A) → cond b None (Some x) ≡ Some y → (b ≡ false) × (x ≡ y)
 some_if true x y e = absurd cc
 some_if false x y e = (refl, cc)
 
--- numbers below the limit and texts of the width stand for each other
+-- numbers below the limit and texts of the width correspond to each other
 pub record IsWide (w : Width) (limit : ℕ) : Type 0 where
   pub len : (n : ℕ) → length (to_be_bytes w n) ≡ byte_len w
   pub back : (bytes : List ℕ) → length bytes ≡ byte_len w → IsBytes bytes
@@ -54,7 +54,7 @@ wide64 = record {
   again = λ n lt. from_be_bytes-to_be_bytes_8 n lt;
 }
 
--- what is read as a number began with the number's text
+-- bytes that are read as a number begin with the number's text
 pub number_takes : (w : Width) (limit : ℕ) (wide : IsWide w limit) (bytes : List ℕ) (n : ℕ) (rest : List ℕ)
     → IsBytes bytes → number_at w bytes ≡ Some (n, rest) → bytes ≡ to_be_bytes w n ++ rest
 number_takes w limit wide bytes n rest fits e =
@@ -77,7 +77,7 @@ number_again w limit wide n rest lt =
     let long : ltb (length (text ++ rest)) (byte_len w) ≡ false = le-ltb _ _ (omega (arith, length-append text rest)) in
     rw (long, take_at text rest (byte_len w) len, drop_at text rest (byte_len w) len, wide.again n lt) refl
 
--- what is read as a string began with the string's text
+-- bytes that are read as a string begin with the string's text
 pub string_takes : (bytes text rest : List ℕ) → IsBytes bytes → string_at bytes ≡ Some (text, rest)
     → bytes ≡ string_text text ++ rest
 string_takes bytes text rest fits e =
@@ -106,7 +106,7 @@ string_again text rest lt =
     let head = number_again w32 (2 ^ 32) wide32 size (text ++ rest) lt in
     rw (head, long, take_at text rest size refl, drop_at text rest size refl) refl
 
--- a number's text tells the number and what follows it
+-- a number's text determines the number and the bytes after it
 pub number_unique : (w : Width) (limit : ℕ) (wide : IsWide w limit) (m n : ℕ) (after rest : List ℕ)
     → m < limit → n < limit → to_be_bytes w m ++ after ≡ to_be_bytes w n ++ rest → (m ≡ n) × (after ≡ rest)
 number_unique w limit wide m n after rest m-lt n-lt e =
@@ -115,7 +115,7 @@ number_unique w limit wide m n after rest m-lt n-lt e =
     let same : (m, after) ≡ (n, rest) = same_Some _ _ (sym first ∙ ap (number_at w) e ∙ second) in
     (ap (λ p. p.0) same, ap (λ p. p.1) same)
 
--- a string's text tells the string and what follows it
+-- a string's text determines the string and the bytes after it
 pub string_unique : (a b after rest : List ℕ) → length a < 2 ^ 32 → length b < 2 ^ 32
     → string_text a ++ after ≡ string_text b ++ rest → (a ≡ b) × (after ≡ rest)
 string_unique a b after rest a-lt b-lt e =

@@ -1,4 +1,4 @@
--- Bytes that a writer takes, or a reader gives, one after the other.
+-- Bytes that a writer takes, or a reader gives, in successive calls.
 use Rattle.std.proofs.Common.{◌≡◌, ℕ, ◌+◌, ◌≤◌, List, ◌++◌, length, take}
 use Rattle.std.proofs.Common.{drop, sym, ap, ◌∙◌, append_assoc, Option, subst}
 use Rattle.std.proofs.Math.Seq.{take-add, take-append-add, take-append_seam}
@@ -7,7 +7,7 @@ use Rattle.std.specs.Io.KnownBytes.{Appends, Consumes}
 use Rattle.std.proofs.KnownBytes.{Appends-trans, Consumes-trans}
 use Rattle.wire.specs.Streams.{AppendsBeginning}
 
--- a piece that was taken, and then a beginning of the next
+-- a piece that was taken, and then a prefix of the next
 pub begins_after : (old mid new : Option (List ℕ)) (a b : List ℕ) → Appends old mid a
     → AppendsBeginning mid new b → AppendsBeginning old new (a ++ b)
 begins_after old mid new a b x y =
@@ -17,7 +17,7 @@ begins_after old mid new a b x y =
       grown = subst P (sym (take-append-add a b y.count)) (Appends-trans old mid new a (take y.count b) x y.grown);
     }
 
--- a beginning of a piece begins what goes on after the piece
+-- a prefix of a piece is a prefix of any longer piece that starts with it
 pub begins_longer : (old new : Option (List ℕ)) (a b : List ℕ) → AppendsBeginning old new a
     → AppendsBeginning old new (a ++ b)
 begins_longer old new a b x =
@@ -33,7 +33,7 @@ begins_longer old new a b x =
         ∙ ap (take (length (take n xs))) (sym (append_assoc (take n xs) (drop n xs) ys))
         ∙ ap (λ t. take (length (take n xs)) (t ++ ys)) (take-append-drop n xs)
 
--- so many bytes, and then so many of the rest, are that many bytes together
+-- `at` bytes, followed by n of the rest, are `at + n` bytes
 pub piece_more : (at n k : ℕ) (xs : List ℕ) → at ≤ length xs → n ≤ k
     → take (at + n) xs ≡ take at xs ++ take n (take k (drop at xs))
 piece_more at n k xs within most =
@@ -41,7 +41,7 @@ piece_more at n k xs within most =
     ap (take (at + n)) (sym (take-append-drop at xs)) ∙ ap (λ m. take (m + n) (take at xs ++ drop at xs)) (sym size)
     ∙ take-append-add (take at xs) (drop at xs) n ∙ ap (λ t. take at xs ++ t) (sym (take-take n k (drop at xs) most))
 
--- the front of a buffer came, and then so many bytes behind it
+-- the first `at` bytes of a buffer were read, and then n bytes after them
 pub given_more : (old mid new : Option (List ℕ)) (xs ys : List ℕ) (at n : ℕ) → take at ys ≡ take at xs
     → Consumes old mid (take at xs) → Consumes mid new (take n (drop at ys)) → Consumes old new (take (at + n) ys)
 given_more old mid new xs ys at n kept first second =

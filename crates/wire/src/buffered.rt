@@ -1,4 +1,4 @@
-//! Sources that are read ahead.
+//! Buffered sources.
 
 ghost use Rattle.std.specs.Prelude.{◌≡◌, ◌≤◌, ◌<◌, ◌+◌, length, min, take, OnOk, if◌then◌else◌, is_ok};
 ghost use Rattle.std.specs.List.{slice_range};
@@ -7,13 +7,13 @@ ghost use Rattle.std.specs.Io.KnownBytes.{Keeps, IsAtEnd, prepend_known};
 use crate::failure::Failed;
 use crate::source::Source;
 
-/// How many bytes are read ahead at most.
+/// The most bytes that are read ahead.
 const ROOM: usize = 4096;
 
-/// A source that is read ahead, in pieces of at most 4096 bytes, which are held until they are asked for.
+/// A source that is read ahead, in pieces of at most 4096 bytes, which are held until they are read.
 ///
-/// The room for them lies inside, so it takes no memory of an allocator. The source is read only once nothing is held,
-/// and a `buf` that has at least the room is then filled by the source itself.
+/// The buffer is part of the value, so nothing is allocated. The source is read only when nothing is held, and then a
+/// `buf` that is at least as large as the buffer is filled by the source directly.
 #[derive(Drop)]
 pub struct Buffered<S> {
     source: S,
@@ -24,7 +24,7 @@ pub struct Buffered<S> {
     ghost within: { end ≤ length room },
 }
 
-/// Copies as many of the bytes as fit to the front of `buf`, and answers how many that is.
+/// Copies as many of the bytes as fit to the front of `buf`, and returns their number.
 fn copy_front(bytes: &[u8], buf: &mut [u8]) -> usize
     ensures count { result ≡ min (length bytes.now) (length buf.new) }
     ensures front { take result buf.new ≡ take result bytes.now }
@@ -35,7 +35,7 @@ fn copy_front(bytes: &[u8], buf: &mut [u8]) -> usize
 }
 
 impl<S: Source> Buffered<S> {
-    /// The source, of which nothing was read ahead.
+    /// The source, with nothing read ahead yet.
     pub fn new(source: S) -> Buffered<S>
         ensures remaining { ⟦<Buffered<S> as Source>⟧.remaining result ≡ S.remaining source }
         ensures failed { ⟦<Buffered<S> as Source>⟧.failed result ≡ S.failed source }

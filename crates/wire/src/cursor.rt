@@ -1,4 +1,4 @@
-//! A place in bytes that are read.
+//! A reading position in bytes.
 
 ghost use Rattle.std.specs.Prelude.{◌≡◌, ◌<◌, ◌^◌, ◌++◌, ◌↔◌, [], ◌∷◌, List, ℕ, length, IsTrue, IsNone, IfSome, IfNone};
 ghost use Rattle.std.specs.Option.{option_copied, option_map};
@@ -42,11 +42,11 @@ fn split_string(bytes: &[u8]) -> Option<(&[u8], &[u8])>
     Some(rest.split_at(len))
 }
 
-/// A place in bytes that are read, at the front of those that are left.
+/// A reading position in bytes, at the front of those that are left.
 ///
-/// Contracts see a cursor as the bytes that are left. Each call that reads answers the value whose text stands at their
-/// front and moves just past it. It answers `None` exactly where too few bytes are left, and then the cursor is as it
-/// was. Reading takes no memory.
+/// Contracts see a cursor as the bytes that are left. Each call that reads returns the value whose text is at their
+/// front, and moves right past it. It returns `None` exactly when too few bytes are left, and then the cursor is
+/// unchanged. Reading allocates nothing.
 #[derive(Drop)]
 pub struct Cursor<'a> {
     rest: &'a [u8],
@@ -114,7 +114,7 @@ impl<'a> Cursor<'a> {
         Some(value)
     }
 
-    /// The next `string` of RFC 4251, section 5: a `uint32` that says how many bytes follow, and these bytes.
+    /// The next `string` of RFC 4251, section 5: a `uint32` with the number of bytes that follow, and these bytes.
     /// They are a slice of the input.
     pub fn string(&mut self) -> Option<&'a [u8]>
         ensures moves { Moves (string_at self.old) (option_copied result) self.old self.new }

@@ -1,4 +1,4 @@
-//! Reads and writes that failed.
+//! Failed reads and writes.
 
 /// A call of a reader or a writer failed. The reader or writer counts it.
 #[derive(Clone, Copy, Debug, PartialEq, Eq)]

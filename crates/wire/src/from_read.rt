@@ -1,4 +1,4 @@
-//! Readers of std as sources.
+//! Readers from std as sources.
 
 ghost use Rattle.std.specs.Prelude.{◌≡◌};
 
@@ -6,9 +6,9 @@ use crate::failure::Failed;
 use crate::source::Source;
 use std::io::{ErrorKind, Read};
 
-/// A reader of std, with the number of its failures.
+/// A reader from std, with the number of its failures.
 ///
-/// A read that a signal interrupted (`ErrorKind::Interrupted`) took nothing. It is made again and is no failure.
+/// A read that was interrupted by a signal (`ErrorKind::Interrupted`) took nothing. It is repeated and is no failure.
 /// Every other error is one.
 #[derive(Drop)]
 pub struct FromRead<R> {

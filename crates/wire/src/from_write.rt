@@ -1,4 +1,4 @@
-//! Writers of std as sinks.
+//! Writers from std as sinks.
 
 ghost use Rattle.std.specs.Prelude.{◌≡◌};
 
@@ -6,10 +6,10 @@ use crate::failure::Failed;
 use crate::sink::Sink;
 use std::io::{ErrorKind, Write};
 
-/// A writer of std, with the number of its failures.
+/// A writer from std, with the number of its failures.
 ///
-/// A write that a signal interrupted (`ErrorKind::Interrupted`) took nothing. It is made again and is no failure.
-/// Every other error is one, and so is a write that takes nothing of a piece that isn't empty. Nothing is flushed.
+/// A write that was interrupted by a signal (`ErrorKind::Interrupted`) took nothing. It is repeated and is no failure.
+/// Every other error is one, and so is a write that takes nothing from a piece that isn't empty. Nothing is flushed.
 #[derive(Drop)]
 pub struct FromWrite<W> {
     writer: W,

@@ -1,8 +1,8 @@
-//! The integers and strings of RFC 4251, section 5, and the readers and writers that calls are lent.
+//! The integers and strings of RFC 4251, section 5, and the readers and writers that calls borrow.
 //!
-//! What is put is the text of the value, and a cursor gives exactly the value whose text begins the bytes that are
-//! left, or `None` where these are too few. A `Source` or a `Sink` counts the calls of it that failed, so a fault is
-//! laid to it only where it failed. One that tells its bytes lets contracts say which were taken, also after a failure.
+//! Values are written as their texts, and a cursor returns exactly the value whose text begins the bytes that are
+//! left, or `None` if these are too few. A `Source` or a `Sink` counts its calls that failed, so a fault is attributed
+//! to it only if it failed. If it specifies its bytes, contracts can state which were taken, even after a failure.
 #![tactic(auto)]
 
 mod buffered;

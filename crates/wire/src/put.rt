@@ -1,4 +1,4 @@
-//! Integers and strings put at the end of a vector.
+//! Appending integers and strings to a vector.
 
 ghost use Rattle.std.specs.Prelude.{◌≡◌, ◌+◌, ◌<◌, ◌≤◌, ◌^◌, ◌++◌, length, OnOk, OnErr, vec_len};
 ghost use Rattle.std.specs.Vec.{vec_capacity};
@@ -7,11 +7,11 @@ ghost use Rattle.wire.specs.Texts.{u32_text, u64_text, string_text};
 use byteorder::{BigEndian, ByteOrder};
 use text::NoMemory;
 
-/// Puts a `uint32` of RFC 4251, section 5, at the end: 4 bytes, the most significant first.
+/// Appends a `uint32` of RFC 4251, section 5: 4 bytes, the most significant first.
 ///
 /// # Errors
 ///
-/// `NoMemory`, where a growth was refused, so never within the vector's capacity. The vector is as it was.
+/// `NoMemory`, if an allocation was refused, so never within the vector's capacity. The vector is unchanged.
 pub fn put_u32(out: &mut Vec<u8>, n: u32) -> Result<(), NoMemory>
     ensures ok { OnOk result (out.new.items ≡ out.old.items ++ u32_text n) }
     ensures err { OnErr result (out.new.items ≡ out.old.items) }
@@ -24,11 +24,11 @@ pub fn put_u32(out: &mut Vec<u8>, n: u32) -> Result<(), NoMemory>
     Ok(())
 }
 
-/// Puts a `uint64` of RFC 4251, section 5, at the end: 8 bytes, the most significant first.
+/// Appends a `uint64` of RFC 4251, section 5: 8 bytes, the most significant first.
 ///
 /// # Errors
 ///
-/// `NoMemory`, where a growth was refused, so never within the vector's capacity. The vector is as it was.
+/// `NoMemory`, if an allocation was refused, so never within the vector's capacity. The vector is unchanged.
 pub fn put_u64(out: &mut Vec<u8>, n: u64) -> Result<(), NoMemory>
     ensures ok { OnOk result (out.new.items ≡ out.old.items ++ u64_text n) }
     ensures err { OnErr result (out.new.items ≡ out.old.items) }
@@ -41,12 +41,12 @@ pub fn put_u64(out: &mut Vec<u8>, n: u64) -> Result<(), NoMemory>
     Ok(())
 }
 
-/// Puts a `string` of RFC 4251, section 5, at the end: a `uint32` that says how many bytes it has, and its bytes,
-/// of which there are at most 4294967295.
+/// Appends a `string` of RFC 4251, section 5: a `uint32` with the number of its bytes, and then its bytes, of which
+/// there are at most 4294967295.
 ///
 /// # Errors
 ///
-/// `NoMemory`, where a growth was refused, so never within the vector's capacity. The vector is as it was.
+/// `NoMemory`, if an allocation was refused, so never within the vector's capacity. The vector is unchanged.
 pub fn put_string(out: &mut Vec<u8>, b: &[u8]) -> Result<(), NoMemory>
     requires { length b.now < 2 ^ 32 }
     ensures ok { OnOk result (out.new.items ≡ out.old.items ++ string_text b.now) }
@@ -54,7 +54,7 @@ pub fn put_string(out: &mut Vec<u8>, b: &[u8]) -> Result<(), NoMemory>
     ensures full { OnErr result (vec_capacity out.old < vec_len out.old + 4 + length b.now) }
     ensures capacity { vec_capacity out.old ≤ vec_capacity out.new }
 {
-    // Room for both parts first, so that a refusal leaves the vector as it was.
+    // Reserve room for both parts first, so that a refusal leaves the vector unchanged.
     let mut head = [0; 4];
     BigEndian::write_u32(&mut head, b.len() as u32);
     out.reserve(4 + b.len())?;

@@ -1,4 +1,4 @@
-//! Readers, writers and nonce sources in memory whose pace, length and failures a test chooses.
+//! Readers, writers and nonce sources in memory, with a pace, a length and failures that a test chooses.
 
 ghost use Rattle.std.specs.Prelude.{◌≡◌};
 
@@ -10,19 +10,19 @@ pub use nonces::ScriptedNonces;
 pub use reader::ScriptedReader;
 pub use writer::ScriptedWriter;
 
-/// How many bytes a call gives or takes.
+/// The number of bytes that a call gives or takes.
 #[derive(Clone, Copy, PartialEq, Eq)]
 pub enum Pace {
-    /// As many as there are and as fit.
+    /// As many as there are and fit.
     Whole,
-    /// One, where there is one and it fits.
+    /// One, if there is one and it fits.
     OneByte,
 }
 
 impl Pace {
     ghost use Rattle.wire.specs.Scripts.{paced};
 
-    /// How many bytes are given or taken where so many could be.
+    /// The number of bytes that are given or taken if at most `most` could be.
     fn of(self, most: usize) -> usize
         ensures { result ≡ paced self most }
     {
@@ -33,11 +33,11 @@ impl Pace {
     }
 }
 
-/// What a reader does where no byte is left.
+/// What a reader does if no byte is left.
 #[derive(Clone, Copy, PartialEq, Eq)]
 pub enum Ending {
-    /// It answers that no byte is left.
+    /// It reports the end: it reads no byte.
     Ends,
-    /// It fails, in each call.
+    /// It fails in each call.
     Fails,
 }

@@ -1,4 +1,4 @@
-//! Where bytes go.
+//! Writers of bytes.
 
 ghost use Rattle.std.specs.Prelude.{◌≡◌, ◌≤◌, ◌<◌, ◌+◌, ℕ, List, Option, None, length};
 ghost use Rattle.std.specs.Prelude.{IsOk, IfOk, OnOk, OnErr, if◌then◌else◌, is_ok};
@@ -9,27 +9,27 @@ use crate::failure::Failed;
 
 /// A writer that counts its failures.
 ///
-/// It is lent with a count below 18446744073709551615, so that the count can grow.
+/// Each write requires a count below 18446744073709551615, so that the count can grow.
 pub trait Sink {
-    /// The bytes that it took so far, where the writer tells them.
+    /// The bytes that it took so far, if the writer specifies them.
     ghost taken: { Self → Option (List ℕ) } = { λ _. None };
 
-    /// So many more bytes it takes without a failure, at least.
+    /// The number of further bytes, at least, that it takes without a failure.
     ghost room: { Self → ℕ } = { λ _. 0 };
 
-    /// How many calls failed so far.
+    /// The number of calls that failed so far.
     ghost failed: { Self → ℕ };
 
-    /// How many calls failed so far.
+    /// The number of calls that failed so far.
     fn failures(&self) -> u64
         ensures { result ≡ failed self.now };
 
-    /// Takes a beginning of `bytes`, and answers how many bytes that is: at least one where there is one.
+    /// Takes a prefix of `bytes`, and returns its length: at least one byte if there is one.
     ///
     /// # Errors
     ///
-    /// `Failed`. The call took no byte, and `failures` counts it. A piece of at least one byte that the writer has room
-    /// for never fails.
+    /// `Failed`. The call took no byte, and `failures` counts it. Writing a piece of at least one byte never fails if
+    /// the writer has room for it.
     fn write(&mut self, bytes: &[u8]) -> Result<usize, Failed>
         requires { failed self.old < u64.MAX }
         ensures bound { IfOk result (λ n. n ≤ length bytes.now) }
@@ -44,8 +44,8 @@ pub trait Sink {
 ///
 /// # Errors
 ///
-/// `Failed`, exactly where the writer failed in this call. The writer has then taken a beginning of the bytes. Bytes
-/// that the writer has room for never fail.
+/// `Failed`, exactly when the writer failed in this call. The writer has then taken a prefix of the bytes. Writing
+/// never fails if the writer has room for the bytes.
 pub fn write_all<W: Sink>(sink: &mut W, bytes: &[u8]) -> Result<(), Failed>
     requires { W.failed sink.old < u64.MAX }
     ensures ok { OnOk result (Appends (W.taken sink.old) (W.taken sink.new) bytes.now) }

@@ -1,4 +1,4 @@
-//! Where bytes come from.
+//! Readers of bytes.
 
 ghost use Rattle.std.specs.Prelude.{◌≡◌, ◌≤◌, ◌<◌, ◌+◌, ℕ, List, Option, None, length};
 ghost use Rattle.std.specs.Prelude.{take, drop, IfOk, OnErr, if◌then◌else◌, is_ok};
@@ -9,20 +9,20 @@ use crate::failure::Failed;
 
 /// A reader that counts its failures.
 ///
-/// It is lent with a count below 18446744073709551615, so that the count can grow.
+/// Each read requires a count below 18446744073709551615, so that the count can grow.
 pub trait Source {
-    /// The bytes that reads will give from here on, where the reader tells them.
+    /// The bytes that reads will give from here on, if the reader specifies them.
     ghost remaining: { Self → Option (List ℕ) } = { λ _. None };
 
-    /// How many calls failed so far.
+    /// The number of calls that failed so far.
     ghost failed: { Self → ℕ };
 
-    /// How many calls failed so far.
+    /// The number of calls that failed so far.
     fn failures(&self) -> u64
         ensures { result ≡ failed self.now };
 
-    /// Reads the next bytes into the front of `buf`, and answers how many they are. No byte for a `buf` that has room
-    /// says that nothing is left.
+    /// Reads the next bytes into the front of `buf`, and returns their number. No byte for a `buf` that isn't empty
+    /// means that nothing is left.
     ///
     /// # Errors
     ///
@@ -34,7 +34,7 @@ pub trait Source {
         ensures failed { failed self.new ≡ (if is_ok result then failed self.old else failed self.old + 1) };
 }
 
-/// One read, behind the first `at` bytes, which stay as they are.
+/// One read, into `buf` after its first `at` bytes, which are unchanged.
 fn read_behind<S: Source>(source: &mut S, buf: &mut [u8], at: usize) -> Result<usize, Failed>
     requires { (at < length buf.old) × (S.failed source.old < u64.MAX) }
     ensures kept { take at buf.new ≡ take at buf.old }
@@ -48,13 +48,13 @@ fn read_behind<S: Source>(source: &mut S, buf: &mut [u8], at: usize) -> Result<u
     source.read(&mut buf[at..])
 }
 
-/// Reads until `buf` is full or nothing is left, in as many calls as it takes, and answers how many bytes came: all
-/// that fit, or fewer where nothing is left.
+/// Reads until `buf` is full or nothing is left, in as many calls as it takes, and returns the number of bytes read:
+/// all that fit, or fewer if nothing is left.
 ///
 /// # Errors
 ///
-/// `Failed`, exactly where the reader failed in this call. A failure comes before `buf` is full, and what came until
-/// then has been taken from the reader.
+/// `Failed`, exactly when the reader failed in this call. It fails before `buf` is full, and the bytes read until then
+/// have been taken from the reader.
 pub fn read_full<S: Source>(source: &mut S, buf: &mut [u8]) -> Result<usize, Failed>
     requires { S.failed source.old < u64.MAX }
     ensures bound { IfOk result (λ n. n ≤ length buf.new) }

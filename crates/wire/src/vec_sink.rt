@@ -6,9 +6,9 @@ ghost use Rattle.std.specs.Vec.{vec_capacity};
 use crate::failure::Failed;
 use crate::sink::Sink;
 
-/// A vector that takes bytes at its end, with the number of its failures.
+/// A vector to which bytes are appended, with the number of its failures.
 ///
-/// A write takes the whole piece. It fails only where a growth was refused, so never within the vector's capacity.
+/// A write takes the whole piece. It fails only if an allocation was refused, so never within the vector's capacity.
 #[derive(Drop)]
 pub struct VecSink {
     bytes: Vec<u8>,

@@ -1,4 +1,4 @@
-//! The end of the transaction.
+//! The end of the migration's transaction.
 
 ghost use Rattle.store.specs.Transactions.{Concludes, LeavesAnswered};
 ghost use Rattle.store.specs.Migrating.{TellsEnd};
@@ -8,7 +8,7 @@ use crate::rows::{close, fault_of, undo};
 use office::StoreFault;
 use sqlite::{Alter, Connection};
 
-/// Commits what was moved, and leaves nothing of what was not.
+/// Commits a migration that succeeded, and rolls back one that failed.
 pub(crate) fn end<S: Alter>(
     conn: &mut Connection<S>,
     moved: Result<(), StoreFault>,

@@ -1,4 +1,4 @@
-//! CA 1, as the row of the office tells it.
+//! CA 1, from the office's row.
 
 ghost use Rattle.std.specs.Prelude.{◌≡◌, IfOk};
 ghost use Rattle.store.specs.Former.{ca_of, first_ca};
@@ -10,7 +10,7 @@ use std::alloc::Global;
 use store_sql::{CaRow, OfficeRow};
 use text::NoMemory;
 
-/// The schema that is moved.
+/// The schema from which tables are migrated.
 const FORMER_SCHEMA: u64 = 1;
 
 fn first_ca(alloc: Global, office: &OfficeRow) -> Result<CaRow, NoMemory>
@@ -23,7 +23,7 @@ fn first_ca(alloc: Global, office: &OfficeRow) -> Result<CaRow, NoMemory>
     })
 }
 
-/// CA 1 of the one office of schema 1.
+/// CA 1 of the office, whose table must have exactly one row, of schema 1.
 pub(crate) fn ca_of(alloc: Global, rows: &[OfficeRow]) -> Result<CaRow, StoreFault>
     ensures { IsCaDue (ca_of rows.now) result }
 {

@@ -31,32 +31,31 @@ fn migrate_whole<S: Alter>(alloc: Global, conn: &mut Connection<S>) -> Result<()
     }
 }
 
-/// Makes the tables of an office of schema 1 those of schema 2: the table of CAs, with the office's CA as number 1 from
-/// the first serial on, and the number of the schema. Each other row stays. All of it is done or, with a fault,
-/// nothing.
+/// Migrates the tables of an office from schema 1 to schema 2: they get the table of CAs, with the office's CA as
+/// number 1 from the first serial on, and the new schema number. All other rows stay. If it fails, nothing has changed.
 ///
 /// # Errors
 ///
-/// `NotAnOffice`, where the table of the office is missing or has not just one row. `WrongSchema`, where that row has
-/// another number of the schema, or the database has the table of CAs already. `Damaged`, where the id of that row
-/// isn't 1. `Device`, where the database failed or its rules refuse the CA. `NoMemory`, where a growth was refused.
+/// `NotAnOffice` if the `office` table is missing or doesn't have exactly one row. `WrongSchema` if that row has
+/// another schema number, or the database already has the table of CAs. `Damaged` if the id of that row isn't 1.
+/// `Device` if the database failed or its rules refuse the CA. `NoMemory` if an allocation was refused.
 pub fn migrate<S: Alter>(alloc: Global, conn: &mut Connection<S>) -> Result<(), StoreFault>
     ensures migrates { On S.Store Migrates conn.old conn.new result }
 
-    // It is done where the one row is of schema 1, and each fault has its cause.
+    // It succeeds only if the one row is of schema 1, and each fault has its cause.
     ensures judges { On S.Store JudgesAtRest conn.old conn.new result }
 
-    // A file that is no office's, or has the table of CAs already, is not written.
+    // A file that is no office's, or already has the table of CAs, is not written.
     ensures none { list_any is_office_table (tables_of S.Store conn.old) ≡ false → (result ≡ Err StoreFault.NotAnOffice)
         × (conn.new ≡ conn.old) }
     ensures already { list_any is_office_table (tables_of S.Store conn.old) ≡ true → list_any is_ca_name
         (tables_of S.Store conn.old) ≡ true → (result ≡ Err StoreFault.WrongSchema) × (conn.new ≡ conn.old) }
 
-    // The tables go on to tell the history of their office.
+    // The tables still represent the history of their office.
     ensures carries { On S.Store CarriesEach conn.old conn.new result }
     ensures before { On S.Store KeepsOnErr conn.old conn.new result }
 
-    // A crash in its midst leaves the tables as they were, or as they are when it is done.
+    // A crash during the call leaves the tables as they were before it, or as they are after it.
     ensures survives { OutlivesBy S.Store (Leaves Had migrated) conn.old conn.new }
 {
     if !has_office(conn) {

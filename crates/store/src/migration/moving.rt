@@ -1,4 +1,4 @@
-//! What is written inside of the transaction.
+//! The writes of a migration, inside its transaction.
 
 ghost use Rattle.store_sql.specs.Calls.{Stays};
 ghost use Rattle.store_sql.specs.Honest.{On, OutlivesBy};
@@ -14,7 +14,7 @@ use sqlite::{Alter, Connection};
 use std::alloc::Global;
 use store_sql::{CaRow, Fault, create_ca, every_office, insert_ca, update_schema};
 
-/// The schema that is made.
+/// The schema to which tables are migrated.
 const SCHEMA: u64 = 2;
 
 fn put<S: Alter>(conn: &mut Connection<S>, ca: &CaRow) -> Result<(), Fault>
@@ -24,7 +24,7 @@ fn put<S: Alter>(conn: &mut Connection<S>, ca: &CaRow) -> Result<(), Fault>
     update_schema(conn, number(SCHEMA))
 }
 
-/// Fills the tables of schema 2, of which that of the CAs has no row yet.
+/// Fills the tables of schema 2, whose table of CAs has no row yet.
 fn fill<S: Alter>(alloc: Global, conn: &mut Connection<S>) -> Result<(), StoreFault>
     ensures makes { On S.Store (Makes HasNoCa migrated) conn.old conn.new result }
     ensures judges { On S.Store (JudgesInside HasNoCa) conn.old conn.new result }
@@ -40,7 +40,7 @@ fn fill<S: Alter>(alloc: Global, conn: &mut Connection<S>) -> Result<(), StoreFa
     }
 }
 
-/// Makes the table of CAs, and fills it.
+/// Makes the table of CAs and fills it.
 pub(crate) fn move_tables<S: Alter>(
     alloc: Global,
     conn: &mut Connection<S>,

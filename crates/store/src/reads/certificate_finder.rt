@@ -1,6 +1,6 @@
-//! The certificate of a serial.
+//! The certificate with a given serial.
 //!
-//! Large values are dropped by name: the proof of a function that ends with one takes each of its fields apart.
+//! Large values are dropped explicitly: if a function ends with one, its proof takes each field apart.
 
 ghost use Rattle.std.specs.Prelude.{◌≡◌, IfOk, IfSome};
 ghost use Rattle.office.specs.Certificates.{IsCertificate};
@@ -17,7 +17,7 @@ use sqlite::{Alter, Connection};
 use std::alloc::Global;
 use store_sql::{CertRow, Fault, Number, find_cert};
 
-/// The serial as a column can hold it. No office issues 0.
+/// The serial, or 0, which no office issues, if it is too great for a column.
 fn asked_serial(serial: u64) -> Number
     ensures { result ≡ asked_serial serial }
 {
@@ -41,7 +41,7 @@ fn read_found(alloc: Global, found: Option<CertRow>) -> Result<Option<Certificat
     }
 }
 
-/// The certificate of this serial, or `None` where it wasn't issued. What is read is lawful, or told damaged.
+/// The certificate with this serial, or `None` if it wasn't issued. A row without a valid value is `Damaged`.
 pub fn find_certificate<S: Alter>(
     alloc: Global,
     conn: &mut Connection<S>,

@@ -1,6 +1,6 @@
 //! The rows that a message concerns, read together.
 //!
-//! Large values are dropped by name: the proof of a function that ends with one takes each of its fields apart.
+//! Large values are dropped explicitly: if a function ends with one, its proof takes each field apart.
 
 ghost use Rattle.std.specs.Prelude.{◌<◌, ◌≤◌, IfOk, IsTrue};
 ghost use Rattle.message.specs.declared.kinds.Message.{Message};
@@ -33,7 +33,7 @@ pub struct Concerned {
 }
 
 impl Concerned {
-    /// What a decision reads of them.
+    /// The view of them from which a decision is made.
     pub fn view(&self) -> View<'_>
         ensures agrees { (s : State) (m : Message) → AreConcerned self.now s m → Agrees result s m }
         ensures lawful { AreLawful self.now → result.version < 9223372036854775807 → IsView result }
@@ -125,8 +125,8 @@ fn with_office<S: Alter>(
     }
 }
 
-/// The rows that a lawful message concerns: the office's own row, the CAs, the certificate and the department, and what
-/// is revoked of them. What is read is lawful, or told damaged.
+/// The rows that a valid message concerns: the office's own row, the CAs, the certificate and the department, and which
+/// of their serials and key IDs are revoked. A row without a valid value is `Damaged`.
 pub fn concerned_rows<S: Alter>(
     alloc: Global,
     conn: &mut Connection<S>,

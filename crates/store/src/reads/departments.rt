@@ -1,6 +1,6 @@
-//! The department of a name.
+//! The department with a given name.
 //!
-//! Large values are dropped by name: the proof of a function that ends with one takes each of its fields apart.
+//! Large values are dropped explicitly: if a function ends with one, its proof takes each field apart.
 
 ghost use Rattle.std.specs.Prelude.{◌≡◌, IfOk, IfSome, IsTrue};
 ghost use Rattle.message.specs.Values.{is_department};
@@ -30,7 +30,7 @@ fn read_found(alloc: Global, found: Option<DepartmentRow>) -> Result<Option<Depa
     }
 }
 
-/// The department of this name, if it is there. What is read is lawful, or told damaged.
+/// The department with this name, if it exists. A row without a valid value is `Damaged`.
 pub fn find_department<S: Alter>(
     alloc: Global,
     conn: &mut Connection<S>,

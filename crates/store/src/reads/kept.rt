@@ -1,4 +1,4 @@
-//! The kept request of a caller and a key.
+//! The stored request with a given caller and request ID.
 
 ghost use Rattle.std.specs.Prelude.{◌≡◌, find};
 ghost use Rattle.std.specs.Option.{option_map};
@@ -25,7 +25,7 @@ fn kept_of(found: Option<RequestRow>) -> Option<Kept>
     }
 }
 
-/// The kept request of this caller and key, if there is one.
+/// The stored request with this caller and request ID, if there is one.
 pub fn kept_for<S: Alter>(
     alloc: Global,
     conn: &mut Connection<S>,

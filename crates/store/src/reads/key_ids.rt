@@ -1,4 +1,4 @@
-//! Revoked key ids.
+//! Revoked key IDs.
 
 ghost use Rattle.std.specs.Prelude.{◌≡◌};
 ghost use Rattle.office.specs.State.{has_any, is_key_id_revoked};
@@ -9,7 +9,7 @@ use sqlite::{Alter, Connection};
 use std::alloc::Global;
 use store_sql::{Fault, find_revoked};
 
-/// Whether this key id is revoked.
+/// Whether this key ID is revoked.
 pub fn is_key_id_revoked<S: Alter>(
     alloc: Global,
     conn: &mut Connection<S>,
@@ -21,7 +21,7 @@ pub fn is_key_id_revoked<S: Alter>(
     Ok(found.is_some())
 }
 
-/// Whether any key id is revoked.
+/// Whether any key ID is revoked.
 pub fn has_revoked_key_ids<S: Alter>(alloc: Global, conn: &mut Connection<S>) -> Result<bool, Fault>
     ensures { AsksRows S.Store (λ s kept has. has ≡ has_any s.revoked_key_ids) conn.old conn.new result }
 {

@@ -1,4 +1,4 @@
-//! What is revoked of what a message concerns.
+//! Which of the serials and key IDs that a message concerns are revoked.
 
 ghost use Rattle.std.specs.Prelude.{IsTrue, option_copied};
 ghost use Rattle.message.specs.Values.{is_message};
@@ -15,14 +15,14 @@ use sqlite::{Alter, Connection};
 use std::alloc::Global;
 use store_sql::Fault;
 
-/// What is revoked of what a message concerns.
+/// Which of the serials and key IDs that a message concerns are revoked.
 #[derive(Clone, Copy)]
 pub(crate) struct Marks {
-    /// The serial, or each of the range.
+    /// Whether the serial, or every serial of the range, is revoked.
     pub(crate) is_revoked: bool,
-    /// The key id, or that of the certificate.
+    /// Whether the key ID, or that of the certificate, is revoked.
     pub(crate) is_key_id_revoked: bool,
-    /// Any key id, where the message asks.
+    /// Whether any key ID at all is revoked, if the message depends on that.
     pub(crate) has_revoked_key_ids: bool,
 }
 
@@ -74,7 +74,7 @@ fn is_any_key_id_revoked<S: Alter>(
     }
 }
 
-/// What is revoked of what a message concerns, where it concerns this certificate.
+/// Which of the serials and key IDs that a message concerns are revoked, if it concerns this certificate.
 pub(crate) fn marks_of<S: Alter>(
     alloc: Global,
     conn: &mut Connection<S>,

@@ -1,4 +1,4 @@
-//! The runs of revoked serials.
+//! The runs (maximal ranges) of revoked serials.
 
 ghost use Rattle.std.specs.Prelude.{◌≡◌, ◌↔◌, ◌<◌, ◌≤◌, ◌^◌, All, IfOk, IsTrue};
 ghost use Rattle.krl.specs.Sets.{HasAll};
@@ -46,7 +46,7 @@ fn read_runs(alloc: Global, rows: &[RunRow]) -> Result<Runs, Fault>
     }
 }
 
-/// The maximal runs of the revoked serials. `Damaged` where the rows are no such runs.
+/// The maximal runs of the revoked serials. `Damaged` if the rows aren't such runs.
 pub fn revoked_runs<S: Alter>(alloc: Global, conn: &mut Connection<S>) -> Result<Runs, Fault>
     ensures { AsksRows S.Store (λ s kept runs. AreRevokedRuns runs s kept) conn.old conn.new result }
 {
@@ -63,8 +63,8 @@ fn reaches(found: Option<RunRow>, hi: u64) -> bool
     }
 }
 
-/// Whether each serial from `lo` to `hi`, both included and `lo` not above `hi`, is revoked. It reads one run: the
-/// last that begins with `lo` or before it.
+/// Whether every serial from `lo` to `hi`, both included and `lo` not above `hi`, is revoked. It reads one run: the
+/// last one that begins at or before `lo`.
 pub fn are_revoked<S: Alter>(
     alloc: Global,
     conn: &mut Connection<S>,

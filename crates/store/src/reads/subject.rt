@@ -1,6 +1,6 @@
 //! The certificate and the department that a message concerns.
 //!
-//! Large values are dropped by name: the proof of a function that ends with one takes each of its fields apart.
+//! Large values are dropped explicitly: if a function ends with one, its proof takes each field apart.
 
 ghost use Rattle.std.specs.Prelude.{◌≡◌, IfOk, IfSome, IsTrue, option_copied};
 ghost use Rattle.message.specs.Values.{is_department};
@@ -18,7 +18,7 @@ use sqlite::{Alter, Connection};
 use std::alloc::Global;
 use store_sql::Fault;
 
-/// The certificate and the department that a message concerns, if they are there.
+/// The certificate and the department that a message concerns, if they exist.
 #[derive(Drop)]
 pub(crate) struct Subject {
     pub(crate) certificate: Option<Certificate>,
@@ -40,7 +40,7 @@ fn certificate_of<S: Alter>(
     }
 }
 
-/// The department of the certificate, where the message concerns one.
+/// The department of the certificate, if the message concerns one, and otherwise the department that it names.
 fn department_of<S: Alter>(
     alloc: Global,
     conn: &mut Connection<S>,

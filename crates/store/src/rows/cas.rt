@@ -1,4 +1,4 @@
-//! The CAs of the tables.
+//! The CAs in the tables.
 
 ghost use Rattle.std.specs.Prelude.{◌≡◌};
 ghost use Rattle.store.specs.ShowingRows.{AsksRows};
@@ -26,7 +26,7 @@ impl OfRow<CaRow> for Ca {
     }
 }
 
-/// The CAs by number. `Damaged` where a row is that of no CA.
+/// The CAs by number. `Damaged` if a row isn't that of a CA.
 pub fn read_cas<S: Alter>(alloc: Global, conn: &mut Connection<S>) -> Result<Vec<Ca>, Fault>
     ensures { AsksRows S.Store (λ s kept cas. cas.items ≡ s.cas) conn.old conn.new result }
 {

@@ -1,6 +1,6 @@
-//! Certificates of rows.
+//! Certificates from rows.
 //!
-//! Large values are dropped by name: the proof of a function that ends with one takes each of its fields apart.
+//! Large values are dropped explicitly: if a function ends with one, its proof takes each field apart.
 
 ghost use Rattle.std.specs.Prelude.{◌≡◌, IfOk, Some};
 ghost use Rattle.std.specs.Result.{result_ok};
@@ -99,14 +99,14 @@ fn certificate_in(alloc: Global, row: &CertRow) -> Result<Certificate, Fault>
     }
 }
 
-/// The lawful certificate of a row, `Damaged` where there is none, `NoMemory` where a growth was refused.
+/// The valid certificate of a row, `Damaged` if there is none, `NoMemory` if an allocation was refused.
 pub fn read_certificate(alloc: Global, row: &CertRow) -> Result<Certificate, Fault>
     ensures exact { IsRead (certificate_in row.now) result }
 
-    // What is read has this row.
+    // The certificate's row is this one.
     ensures found { IfOk result (λ c. IsCertificate c × (row.now ≡ cert_row c)) }
 
-    // The row of a lawful certificate is not damaged.
+    // The row of a valid certificate isn't damaged.
     ensures again { (c : Certificate) → IsCertificate c → IsSigned c → row.now ≡ cert_row c → IsRead (Some c) result }
 {
     certificate_in(alloc, row)

@@ -1,4 +1,4 @@
-//! The certificates of the tables.
+//! The certificates in the tables.
 
 ghost use Rattle.store.specs.ShowingRows.{AreWithin, AsksRows};
 
@@ -19,8 +19,8 @@ impl OfRow<CertRow> for Certificate {
     }
 }
 
-/// The certificates whose serials lie between these two, both included, by serial. `Damaged` where the row of one is
-/// that of no lawful certificate.
+/// The certificates with serials from `lo` to `hi`, both included, by serial. `Damaged` if one of their rows isn't that
+/// of a valid certificate.
 pub fn read_certificates<S: Alter>(
     alloc: Global,
     conn: &mut Connection<S>,

@@ -1,6 +1,6 @@
 //! Departments as rows, and rows as departments.
 //!
-//! Large values are dropped by name: the proof of a function that ends with one takes each of its fields apart.
+//! Large values are dropped explicitly: if a function ends with one, its proof takes each field apart.
 
 ghost use Rattle.std.specs.Prelude.{◌≡◌, ◌<◌, ◌^◌, IfOk, IsTrue, Some, map};
 ghost use Rattle.message.specs.declared.department.Department.{Department};
@@ -46,7 +46,7 @@ fn copied(alloc: Global, pieces: &[&[u8]]) -> Result<Texts, NoMemory>
     Ok(texts)
 }
 
-/// The texts between the commas; of no bytes none.
+/// The texts between the commas; none if there are no bytes.
 fn parted(alloc: Global, text: &Text) -> Result<Texts, NoMemory>
     ensures { IfOk result (λ ts. ts ≡ parted text.now) }
 {
@@ -96,7 +96,8 @@ fn is_department(department: &Department) -> bool
         && fits_kind(kind, namespaces)
 }
 
-/// The row of a department: 1 for users and 2 for hosts, and lists as texts joined by commas, in their order.
+/// The row of a department: its kind is 1 for users and 2 for hosts, and its lists are joined by commas, in their
+/// order.
 pub fn department_row(alloc: Global, department: &Department) -> Result<DepartmentRow, NoMemory>
     requires { department.now.longest_life < 2 ^ 63 }
     ensures { IfOk result (λ row. row ≡ department_row department.now) }
@@ -173,14 +174,14 @@ fn lawful_in(alloc: Global, row: &DepartmentRow) -> Result<Department, Fault>
     }
 }
 
-/// The lawful department of a row, `Damaged` where there is none, `NoMemory` where a growth was refused.
+/// The valid department of a row, `Damaged` if there is none, `NoMemory` if an allocation was refused.
 pub fn read_department(alloc: Global, row: &DepartmentRow) -> Result<Department, Fault>
     ensures exact { IsRead (department_in row.now) result }
 
-    // What is read has this row.
+    // The department's row is this one.
     ensures found { IfOk result (λ d. IsTrue (is_department d) × (row.now ≡ department_row d)) }
 
-    // The row of a lawful department is not damaged.
+    // The row of a valid department isn't damaged.
     ensures again { (d : Department) → IsTrue (is_department d) → row.now ≡ department_row d
         → IsRead (Some d) result }
 {

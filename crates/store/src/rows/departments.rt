@@ -1,4 +1,4 @@
-//! The departments of the tables.
+//! The departments in the tables.
 
 ghost use Rattle.std.specs.Prelude.{◌≡◌};
 ghost use Rattle.office.specs.Publication.{departments_of};
@@ -21,7 +21,7 @@ impl OfRow<DepartmentRow> for Department {
     }
 }
 
-/// The departments by name. `Damaged` where a row is that of no lawful department.
+/// The departments by name. `Damaged` if a row isn't that of a valid department.
 pub fn read_departments<S: Alter>(
     alloc: Global,
     conn: &mut Connection<S>,

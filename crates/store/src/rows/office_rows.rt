@@ -1,6 +1,6 @@
-//! The row of the office.
+//! The office's row.
 //!
-//! Large values are dropped by name: the proof of a function that ends with one takes each of its fields apart.
+//! Large values are dropped explicitly: if a function ends with one, its proof takes each field apart.
 
 ghost use Rattle.std.specs.Prelude.{◌≡◌, IfOk, IsTrue, length};
 ghost use Rattle.office.specs.Openings.{IsOpening};
@@ -17,16 +17,16 @@ use store_sql::{Fault, OfficeRow, every_office};
 use text::{NoMemory, both};
 use values::{LAST_SERIAL, is_name};
 
-/// What the row of the office says.
+/// The contents of the office's row.
 #[derive(Drop)]
 pub struct Office {
-    /// What it began with.
+    /// Its initial configuration.
     pub opening: Opening,
-    /// The serial to be handed out next.
+    /// The next serial to be issued.
     pub next: u64,
-    /// The version of the published list.
+    /// The version of the published KRL.
     pub version: u64,
-    /// The moment of its last change, in seconds since 1970-01-01 00:00:00 UTC.
+    /// The time of its last change, in seconds since 1970-01-01 00:00:00 UTC.
     pub date: u64,
 }
 
@@ -41,7 +41,7 @@ fn passes(opening: &Opening) -> bool
         && opening.last <= LAST_SERIAL
 }
 
-/// Whether an office can begin so.
+/// Whether the names and the serials of an initial configuration are valid.
 pub fn is_opening(opening: &Opening) -> bool
     ensures value { result ≡ is_opening opening.now }
     ensures lawful { length opening.now.ca ≡ 32 → IsTrue result → IsOpening opening.now }
@@ -103,7 +103,7 @@ fn only_office(alloc: Global, rows: &[OfficeRow]) -> Result<Office, Fault>
     }
 }
 
-/// The office's opening and its counters. `Damaged` where its table has not one row, or that is of no lawful office.
+/// The office's configuration and counters. `Damaged` unless its table has exactly one row, and a valid one.
 pub fn read_office<S: Alter>(alloc: Global, conn: &mut Connection<S>) -> Result<Office, Fault>
     ensures asks { AsksRows S.Store (λ s kept office. IsOfficeOf office s) conn.old conn.new result }
     ensures lawful { IfOk result IsLawfulOffice }

@@ -1,11 +1,11 @@
-//! Rows as values of the office.
+//! Conversion of rows to the office's values.
 
 ghost use Rattle.store.specs.Reading.{IsRead, each, vec_of};
 
 use std::alloc::Global;
 use store_sql::Fault;
 
-/// A value that a row is.
+/// A value that a row represents.
 pub(crate) trait OfRow<R>: Sized + Drop {
     ghost use Rattle.std.specs.Prelude.{Option};
 

@@ -6,7 +6,7 @@ ghost use Rattle.store.specs.Faults.{fault_of, told};
 use office::StoreFault;
 use store_sql::Fault;
 
-/// The register's fault of a fault of the tables.
+/// The register's fault for a fault of the tables.
 pub fn fault_of(fault: Fault) -> StoreFault
     ensures { result ≡ fault_of fault }
 {
@@ -17,7 +17,7 @@ pub fn fault_of(fault: Fault) -> StoreFault
     }
 }
 
-/// The register's answer of an answer of the tables.
+/// The register's answer for an answer of the tables.
 pub fn told<T>(answer: Result<T, Fault>) -> Result<T, StoreFault>
     ensures { result ≡ told answer }
 {

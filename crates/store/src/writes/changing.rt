@@ -1,4 +1,4 @@
-//! One change of the tables.
+//! A single change of the tables.
 
 ghost use Rattle.std.specs.Prelude.{◌∷◌, [], IsTrue};
 ghost use Rattle.store_sql.specs.Calls.{Stays};
@@ -76,7 +76,7 @@ fn add_ca<S: Alter>(
     insert_ca(conn, &row)
 }
 
-/// Makes a change, over a connection that is open. A CA gets this number, and serves from this serial on.
+/// Makes a change over an open connection. A new CA gets this number and serves from this serial on.
 pub(crate) fn make<S: Alter>(
     alloc: Global,
     conn: &mut Connection<S>,

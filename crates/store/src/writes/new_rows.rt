@@ -1,4 +1,4 @@
-//! Rows that are put in.
+//! Rows to be inserted.
 
 ghost use Rattle.std.specs.Prelude.{◌≡◌, ◌<◌, ◌^◌, IfOk, IfSome, IsSome};
 ghost use Rattle.std.specs.Option.{option_map};
@@ -36,7 +36,7 @@ pub(crate) fn cert_row(alloc: Global, certificate: &Certificate) -> Result<CertR
     })
 }
 
-/// The row of a CA of this number that serves from this serial on.
+/// The row of a CA with this number that serves from this serial on.
 pub(crate) fn ca_row(
     alloc: Global,
     number: Number,
@@ -53,7 +53,7 @@ pub(crate) fn ca_row(
     })
 }
 
-/// The row of an arrival that gets this reply.
+/// The row of a received request with this reply.
 pub(crate) fn request_row(
     alloc: Global,
     arrival: &Arrival,
@@ -69,7 +69,7 @@ pub(crate) fn request_row(
     })
 }
 
-/// The counters that were decided, or `None` where one is 2^63 or more.
+/// The counters of the decision, or `None` if one is 2^63 or more.
 pub(crate) fn counters_of(decision: &Decision) -> Option<Counters>
     ensures value { IfSome result (λ k. k ≡ counters_of decision.now) }
     ensures some { Fits decision.now → IsSome result }

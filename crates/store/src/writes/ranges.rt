@@ -1,4 +1,4 @@
-//! Ranges of serials among the runs.
+//! Adding a range of serials to the runs (the maximal ranges) of revoked ones.
 
 ghost use Rattle.std.specs.Prelude.{◌≡◌, ◌<◌, ◌≤◌, ◌^◌, IsTrue};
 ghost use Rattle.message.specs.Values.{is_range};
@@ -12,7 +12,7 @@ use sqlite::{Alter, Connection};
 use std::alloc::Global;
 use store_sql::{Fault, Number, RunRow, delete_runs, insert_run, last_run};
 
-// Where a range from this serial on begins, once it is one with the last run that begins there or before.
+// The start of a range from this serial on, once merged with the last run that begins there or before.
 fn joined_low(lo: u64, found: Option<RunRow>) -> Number
     requires { lo < 2 ^ 63 }
     ensures { result ≡ joined_low lo found }
@@ -29,7 +29,7 @@ fn joined_low(lo: u64, found: Option<RunRow>) -> Number
     }
 }
 
-// Where a range up to this serial ends, once it is one with the last run that begins behind it or before.
+// The end of a range up to this serial, once merged with the last run that begins at most one serial after it.
 fn joined_high(hi: u64, found: Option<RunRow>) -> Number
     requires { hi < 2 ^ 63 }
     ensures { result ≡ joined_high hi found }
@@ -47,7 +47,7 @@ fn replace<S: Alter>(conn: &mut Connection<S>, run: &RunRow) -> Result<(), Fault
     insert_run(conn, run)
 }
 
-// Puts the run from this serial on.
+// Writes the merged run from this serial on.
 fn put_from<S: Alter>(
     alloc: Global,
     conn: &mut Connection<S>,
@@ -63,8 +63,8 @@ fn put_from<S: Alter>(
     replace(conn, &RunRow { lo, hi })
 }
 
-/// Puts a range among the runs: it and those that it touches or overlaps become one. It reads two runs, however many
-/// there are.
+/// Adds a range to the runs: it and those that it touches or overlaps are merged into one. It reads two runs, however
+/// many there are.
 pub(crate) fn put_range<S: Alter>(
     alloc: Global,
     conn: &mut Connection<S>,

@@ -1,4 +1,4 @@
-//! The whole of what was decided.
+//! The writes of a whole decision.
 
 ghost use Rattle.office.specs.Decided.{IsLawfulChange};
 ghost use Rattle.store_sql.specs.Changes.{with_counters, with_request};
@@ -46,14 +46,14 @@ fn write_rows<S: Alter>(
     make(alloc, conn, number, counters.next, change)
 }
 
-/// Writes what was decided of an arrival, inside a transaction: the change, the counters and a row for the request.
-/// `cas` are the CAs that are there.
+/// Writes the decision on a received request, inside a transaction: the change, the counters and a row for the request.
+/// `cas` are the existing CAs.
 ///
 /// # Errors
 ///
-/// `Device`, where the database failed or its rules refuse a row that is due. `NoMemory`, where memory was refused.
-/// `Damaged`, where a counter is 2^63 or more, or a row isn't of the form of its table. Tables that hold the rows of a
-/// lawful state, in which the decision has room, give no `Damaged`.
+/// `Device` if the database failed or its rules refuse one of these rows. `NoMemory` if memory was refused. `Damaged`
+/// if a counter is 2^63 or more, or a row isn't of the form of its table. Tables that hold the rows of a valid state
+/// with room for the decision never give `Damaged`.
 pub fn write<S: Alter>(
     alloc: Global,
     conn: &mut Connection<S>,
@@ -63,9 +63,10 @@ pub fn write<S: Alter>(
 ) -> Result<(), Fault>
     requires lawful { IsLawfulChange decision.now.change }
 
-    // Of tables that hold the rows of a lawful state those of the state with what was decided come out, and a row for
-    // the arrival; or, with an error, nothing is committed. Of such tables a fault is want of memory, or the database
-    // failed, or its rules refuse a row that is due. A crash in its midst commits nothing.
+    // Tables that hold the rows of a valid state then hold those of the state after the decision, and a row for the
+    // request; or, with an error, nothing is committed. For such tables the causes of a fault are lack of memory, a
+    // failure of the database, or its rules refusing a row that has to be written. A crash during the call commits
+    // nothing.
     ensures { DoesIn S.Store (IsDue decision.now cas.now) (contents_after decision.now arrival.now)
         (λ x. RefusesDecision decision.now arrival.now cas.now (contents_of x.0 x.1)) conn.old conn.new result }
 {

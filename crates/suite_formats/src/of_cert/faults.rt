@@ -1,11 +1,11 @@
-//! Bytes that are no body.
+//! Bytes that aren't an unsigned certificate (body).
 
 use cert::{CertFault, read_body};
 use std::alloc::Global;
 use text::NoMemory;
 
-/// The body of a key of bytes 0x22, a nonce of 0x33 and a CA of 0x11: serial 1, a user, key id web/alice, principal
-/// alice, from 1000 to 2000.
+/// The body with a key of bytes 0x22, a nonce of 0x33 and a CA of 0x11: serial 1, a user, key ID web/alice, principal
+/// alice, valid from 1000 to 2000.
 const PLAIN: &[u8; 229] =
     b"\x00\x00\x00 ssh-ed25519-cert-v01@openssh.com\x00\x00\x00 33333333333333333333333333333333\x00\x00\x00\
     \x20\"\"\"\"\"\"\"\"\"\"\"\"\"\"\"\"\"\"\"\"\"\"\"\"\"\"\"\"\"\"\"\"\x00\x00\x00\x00\x00\x00\x00\x01\
@@ -24,7 +24,7 @@ const WITH_COMMAND: &[u8; 263] =
     \x00 \x11\x11\x11\x11\x11\x11\x11\x11\x11\x11\x11\x11\x11\x11\x11\x11\x11\x11\x11\x11\x11\x11\x11\x11\
     \x11\x11\x11\x11\x11\x11\x11\x11";
 
-/// The first beginning of a body that isn't seen to be cut, and its fault.
+/// The length of the first prefix of a body that isn't recognized as truncated, and its fault.
 fn first_uncut(alloc: Global, body: &[u8]) -> Option<(usize, Option<CertFault>)> {
     for n in 0..body.len() {
         let fault = read_body(alloc, &body[..n]).err();
@@ -41,7 +41,7 @@ fn each_beginning_is_cut(rt: HostRuntime) {
     assert_eq!(rt; first_uncut(rt.alloc(), WITH_COMMAND), None);
 }
 
-/// Where a part of `PLAIN` begins and ends, what stands there instead, and the fault that this makes, if any.
+/// The start and end of a part of `PLAIN`, its replacement, and the fault that this causes, if any.
 type Case = (usize, usize, &'static [u8], Option<CertFault>);
 
 const FIELDS: [Case; 15] = [
@@ -62,7 +62,7 @@ const FIELDS: [Case; 15] = [
     (229, 229, b"\0", Some(CertFault::TrailingBytes)),
 ];
 
-/// None, 16 that are distinct, 17 that are distinct, and one twice.
+/// None, 16 distinct ones, 17 distinct ones, and one twice.
 const PRINCIPALS: [Case; 4] = [
     (133, 146, b"\0\0\0\0", Some(CertFault::BadPrincipals)),
     (
@@ -87,7 +87,7 @@ const PRINCIPALS: [Case; 4] = [
     ),
 ];
 
-/// The last serial and the one behind it; the latest end, the one behind it, and an end at the beginning.
+/// The last serial and the one after it; the latest end, the one after it, and an end at the beginning.
 const NUMBERS: [Case; 5] = [
     (108, 116, b"\x7f\xff\xff\xff\xff\xff\xff\xfe", None),
     (
@@ -111,8 +111,8 @@ const NUMBERS: [Case; 5] = [
     ),
 ];
 
-/// A flag without and with a value, and a command without its inner length; an extension twice, two that descend, and
-/// one that is unknown; and an extension of a host.
+/// A flag without and with a value, and a command without its inner length; an extension twice, two in descending
+/// order, and an unknown one; and an extension in a host certificate.
 const OPTIONS: [Case; 7] = [
     (
         162,
@@ -174,7 +174,7 @@ fn fault_of(alloc: Global, case: &Case) -> Option<CertFault> {
     }
 }
 
-/// The place of the first case that has another fault, this fault, and that of the case.
+/// The index of the first case with a different fault, that fault, and the expected one.
 fn first_other(
     alloc: Global,
     cases: &[Case],

@@ -5,7 +5,7 @@ use std::alloc::Global;
 use text::{NoMemory, Pair, Pairs, Text};
 use values::{Kind, OptionField};
 
-/// Pairs of one value, with these names.
+/// Pairs with these names, all with one value.
 fn pairs(alloc: Global, names: &[&[u8]], value: &[u8]) -> Result<Pairs, NoMemory> {
     let mut pairs = Pairs::new(alloc);
     for name in names {
@@ -17,7 +17,7 @@ fn pairs(alloc: Global, names: &[&[u8]], value: &[u8]) -> Result<Pairs, NoMemory
     Ok(pairs)
 }
 
-/// A kind, a field, names, the value of each, and their fault, if any.
+/// A kind, a field, names, the value of each, and the expected fault, if any.
 type Case = (
     Kind,
     OptionField,
@@ -117,7 +117,7 @@ fn fault_of(alloc: Global, case: &Case) -> Option<OptionFault> {
     }
 }
 
-/// The place of the first case that has another fault, this fault, and that of the case.
+/// The index of the first case with a different fault, that fault, and the expected one.
 fn first_other(
     alloc: Global,
     cases: &[Case],

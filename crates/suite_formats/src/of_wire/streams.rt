@@ -1,4 +1,4 @@
-//! Readers and writers that end, fail and go step by step.
+//! Readers and writers that end, fail and proceed step by step.
 
 ghost use Rattle.std.specs.Prelude.{◌<◌, ◌+◌, ◌≤◌, IfOk};
 
@@ -12,7 +12,7 @@ use wire::{
 
 const TEXT: &[u8] = b"testing";
 
-/// What four reads into three dashes each make of them, or nothing where a read fails.
+/// The buffers after four reads into three dashes each, or `None` for a read that fails.
 type Reads = [Option<[u8; 3]>; 4];
 
 fn three<S: Source>(source: &mut S) -> Option<[u8; 3]>
@@ -49,7 +49,7 @@ fn a_reader_goes_at_its_pace_and_ends_or_fails(rt: HostRuntime) {
     assert_eq!(rt; reads(Pace::Whole, Ending::Fails), (failing, 1));
 }
 
-/// The reads of four nonce bytes, and how often they failed.
+/// The reads from four nonce bytes, and how often they failed.
 fn nonces(ending: Ending) -> (Reads, u64) {
     let mut nonces = ScriptedNonces::new(b'3', 4, ending);
     (four(&mut nonces), nonces.failures())
@@ -62,7 +62,7 @@ fn nonces_end_or_fail_after_their_count(rt: HostRuntime) {
     assert_eq!(rt; nonces(Ending::Fails), ([three, one, None, None], 2));
 }
 
-/// What filling five dashes answers, and what they are then.
+/// The result of filling five dashes, and the buffer after it.
 type Filled = (Result<usize, Failed>, [u8; 5]);
 
 fn filled<S: Source>(source: &mut S) -> Filled
@@ -109,7 +109,7 @@ fn a_reader_that_fails_has_given_what_it_had(rt: HostRuntime) {
     assert_eq!(rt; fills(Pace::OneByte, Ending::Fails), wanted);
 }
 
-/// How writing ends, how often a writer of this limit failed, and what it took.
+/// How writing ends, how often a writer with this limit failed, and the bytes that it took.
 type Taken = (Result<(), Failed>, u64, Vec<u8>);
 
 fn taken(alloc: Global, pace: Pace, limit: usize) -> Taken {
@@ -133,7 +133,7 @@ fn is_due(limit: usize, seen: &Taken) -> bool {
     (*done, *failures) == wanted && bytes.as_slice() == TEXT.get(..limit).unwrap_or(TEXT)
 }
 
-/// The first limit up to 8 at which a writer takes something else, and that.
+/// The first limit up to 8 at which a writer takes other bytes, and these.
 fn first_other(alloc: Global, pace: Pace) -> Option<(usize, Taken)> {
     for limit in 0..9 {
         let seen = taken(alloc, pace, limit);
@@ -165,7 +165,7 @@ fn a_vector_takes_all_after_what_it_holds(rt: HostRuntime) {
     assert_eq!(rt; bytes.as_slice(), b"old testing".as_slice());
 }
 
-/// A stream of std that is interrupted some times, and then gives and takes so many bytes, or fails.
+/// A stream of std that is interrupted a few times, and then transfers this many bytes, or fails.
 #[derive(Drop)]
 struct Troubled {
     interruptions: u8,
@@ -203,7 +203,7 @@ impl Write for Troubled {
     }
 }
 
-/// What a read of such a stream answers, and how often it failed.
+/// The result of a read from such a stream, and how often it failed.
 fn read(interruptions: u8, bytes: Option<usize>) -> (Result<usize, Failed>, u64) {
     let mut source = FromRead::new(Troubled {
         interruptions,
@@ -213,7 +213,7 @@ fn read(interruptions: u8, bytes: Option<usize>) -> (Result<usize, Failed>, u64)
     (done, source.failures())
 }
 
-/// What a write to such a stream answers, and how often it failed.
+/// The result of a write to such a stream, and how often it failed.
 fn write(interruptions: u8, bytes: Option<usize>, text: &[u8]) -> (Result<usize, Failed>, u64) {
     let mut sink = FromWrite::new(Troubled {
         interruptions,

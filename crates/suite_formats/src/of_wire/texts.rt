@@ -24,7 +24,7 @@ fn examples_of_the_standards_are_written(rt: HostRuntime) {
     assert_eq!(rt; out.as_slice(), EXAMPLES);
 }
 
-/// What a cursor reads of the examples, whether it is at the end then, and what it reads there.
+/// The values that a cursor reads from the examples, whether it is at the end then, and what it reads there.
 fn read<'a>() -> (Option<u32>, Option<&'a [u8]>, Option<u64>, bool, Option<u8>) {
     let mut cursor = Cursor::new(EXAMPLES);
     let values = (cursor.u32(), cursor.string(), cursor.u64());
@@ -43,7 +43,7 @@ fn examples_of_the_standards_are_read(rt: HostRuntime) {
     assert_eq!(rt; read(), wanted);
 }
 
-/// What a cursor reads where a string is cut: no string, its length, no long number, its first byte; and that more is
+/// The reads of a cursor at a truncated string: no string, its length, no long number, its first byte; and that more is
 /// left.
 fn read_cut() -> (bool, Option<u32>, Option<u64>, Option<u8>, bool) {
     let mut cursor = Cursor::new(b"\x00\x00\x00\x07testin");

@@ -1,4 +1,4 @@
-//! A register that stands for none.
+//! A register that represents no office.
 
 ghost use Rattle.std.specs.Prelude.{◌≡◌};
 
@@ -10,7 +10,7 @@ use office::{
 use std::alloc::Global;
 use text::{Text, Texts};
 
-/// It accepts each arrival with one reply, and counts them. It means no history.
+/// It accepts each arrival with the same reply, and counts them. It represents no history.
 #[derive(Drop)]
 pub(crate) struct Register {
     pub(crate) applied: u64,

@@ -8,16 +8,16 @@ use super::Ending;
 use crate::failure::Failed;
 use crate::source::Source;
 
-/// A nonce source that gives one byte again and again, and that ends or fails after so many.
+/// A nonce source that gives the same byte repeatedly, and ends or fails after a given number of bytes.
 #[derive(Drop)]
 pub struct ScriptedNonces {
     /// The byte that it gives.
     pub byte: u8,
-    /// How many bytes it still gives.
+    /// The number of bytes that it still gives.
     pub left: usize,
     /// What it does once it has given them.
     pub ending: Ending,
-    /// How many calls failed so far.
+    /// The number of calls that failed so far.
     pub failures: u64,
 }
 
@@ -53,7 +53,7 @@ impl Source for ScriptedNonces {
             (Some (replicate self.new.left self.new.byte)) result buf.new }
         ensures failed { self.new.failures ≡ (if is_ok result then self.old.failures else self.old.failures + 1) }
 
-        // The script.
+        // What the script ensures.
         ensures most { IfOk result (λ n. n ≡ min self.old.left (length buf.new)) }
         ensures fails { IsErr result ↔ ((self.old.left ≡ 0) × (self.old.ending ≡ Ending.Fails)) }
         ensures script { (self.new.byte ≡ self.old.byte) × (self.new.ending ≡ self.old.ending) }

@@ -8,16 +8,16 @@ use super::{Ending, Pace};
 use crate::failure::Failed;
 use crate::source::Source;
 
-/// A reader of bytes in memory, at a pace that is chosen, that ends or fails after the last.
+/// A reader of bytes in memory, at a given pace, that ends or fails after the last byte.
 #[derive(Drop)]
 pub struct ScriptedReader<'a> {
     /// The bytes that it still gives.
     pub rest: &'a [u8],
-    /// How many bytes a call gives.
+    /// The number of bytes that a call gives.
     pub pace: Pace,
     /// What it does once it has given them all.
     pub ending: Ending,
-    /// How many calls failed so far.
+    /// The number of calls that failed so far.
     pub failures: u64,
 }
 
@@ -55,7 +55,7 @@ impl Source for ScriptedReader<'_> {
         ensures bytes { ReadConsumes (Some self.old.rest.now) (Some self.new.rest.now) result buf.new }
         ensures failed { self.new.failures ≡ (if is_ok result then self.old.failures else self.old.failures + 1) }
 
-        // The script.
+        // What the script ensures.
         ensures paced { IfOk result (λ n. n ≡ paced self.old.pace (min (length self.old.rest.now) (length buf.new))) }
         ensures fails { IsErr result ↔ ((self.old.rest.now ≡ []) × (self.old.ending ≡ Ending.Fails)) }
         ensures script { (self.new.pace ≡ self.old.pace) × (self.new.ending ≡ self.old.ending) }

@@ -1,4 +1,4 @@
-//! Writers in memory that fail after some bytes.
+//! Writers in memory that fail after a number of bytes.
 
 ghost use Rattle.std.specs.Prelude.{◌≡◌, ◌≤◌, ◌<◌, ◌+◌, Some, [], length, min, IfOk};
 ghost use Rattle.std.specs.Prelude.{IsOk, OnErr, IsErr, if◌then◌else◌, is_ok, vec_len};
@@ -11,17 +11,17 @@ use crate::failure::Failed;
 use crate::sink::Sink;
 use std::alloc::Global;
 
-/// A writer that keeps what it takes, at a pace that is chosen, and that fails once it has taken so many bytes.
-/// A growth that is refused is a failure too.
+/// A writer that stores the bytes it takes, at a given pace, and fails once it has taken a given number of bytes.
+/// An allocation that is refused is a failure too.
 #[derive(Drop)]
 pub struct ScriptedWriter {
     /// The bytes that it took.
     pub taken: Vec<u8>,
-    /// How many bytes a call takes.
+    /// The number of bytes that a call takes.
     pub pace: Pace,
-    /// How many more bytes it takes.
+    /// The number of further bytes that it takes.
     pub left: usize,
-    /// How many calls failed so far.
+    /// The number of calls that failed so far.
     pub failures: u64,
 }
 
@@ -60,7 +60,7 @@ impl Sink for ScriptedWriter {
         ensures bytes { WriteAppends (Some self.old.taken.items) (Some self.new.taken.items) result bytes.now }
         ensures failed { self.new.failures ≡ (if is_ok result then self.old.failures else self.old.failures + 1) }
 
-        // The script. Short of its limit it fails only where a growth was refused.
+        // What the script ensures. Below its limit it fails only if an allocation was refused.
         ensures paced { IfOk result (λ n. n ≡ paced self.old.pace (min (length bytes.now) self.old.left)) }
         ensures left { IfOk result (λ n. self.new.left + n ≡ self.old.left) }
         ensures full { 0 < length bytes.now → self.old.left ≡ 0 → IsErr result }

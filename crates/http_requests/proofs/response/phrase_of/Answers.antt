@@ -9,7 +9,7 @@ abbrev is_short : Option (List ℕ) → Bool
 is_short None = true
 is_short (Some phrase) = nat_le (length phrase) 31
 
--- the phrases of all codes below n have
+-- this holds of the phrases of all codes below n
 abbrev are_short_below : ℕ → Bool
 are_short_below zero = true
 are_short_below (suc n) = is_short (reason_phrase n) && are_short_below n

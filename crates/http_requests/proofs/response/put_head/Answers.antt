@@ -4,7 +4,7 @@ use Rattle.http.specs.StatusCode.{code_digits}
 use Rattle.http_requests.specs.Responses.{phrase, media_type_text}
 use Rattle.http_requests.proofs.response.put_head.Goals as goal
 
--- nine pieces, of which the first and each second one are what they are equal to
+-- nine pieces, of which the first and the even ones are replaced by equals
 nine : {o v x y z u : List ℕ} (w a b c d e f g h i : List ℕ) → v ≡ a → x ≡ b → y ≡ d → z ≡ f → u ≡ h
     → o ≡ w ++ (v ++ (x ++ (c ++ (y ++ (e ++ (z ++ (g ++ (u ++ (i ++ [])))))))))
     → o ≡ w ++ (a ++ b ++ c ++ d ++ e ++ f ++ g ++ h ++ i)

@@ -2,7 +2,7 @@ use Rattle.std.proofs.Common.{◌≤◌, ◌+◌}
 use Rattle.server.specs.Connections.{Meets}
 use Rattle.server.proofs.serve.serve_on.Given as goal
 
--- so many connections were met so far, and each added one failure at most
+-- the connections so far were handled, and each added one failure of the nonce source at most
 abbrev pub invariant-loop-served : goal.invariant-loop-served
 invariant-loop-served g l =
     let book = g.L.Listener.book in

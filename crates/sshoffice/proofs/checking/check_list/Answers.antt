@@ -6,7 +6,7 @@ use Rattle.sshoffice.specs.declared.job_fault.JobFault.{JobFault}
 use Rattle.sshoffice.specs.declared.job_fault.JobFault.TheVariants as job
 use Rattle.sshoffice.proofs.checking.check_list.Goals as goal
 
--- the fault that is told is the first one of the bytes that were read
+-- the reported fault is the first one of the bytes that were read
 first_told : (left : Option (List ℕ)) (looked read : List ℕ) (found f : KrlFault) (told : JobFault)
     (done : Result Unit JobFault)
     → told ≡ job.List found → done ≡ Err told → done ≡ Err (job.List f) → looked ≡ read

@@ -11,7 +11,7 @@ use Rattle.sshoffice.proofs.Doing.{serves_asked}
 use Rattle.sshoffice.proofs.Found.{kept, opened_there, ran, ready_there}
 use Rattle.sshoffice.proofs.whole.serve_in.Goals as goal
 
--- a status is what it was once the database is closed
+-- closing the database leaves the status at most 1
 status_kept : (done : Result ℕ JobFault) (closing : Result Unit EndFault) → IfOk done (λ s. s ≤ 1)
     → IfOk (closed done closing) (λ s. s ≤ 1)
 status_kept (Ok x) (Ok u) small = small

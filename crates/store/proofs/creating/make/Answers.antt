@@ -14,7 +14,7 @@ use Rattle.store.proofs.Causes.{cause_of, fails_then}
 use Rattle.store.specs.Creating.{RefusesFirst}
 use Rattle.store.proofs.creating.make.Goals as goal
 
--- a database without tables, in which those of the office are made
+-- a database without tables, in which the office's tables are made
 bare_leads : (a b : State) → (IsBare no_schema a.now → Steps a b no_contents)
     → Leads (λ (_ : Unit {0}). IsBare no_schema) Has (λ _. no_contents) a b
 bare_leads a b made x bare = let s = goes a b no_contents (made bare) in (no_contents, s, s.means)

@@ -4,7 +4,7 @@ use Rattle.values.specs.Options.{is_known}
 use Rattle.values.specs.declared.option_field.OptionField.TheVariants.{Extensions}
 use Rattle.values.proofs.option_field.is_flag.Goals as goal
 
--- where the first test fails, the second decides
+-- if the first test fails, the second decides
 second_decides : (a b r : Bool) → a ≡ false → r ≡ b → r ≡ (a || b)
 second_decides a b r p q = rw p q
 

@@ -2,7 +2,7 @@ use Rattle.std.proofs.Common.{◌≡◌, ◌++◌, suc, drop}
 use Rattle.web.specs.Reports.{ca_lines, ca_lines_from}
 use Rattle.web.proofs.publishing.ca_lines.Given as goal
 
--- the lines so far and those to come
+-- the lines so far, followed by those to come, are all lines
 abbrev pub invariant-loop-ca : goal.invariant-loop-ca
 invariant-loop-ca l =
     record {

@@ -6,7 +6,7 @@ use Rattle.http_requests.specs.Places.{IsAt}
 use Rattle.http_requests.specs.Reading.{HasCome, WaitsBefore}
 use Rattle.web.proofs.taking.take_front.Given as goal
 
--- so many bytes were taken, each while those before it waited, and no call failed
+-- `count` bytes were taken, each while the bytes before it were undecided, and no call failed
 pub record SoFar (old new : Option (List ℕ)) (was is : ℕ) (spot : Spot) (taken : List ℕ) (count : ℕ) : Type 0 where
   pub consumed : Consumes old new taken
   pub shortest : WaitsBefore taken

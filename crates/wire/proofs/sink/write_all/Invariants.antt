@@ -2,7 +2,7 @@ use Rattle.std.proofs.Common.{◌≡◌, ◌≤◌, ◌-◌, ◌+◌, ℕ, List,
 use Rattle.std.specs.Io.KnownBytes.{Appends}
 use Rattle.wire.proofs.sink.write_all.Given as goal
 
--- the first `at` bytes were taken, no call failed, and at most as much room was used
+-- the first `at` bytes were taken, no call failed, and at most `at` bytes of room were used
 pub record Sent (old new : Option (List ℕ)) (was is before left : ℕ) (bytes : List ℕ) (at : ℕ) : Type 0 where
   pub sent : Appends old new (take at bytes)
   pub within : at ≤ length bytes

@@ -2,7 +2,7 @@ use Rattle.std.proofs.Common.{◌≡◌, ◌≤◌, ◌-◌, ℕ, List, Option, 
 use Rattle.std.specs.Io.KnownBytes.{Consumes}
 use Rattle.wire.proofs.source.read_full.Given as goal
 
--- the first `at` bytes came, and no call failed
+-- the first `at` bytes were read, and no call failed
 pub record Filled (old new : Option (List ℕ)) (was is : ℕ) (buf : List ℕ) (at : ℕ) : Type 0 where
   pub given : Consumes old new (take at buf)
   pub within : at ≤ length buf

@@ -40,7 +40,7 @@ returns-in-Err-clause-only g c clean blank =
 pub returns-then-has_any_table-clause-before : goal.returns-then-has_any_table-clause-before
 returns-then-has_any_table-clause-before g c clean = same_before (state g.S.Store c.args.conn)
 
--- an open connection that told a history had the tables of an office
+-- an open connection that represented a history had the tables of an office
 pub returns-in-Err-clause-told : goal.returns-in-Err-clause-told
 returns-in-Err-clause-told g c clean =
     let old = state g.S.Store c.args.conn in

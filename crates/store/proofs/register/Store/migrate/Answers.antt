@@ -28,7 +28,7 @@ returns-in-Err-clause-only g c clean is_open o l history before =
     c.in-Err.fault c.requires.unlimited (first_ca_fits o l history)
     ((c.in-Err.ensures.carries clean o l before).1 is_open)
 
--- an open connection that told a history had the table of CAs, so that nothing was done
+-- an open connection that represented a history had the table of CAs, so nothing was done
 pub returns-in-Err-clause-told : goal.returns-in-Err-clause-told
 returns-in-Err-clause-told g c clean =
     let old = state g.S.Store c.args.conn in

@@ -3,7 +3,7 @@ use Rattle.std.specs.Option.{option_map}
 use Rattle.store.specs.Reading.{each}
 use Rattle.store.proofs.rows.row_reader.read_each.Given as goal
 
--- the values of all rows are those so far, and behind them those of the other rows
+-- the values of all rows are those read so far, followed by those of the other rows
 abbrev pub invariant-loop-row : goal.invariant-loop-row
 invariant-loop-row g l =
     each g.T.OfRow.value l.rows

@@ -9,7 +9,7 @@ use Rattle.store.proofs.Once.{not_there}
 use Rattle.store.proofs.writes.changing.add_key_id.Goals as goal
 use Rattle.store.proofs.writes.changing.add_key_id.Goals.{in-None, in-Some}
 
--- a key id that is not there is refused for its size, or for want of room
+-- a missing key ID can be refused only for its size, or for lack of room
 pub returns : goal.returns
 returns g c =
     let key_id = c.args.key_id.now in
