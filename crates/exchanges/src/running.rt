@@ -2,6 +2,7 @@
 
 ghost use Rattle.std.specs.Prelude.{◌≡◌, Err, IfErr, OnOk, false, true};
 ghost use Rattle.std.specs.Io.KnownBytes.{Appends};
+ghost use Rattle.office.specs.Registers.{FailuresPersist};
 ghost use Rattle.web.specs.Answers.{Keeps};
 ghost use Rattle.web.specs.Runs.{AskNoChange};
 ghost use Rattle.exchanges.specs.Printing.{AreRun, Prints, all_given_text, has_fault};
@@ -70,8 +71,7 @@ pub fn apply_exchanges<R: Registry, W: Write>(
     exchanges: &[Exchange],
     out: &mut W,
 ) -> Result<(), RunFault>
-    ensures honest { R.is_honest registry.new → R.is_honest registry.old }
-    ensures was_open { R.is_honest registry.new → R.is_open registry.new → R.is_open registry.old }
+    ensures failures { FailuresPersist R.is_honest R.is_open registry.old registry.new }
     ensures ok { R.is_honest registry.new → OnOk result (Prints (R.means registry.old) (R.means registry.new)
         (Keeps R.means R.is_open registry.new) exchanges.now (W.contents out.old) (W.contents out.new) false) }
     ensures fault { R.is_honest registry.new → result ≡ Err RunFault.Fault

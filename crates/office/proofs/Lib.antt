@@ -14,3 +14,4 @@ pub mod Listed
 pub mod Texts
 pub mod Dates
 pub mod Waiting
+pub mod Registers

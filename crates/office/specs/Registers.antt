@@ -24,6 +24,20 @@ abbrev pub MeansOneMore : {S : Type 0} → (means : S → Opening → List Arriv
     → Type 0
 MeansOneMore means arrival old new = (o : Opening) (l : List Arrival) → means old o l → means new o (l ++ arrival ∷ [])
 
+-- a call repairs nothing: a register that has lost its honesty, or that a failed disk has shut, stays so
+pub record FailuresPersist {S : Type 0} (is_honest is_open : S → Type 0) (old new : S) : Type 0 where
+  pub honest : is_honest new → is_honest old
+  pub was_open : is_honest new → is_open new → is_open old
+
+-- a reading call: failures persist, the register means what it meant, and while it is open its stored rows are
+-- unchanged
+pub record Preserves {S : Type 0} (is_honest is_open : S → Type 0) (is_as_before : S → S → Type 0)
+    (means : S → Opening → List Arrival → Type 0) (old new : S) : Type 0 where
+  pub honest : is_honest new → is_honest old
+  pub was_open : is_honest new → is_open new → is_open old
+  pub same : is_honest new → MeansTheSame means old new
+  pub before : is_honest new → is_open new → is_as_before old new
+
 -- a register that meant a history fails only for lack of memory or because the database failed
 abbrev pub FailsAsARegister : {S X : Type 0} → (means : S → Opening → List Arrival → Type 0) → S → Result X StoreFault
     → Type 0

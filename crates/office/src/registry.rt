@@ -9,8 +9,8 @@ ghost use Rattle.office.specs.Publication.{AreRevoked, departments_of, issued_of
 ghost use Rattle.office.specs.History.{due, state};
 ghost use Rattle.office.specs.Shows.{IsOffice};
 ghost use Rattle.office.specs.Faults.{HasCause};
-ghost use Rattle.office.specs.Registers.{AnswersBy, FailsAsARegister, FailsWithin, MeansOneMore};
-ghost use Rattle.office.specs.Registers.{MeansTheSame};
+ghost use Rattle.office.specs.Registers.{AnswersBy, FailsAsARegister, FailsWithin, FailuresPersist, MeansOneMore};
+ghost use Rattle.office.specs.Registers.{MeansTheSame, Preserves};
 
 use crate::arrival::{Arrival, Outcome};
 use crate::ca::Ca;
@@ -53,8 +53,7 @@ pub trait Registry {
     /// Handles the next arrival: the stored reply, a first acceptance or a refusal, as specified. After a fault the
     /// register means what it meant.
     fn apply(&mut self, alloc: Global, arrival: Arrival) -> Result<Outcome, StoreFault>
-        ensures honest { is_honest self.new → is_honest self.old }
-        ensures was_open { is_honest self.new → is_open self.new → is_open self.old }
+        ensures failures { FailuresPersist is_honest is_open self.old self.new }
         ensures stays_open { is_honest self.new → OnOk result (is_open self.new) }
         ensures due { is_honest self.new → AnswersBy means self.old result (λ o l outcome. outcome ≡ due o l arrival) }
         ensures next { is_honest self.new → OnOk result (MeansOneMore means arrival self.old self.new) }
@@ -65,97 +64,73 @@ pub trait Registry {
 
     /// The CAs by number.
     fn cas(&mut self, alloc: Global) -> Result<Vec<Ca>, StoreFault>
-        ensures honest { is_honest self.new → is_honest self.old }
-        ensures was_open { is_honest self.new → is_open self.new → is_open self.old }
+        ensures preserves { Preserves is_honest is_open is_as_before means self.old self.new }
         ensures stays_open { is_honest self.new → OnOk result (is_open self.new) }
         ensures row { is_honest self.new → AnswersBy means self.old result (λ o l cas. cas.items ≡ (state o l).cas) }
-        ensures same { is_honest self.new → MeansTheSame means self.old self.new }
-        ensures before { is_honest self.new → is_open self.new → is_as_before self.old self.new }
         ensures cause { IfErr result (λ e. HasCause e (fails self.old self.new)) }
         ensures only { is_honest self.new → FailsAsARegister means self.old result };
 
     /// The body (the unsigned certificate) for a serial, or `None` if the serial wasn't issued.
     fn body(&mut self, alloc: Global, serial: u64) -> Result<Option<Text>, StoreFault>
-        ensures honest { is_honest self.new → is_honest self.old }
-        ensures was_open { is_honest self.new → is_open self.new → is_open self.old }
+        ensures preserves { Preserves is_honest is_open is_as_before means self.old self.new }
         ensures stays_open { is_honest self.new → OnOk result (is_open self.new) }
         ensures row { is_honest self.new → AnswersBy means self.old result
             (λ o l body. body ≡ body_of (state o l) serial) }
-        ensures same { is_honest self.new → MeansTheSame means self.old self.new }
-        ensures before { is_honest self.new → is_open self.new → is_as_before self.old self.new }
         ensures cause { IfErr result (λ e. HasCause e (fails self.old self.new)) }
         ensures only { is_honest self.new → FailsAsARegister means self.old result };
 
     /// The certificate for a serial, or `None` if the serial wasn't issued.
     fn certificate(&mut self, alloc: Global, serial: u64) -> Result<Option<Issued>, StoreFault>
-        ensures honest { is_honest self.new → is_honest self.old }
-        ensures was_open { is_honest self.new → is_open self.new → is_open self.old }
+        ensures preserves { Preserves is_honest is_open is_as_before means self.old self.new }
         ensures stays_open { is_honest self.new → OnOk result (is_open self.new) }
         ensures row { is_honest self.new → AnswersBy means self.old result
             (λ o l issued. issued ≡ issued_of (state o l) serial) }
-        ensures same { is_honest self.new → MeansTheSame means self.old self.new }
-        ensures before { is_honest self.new → is_open self.new → is_as_before self.old self.new }
         ensures cause { IfErr result (λ e. HasCause e (fails self.old self.new)) }
         ensures only { is_honest self.new → FailsAsARegister means self.old result };
 
     /// The contents of the published list.
     fn revoked(&mut self, alloc: Global) -> Result<Revoked, StoreFault>
-        ensures honest { is_honest self.new → is_honest self.old }
-        ensures was_open { is_honest self.new → is_open self.new → is_open self.old }
+        ensures preserves { Preserves is_honest is_open is_as_before means self.old self.new }
         ensures stays_open { is_honest self.new → OnOk result (is_open self.new) }
         ensures row { is_honest self.new → AnswersBy means self.old result
             (λ o l revoked. AreRevoked revoked (state o l)) }
-        ensures same { is_honest self.new → MeansTheSame means self.old self.new }
-        ensures before { is_honest self.new → is_open self.new → is_as_before self.old self.new }
         ensures cause { IfErr result (λ e. HasCause e (fails self.old self.new)) }
         ensures only { is_honest self.new → FailsAsARegister means self.old result };
 
     /// The departments by name.
     fn departments(&mut self, alloc: Global) -> Result<Vec<Department>, StoreFault>
-        ensures honest { is_honest self.new → is_honest self.old }
-        ensures was_open { is_honest self.new → is_open self.new → is_open self.old }
+        ensures preserves { Preserves is_honest is_open is_as_before means self.old self.new }
         ensures stays_open { is_honest self.new → OnOk result (is_open self.new) }
         ensures row { is_honest self.new → AnswersBy means self.old result
             (λ o l rows. rows.items ≡ departments_of (state o l)) }
-        ensures same { is_honest self.new → MeansTheSame means self.old self.new }
-        ensures before { is_honest self.new → is_open self.new → is_as_before self.old self.new }
         ensures cause { IfErr result (λ e. HasCause e (fails self.old self.new)) }
         ensures only { is_honest self.new → FailsAsARegister means self.old result };
 
     /// The serials and the key IDs that are revoked.
     fn revocations(&mut self, alloc: Global) -> Result<Revocations, StoreFault>
-        ensures honest { is_honest self.new → is_honest self.old }
-        ensures was_open { is_honest self.new → is_open self.new → is_open self.old }
+        ensures preserves { Preserves is_honest is_open is_as_before means self.old self.new }
         ensures stays_open { is_honest self.new → OnOk result (is_open self.new) }
         ensures row { is_honest self.new → AnswersBy means self.old result
             (λ o l revocations. AreRevocations revocations (state o l)) }
-        ensures same { is_honest self.new → MeansTheSame means self.old self.new }
-        ensures before { is_honest self.new → is_open self.new → is_as_before self.old self.new }
         ensures cause { IfErr result (λ e. HasCause e (fails self.old self.new)) }
         ensures only { is_honest self.new → FailsAsARegister means self.old result };
 
     /// Certificates by serial, the first at place 0: at most 1000 of them from this place on, and none at the end.
     fn certificates(&mut self, alloc: Global, place: u64) -> Result<Vec<Certificate>, StoreFault>
-        ensures honest { is_honest self.new → is_honest self.old }
-        ensures was_open { is_honest self.new → is_open self.new → is_open self.old }
+        ensures preserves { Preserves is_honest is_open is_as_before means self.old self.new }
         ensures stays_open { is_honest self.new → OnOk result (is_open self.new) }
         ensures row { is_honest self.new → AnswersBy means self.old result
             (λ o l rows. rows.items ≡ batch_of (state o l) place) }
-        ensures same { is_honest self.new → MeansTheSame means self.old self.new }
-        ensures before { is_honest self.new → is_open self.new → is_as_before self.old self.new }
         ensures cause { IfErr result (λ e. HasCause e (fails self.old self.new)) }
         ensures only { is_honest self.new → FailsAsARegister means self.old result };
 
     /// The certificates that are neither signed nor revoked, by serial. The default implementation looks through all
     /// certificates.
     fn pending(&mut self, alloc: Global) -> Result<Vec<Pending>, StoreFault>
-        ensures honest { is_honest self.new → is_honest self.old }
-        ensures was_open { is_honest self.new → is_open self.new → is_open self.old }
+        ensures preserves { Preserves is_honest is_open is_as_before means self.old self.new }
         ensures stays_open { is_honest self.new → OnOk result (is_open self.new) }
         ensures row { is_honest self.new → AnswersBy means self.old result
             (λ o l rows. rows.items ≡ pending_of (state o l)) }
-        ensures same { is_honest self.new → MeansTheSame means self.old self.new }
-        ensures before { is_honest self.new → is_open self.new → is_as_before self.old self.new }
         ensures cause { is_honest self.new → IfErr result (λ e. HasCause e (FailsWithin means fails self.old self.new)) }
         ensures only { is_honest self.new → FailsAsARegister means self.old result }
     {

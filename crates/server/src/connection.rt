@@ -1,6 +1,7 @@
 //! Serving one connection.
 
 ghost use Rattle.std.specs.Prelude.{◌≤◌, ◌<◌, ◌+◌};
+ghost use Rattle.office.specs.Registers.{FailuresPersist};
 ghost use Rattle.server.specs.Connections.{IfGiven, Visits};
 
 use crate::connection_fault::Fault;
@@ -19,8 +20,7 @@ pub(crate) fn serve_connection<R: AllocGlobal, L: Listener, S: Registry, N: Sour
     nonces: &mut N,
 ) -> Result<(), Fault>
     requires { N.failed nonces.old < u64.MAX }
-    ensures honest { S.is_honest store.new → S.is_honest store.old }
-    ensures was_open { S.is_honest store.new → S.is_open store.new → S.is_open store.old }
+    ensures failures { FailuresPersist S.is_honest S.is_open store.old store.new }
     ensures stays_open { S.is_honest store.new → IfGiven result (S.is_open store.old → S.is_open store.new) }
     ensures visit { Visits result (L.book listener.old) (L.book listener.new) (N.remaining nonces.old)
         (N.remaining nonces.new) S.Registry store.old store.new }

@@ -1,6 +1,7 @@
 //! A server that is its own client.
 
 ghost use Rattle.std.specs.Prelude.{◌≡◌};
+ghost use Rattle.office.specs.Registers.{FailuresPersist};
 ghost use Rattle.server.specs.Connections.{Extends};
 
 use crate::connection::serve_connection;
@@ -53,8 +54,7 @@ fn serve_once<R: AllocGlobal, L: Listener, S: Registry>(
     listener: &mut L,
     store: &mut S,
 ) -> Result<(), Fault>
-    ensures honest { S.is_honest store.new → S.is_honest store.old }
-    ensures was_open { S.is_honest store.new → S.is_open store.new → S.is_open store.old }
+    ensures failures { FailuresPersist S.is_honest S.is_open store.old store.new }
     ensures served { S.is_honest store.new → Extends 1 (S.means store.old) (S.means store.new) }
 {
     let Ok(routes) = Routes::new(rt.alloc()) else {
@@ -75,8 +75,7 @@ pub fn selftest<
     R: Net<Listener = TcpListener, Stream = TcpStream> + Clock + AllocGlobal,
     S: Registry,
 >(rt: &R, store: &mut S) -> Result<(), SelftestFault>
-    ensures honest { S.is_honest store.new → S.is_honest store.old }
-    ensures was_open { S.is_honest store.new → S.is_open store.new → S.is_open store.old }
+    ensures failures { FailuresPersist S.is_honest S.is_open store.old store.new }
     ensures served { S.is_honest store.new → Extends 1 (S.means store.old) (S.means store.new) }
 {
     let Ok(listener) = bind(rt, 0) else {

@@ -1,6 +1,7 @@
 //! The loop.
 
 ghost use Rattle.std.specs.Prelude.{◌≡◌, ◌≤◌, ◌+◌};
+ghost use Rattle.office.specs.Registers.{FailuresPersist};
 ghost use Rattle.server.specs.Connections.{Extends, Meets};
 
 use crate::connection::serve_connection;
@@ -36,8 +37,7 @@ pub fn serve_on<R: AllocGlobal, L: Listener, S: Registry, N: Source, O: Write, E
 ) -> u8
     requires { N.failed nonces.old + connections ≤ u64.MAX }
     ensures status { result ≤ FAULT }
-    ensures honest { S.is_honest store.new → S.is_honest store.old }
-    ensures was_open { S.is_honest store.new → S.is_open store.new → S.is_open store.old }
+    ensures failures { FailuresPersist S.is_honest S.is_open store.old store.new }
 
     // Each connection gets the response that is specified for its request after the arrivals of the earlier ones, or it
     // is closed with a fault. The nonces are the next bytes of the source, in the order of the connections. The
@@ -79,8 +79,7 @@ pub fn serve_keeping<R: AllocGlobal, L: Listener, S: Registry, N: Source, O: Wri
 ) -> (u8, S)
     requires { N.failed nonces.old + connections ≤ u64.MAX }
     ensures status { result.0 ≤ FAULT }
-    ensures honest { S.is_honest result.1 → S.is_honest store }
-    ensures was_open { S.is_honest result.1 → S.is_open result.1 → S.is_open store }
+    ensures failures { FailuresPersist S.is_honest S.is_open store result.1 }
     ensures met { result.0 ≡ DONE → Meets connections (L.book listener.old) (L.book listener.new)
         (N.remaining nonces.old) (N.remaining nonces.new) S.Registry store result.1 }
     ensures served { S.is_honest result.1 → Extends connections (S.means store) (S.means result.1) }

@@ -5,7 +5,7 @@ use Rattle.sqlite.specs.State.{State}
 use Rattle.office.specs.declared.opening.Opening.{Opening}
 use Rattle.office.specs.declared.arrival.Arrival.{Arrival}
 use Rattle.store_sql.specs.Schema.{whole}
-use Rattle.store.specs.Meaning.{Tells}
+use Rattle.store.specs.Meaning.{KeepsTelling, Tells}
 use Rattle.web.specs.declared.exchange.Exchange.{Exchange}
 use Rattle.web.specs.declared.exchange.Given.{Given}
 use Rattle.web.specs.Runs.{Serves as AllServed}
@@ -22,12 +22,11 @@ use Rattle.sshoffice.specs.Applying.{Applies}
 use Rattle.sshoffice.specs.Jobs.{Does}
 use Rattle.sshoffice.specs.Listing.{Lists}
 use Rattle.sshoffice.specs.Making.{Makes, Migrates}
-use Rattle.sshoffice.specs.Opening.{TellsOn}
 use Rattle.sshoffice.specs.Reporting.{IsReport}
 use Rattle.sshoffice.specs.Serving.{Heard, Serves}
 
 -- tables that represent what they represented before add nothing
-adds_none : (old new : State) → TellsOn old new → AddsArrivals old new
+adds_none : (old new : State) → KeepsTelling old new → AddsArrivals old new
 adds_none old new tells o l told = ([], subst (Tells new o) (sym (append-nil l)) (tells o l told))
 
 -- exchanges add their arrivals

@@ -10,11 +10,11 @@ use Rattle.exchanges.specs.declared.running.RunFault.{RunFault}
 use Rattle.exchanges.specs.declared.running.RunFault.TheVariants as run
 use Rattle.store.specs.Transactions.{IsAsBefore}
 use Rattle.store.specs.Migrating.{IsExcused}
-use Rattle.store.specs.Meaning.{DiskFailed}
+use Rattle.store.specs.Meaning.{DiskFailed, KeepsTelling}
 use Rattle.headline.specs.Headline.{OfficePrints, OfficeRuns}
 use Rattle.sshoffice.specs.declared.job_fault.JobFault.{JobFault}
 use Rattle.sshoffice.specs.Faults.{of_store, run_result}
-use Rattle.sshoffice.specs.Opening.{IsLeft, IsOpened, IsUnopened, TellsOn}
+use Rattle.sshoffice.specs.Opening.{IsLeft, IsOpened, IsUnopened}
 use Rattle.sshoffice.specs.Applying.{Applies}
 
 -- ---- unchanged databases
@@ -67,7 +67,8 @@ left_from old mid new held holds e opened left = record {
 
 -- ---- exchanges
 
-prints_from : (old mid new : State) (es : List Exchange) (held holds : Option (List ℕ)) (fault : Bool) → TellsOn old mid
+prints_from : (old mid new : State) (es : List Exchange) (held holds : Option (List ℕ)) (fault : Bool)
+    → KeepsTelling old mid
     → OfficePrints mid new es held holds fault → OfficePrints old new es held holds fault
 prints_from old mid new es held holds fault tells p = record {
   prints = record {
@@ -79,7 +80,8 @@ prints_from old mid new es held holds fault tells p = record {
   lists = λ o l m. p.lists o l (tells o l m);
 }
 
-runs_from : (old mid new : State) (es : List Exchange) → TellsOn old mid → OfficeRuns mid new es → OfficeRuns old new es
+runs_from : (old mid new : State) (es : List Exchange) → KeepsTelling old mid → OfficeRuns mid new es
+    → OfficeRuns old new es
 runs_from old mid new es tells r = (r.0, λ o l m. r.1 o l (tells o l m))
 
 -- nothing was run over an opened office
@@ -89,7 +91,7 @@ unrun old mid new held holds opened stays silent = (
   subst (λ (s : State). IsAsBefore old s) (sym stays) opened.before,
   record {
     unprinted = silent;
-    tells = subst (λ (s : State). TellsOn old s) (sym stays) opened.tells;
+    tells = subst (λ (s : State). KeepsTelling old s) (sym stays) opened.tells;
     only = λ is_open o l m. tt;
   },
 )

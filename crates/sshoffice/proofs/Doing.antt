@@ -22,7 +22,7 @@ use Rattle.office.specs.History.{state}
 use Rattle.store_sql.specs.Contents.{Kept}
 use Rattle.store_sql.specs.Look.{is_office_table, none_is_office}
 use Rattle.store.specs.Rows.{office_contents}
-use Rattle.store.specs.Meaning.{IsBlank, IsHistory, Tells}
+use Rattle.store.specs.Meaning.{IsBlank, IsHistory, KeepsTelling, Tells}
 use Rattle.web.specs.declared.exchange.Exchange.{Exchange}
 use Rattle.web.specs.declared.exchange.Given.{Given}
 use Rattle.web.specs.declared.exchange.Given.TheVariants as given
@@ -41,7 +41,6 @@ use Rattle.sshoffice.specs.Asked.{founding_asked, nothing_asked}
 use Rattle.sshoffice.specs.Jobs.{Does, IsLawful, IsMaking}
 use Rattle.sshoffice.specs.Listing.{Lists}
 use Rattle.sshoffice.specs.Making.{IsUnmade, Makes, Migrates}
-use Rattle.sshoffice.specs.Opening.{TellsOn}
 use Rattle.sshoffice.specs.Reporting.{IsReport}
 use Rattle.sshoffice.specs.Serving.{Heard, Serves}
 use Rattle.sshoffice.proofs.Asking.{asks_list, asks_signers, asks_table}
@@ -113,7 +112,7 @@ module _ (old new : State) where
   Refuses r =
       list_any is_office_table old.now.schema.tables ≡ false → (r ≡ Err (fault.Store NotAnOffice)) × (new ≡ old)
 
-  stays : {A : Type 0} (r : Result A JobFault) → Refuses r → TellsOn old new → DoesAsked nothing_asked old new
+  stays : {A : Type 0} (r : Result A JobFault) → Refuses r → KeepsTelling old new → DoesAsked nothing_asked old new
   stays r refuses tells = record {
     office = λ o l told. (l, refl, tells o l told);
     none = λ blank. (nothing_given, inr (same_is_unfounded None old new (refuses (no_office old blank)).1));
@@ -136,7 +135,7 @@ module _ (old new : State) where
       → DoesAsked (record { founds = None; exchanges = exchanges; given = given }) old new
   ran exchanges given served never = record { office = served; none = λ blank. never _ blank }
 
-  unrun : (exchanges : List Exchange) (r : Result (Unit {0}) JobFault) → Refuses r → TellsOn old new
+  unrun : (exchanges : List Exchange) (r : Result (Unit {0}) JobFault) → Refuses r → KeepsTelling old new
       → DoesAsked (record { founds = None; exchanges = exchanges; given = all_faults exchanges }) old new
   unrun exchanges r refuses tells = record {
     office = λ o l told. (l, faults_are_due o l exchanges, tells o l told);
@@ -211,7 +210,7 @@ module _ (old new : State) where
         )
 
     -- a fault
-    unshown : (r : Result (Unit {0}) JobFault) (held holds : Option (List ℕ)) → Refuses r → TellsOn old new
+    unshown : (r : Result (Unit {0}) JobFault) (held holds : Option (List ℕ)) → Refuses r → KeepsTelling old new
         → IsShown media held holds r (all_faults (x ∷ [])) → Shown resource media held holds r
     unshown r held holds refuses tells shown = (
       record { founds = None; exchanges = x ∷ []; given = all_faults (x ∷ []) },
@@ -297,7 +296,7 @@ module _ (old new : State) where
 
   -- ---- migrated tables
 
-  moved : IsTrue old.is_open → (r : Result (Unit {0}) JobFault) → Migrates old new r → TellsOn old new
+  moved : IsTrue old.is_open → (r : Result (Unit {0}) JobFault) → Migrates old new r → KeepsTelling old new
   moved was (Ok done) h = λ o l told. absurd (h.unlike (told.rows was).now.schema)
   moved was (Err fault.NoMemory) h = h.tells
   moved was (Err (fault.Store e)) h = h.tells

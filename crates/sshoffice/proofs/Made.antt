@@ -7,11 +7,10 @@ use Rattle.office.specs.declared.store_fault.StoreFault.{StoreFault}
 use Rattle.office.specs.declared.store_fault.StoreFault.TheVariants as store
 use Rattle.store.specs.Transactions.{IsAsBefore}
 use Rattle.store.specs.Migrating.{IsExcused}
-use Rattle.store.specs.Meaning.{DiskFailed, IsBlank}
+use Rattle.store.specs.Meaning.{DiskFailed, IsBlank, KeepsTelling}
 use Rattle.sshoffice.specs.declared.job_fault.JobFault.{JobFault}
 use Rattle.sshoffice.specs.Faults.{of_store}
 use Rattle.sshoffice.specs.Making.{IsMadeWhole, IsUnmade, Makes}
-use Rattle.sshoffice.specs.Opening.{TellsOn}
 
 makes_not : (e : StoreFault) (opening : Opening) (old new : State) → IsUnmade opening old new e
     → Makes opening old new (Err (of_store e))
@@ -24,7 +23,7 @@ makes_not store.Damaged opening old new u = u
 
 pub unmade : (e : StoreFault) (f : JobFault) (opening : Opening) (old new : State) → f ≡ of_store e
     → IsAsBefore old new → (IsBlank old → IsTrue new.is_open → IsBlank new)
-    → (IsBlank old → IsExcused (DiskFailed old new) e) → TellsOn old new → IsMadeWhole opening old new
+    → (IsBlank old → IsExcused (DiskFailed old new) e) → KeepsTelling old new → IsMadeWhole opening old new
     → Makes opening old new (Err f)
 unmade e f opening old new same before blank only tells crash =
     subst (λ (f : JobFault). Makes opening old new (Err f)) (sym same)

@@ -12,9 +12,9 @@ use Rattle.server.specs.Books.{Book}
 use Rattle.server.specs.Connections.{AreServed, Extends, Meets, Visit, exchange_of, given_of}
 use Rattle.server.specs.Names.{listening_line}
 use Rattle.store.specs.Transactions.{IsAsBefore}
-use Rattle.store.specs.Meaning.{Tells}
+use Rattle.store.specs.Meaning.{KeepsTelling, Tells}
 use Rattle.sshoffice.specs.Faults.{of_store}
-use Rattle.sshoffice.specs.Opening.{IsUnopened, TellsOn}
+use Rattle.sshoffice.specs.Opening.{IsUnopened}
 use Rattle.sshoffice.specs.Serving.{MeetsOver, Serves}
 use Rattle.sshoffice.specs.Whole.{heard_of}
 use Rattle.sshoffice.proofs.Carried.{before_again}
@@ -36,7 +36,8 @@ met_over n book book' nonces nonces' r a b old new carry x = record {
   served = carry x.visits x.served;
 }
 
-met_from : (n : ℕ) (book book' : Option Book) (nonces nonces' : Option (List ℕ)) (old mid new : State) → TellsOn old mid
+met_from : (n : ℕ) (book book' : Option Book) (nonces nonces' : Option (List ℕ)) (old mid new : State)
+    → KeepsTelling old mid
     → MeetsOver n book book' nonces nonces' mid new → MeetsOver n book book' nonces nonces' old new
 met_from n book book' nonces nonces' old mid new tells x = record {
   visits = x.visits;
@@ -47,8 +48,8 @@ met_from n book book' nonces nonces' old mid new tells x = record {
 }
 
 -- if nothing was done, nothing has changed
-same_is_unmet : (old new : State) → new ≡ old → IsAsBefore old new × TellsOn old new
-same_is_unmet old new same = subst (λ (s : State). IsAsBefore old s × TellsOn old s) (sym same)
+same_is_unmet : (old new : State) → new ≡ old → IsAsBefore old new × KeepsTelling old new
+same_is_unmet old new same = subst (λ (s : State). IsAsBefore old s × KeepsTelling old s) (sym same)
     (record { was_open = λ is. is; rest = λ _ rests. rests; same = λ _ _. refl }, λ o l told. told)
 
 -- connections served at a port whose line is printed
@@ -77,7 +78,7 @@ served_at n port status book book' source first left old new held listening hold
 
 -- connections served after an opening are served over the database that was opened
 served_from : (n : ℕ) (source : Option (List ℕ)) (heard : Result (Option Book × ℕ) ErrorKind) (old mid new : State)
-    (held holds : Option (List ℕ)) (r : Result ℕ JobFault) → IsAsBefore old mid → TellsOn old mid
+    (held holds : Option (List ℕ)) (r : Result ℕ JobFault) → IsAsBefore old mid → KeepsTelling old mid
     → Serves n source (Some heard) mid new held holds r → Serves n source (Some heard) old new held holds r
 served_from n source heard old mid new held holds (Ok status) before tells h = (
   h.0,
@@ -112,7 +113,7 @@ served_from n source heard old mid new held holds (Err fault.Fault) before tells
 -- the same for a listener, through its book
 pub served_of : {Incoming : Type 0} (n : ℕ) (source : Option (List ℕ)) (book : Incoming → Option Book)
     (heard : Result (Incoming × ℕ) ErrorKind) (old mid new : State) (held holds : Option (List ℕ))
-    (r : Result ℕ JobFault) → IsAsBefore old mid → TellsOn old mid
+    (r : Result ℕ JobFault) → IsAsBefore old mid → KeepsTelling old mid
     → Serves n source (heard_of book (Some heard)) mid new held holds r
     → Serves n source (heard_of book (Some heard)) old new held holds r
 served_of n source book (Ok at) old mid new held holds r before tells h =

@@ -9,7 +9,7 @@ use Rattle.office.specs.declared.store_fault.StoreFault.{StoreFault}
 use Rattle.office.specs.declared.store_fault.StoreFault.TheVariants as store
 use Rattle.office.specs.Faults.{IsOfARegister}
 use Rattle.store.specs.Transactions.{IsAsBefore}
-use Rattle.store.specs.Meaning.{Stores, Tells}
+use Rattle.store.specs.Meaning.{KeepsTelling, Stores, Tells}
 use Rattle.headline.specs.declared.publish_fault.PublishFault.{PublishFault}
 use Rattle.headline.specs.declared.publish_fault.PublishFault.TheVariants as publish
 use Rattle.headline.specs.Headline.{IfFound, IsList, OfStore}
@@ -17,7 +17,7 @@ use Rattle.sshoffice.specs.declared.job_fault.JobFault.{JobFault}
 use Rattle.sshoffice.specs.declared.job_fault.JobFault.TheVariants.{NoMemory, Store, Write}
 use Rattle.sshoffice.specs.declared.reporting.Report.{Report}
 use Rattle.sshoffice.specs.Faults.{of_store, publish_result}
-use Rattle.sshoffice.specs.Opening.{IsLeft, IsOpened, IsUnopened, TellsOn}
+use Rattle.sshoffice.specs.Opening.{IsLeft, IsOpened, IsUnopened}
 use Rattle.sshoffice.specs.Listing.{Lists}
 use Rattle.sshoffice.specs.Reporting.{IsReport, Reports}
 use Rattle.sshoffice.proofs.Carried.{before_again, before_open, left_from, unopened_left}
@@ -41,7 +41,7 @@ unlisted e f old new held holds same u silent =
     (of_fault e old new held holds u.before (unopened_left old new held holds e u silent))
 
 -- an open office after a fault of the register
-pub left : (mid new : State) (held holds : Option (List ℕ)) (e : StoreFault) → holds ≡ held → TellsOn mid new
+pub left : (mid new : State) (held holds : Option (List ℕ)) (e : StoreFault) → holds ≡ held → KeepsTelling mid new
     → ((o : Opening) (l : List Arrival) → Tells mid o l → IsOfARegister e) → IsLeft mid new held holds e
 left mid new held holds e silent tells only = record {
   unprinted = silent;
@@ -54,7 +54,7 @@ pub listed : (r : Result Unit PublishFault) (done : Result Unit JobFault) (old m
     → done ≡ publish_result r → IsOpened old mid
     → OnOk r ((bytes : List ℕ) × Appends held holds bytes
     × ((o : Opening) (l : List Arrival) → Tells mid o l → IsList o l bytes))
-    → TellsOn mid new
+    → KeepsTelling mid new
     → IfFound r ((o : Opening) (l : List Arrival) → Tells mid o l → Stores new o l)
     → (IsTrue new.is_open → IsAsBefore mid new)
     → IfErr r (λ e. e ≢ publish.Write → holds ≡ held)

@@ -14,10 +14,9 @@ use Rattle.store.specs.Rows.{office_contents}
 use Rattle.store.specs.Transactions.{Has, IsAsBefore, Leaves, Rests}
 use Rattle.store.specs.Former.{Had, TellsBefore, ca_of, migrated}
 use Rattle.store.specs.Migrating.{HasStopped, IsExcused, Judges}
-use Rattle.store.specs.Meaning.{DiskFailed, IsBlank, IsHistory, Tells}
+use Rattle.store.specs.Meaning.{DiskFailed, IsBlank, IsHistory, KeepsTelling, Tells}
 use Rattle.office.specs.Openings.{made_opening}
 use Rattle.sshoffice.specs.declared.founding.Founding.{Founding}
-use Rattle.sshoffice.specs.Opening.{TellsOn}
 use Rattle.sshoffice.specs.declared.job_fault.JobFault.{JobFault}
 use Rattle.sshoffice.specs.declared.job_fault.JobFault.TheVariants.{NoMemory, Store}
 
@@ -45,7 +44,7 @@ pub record IsUnmade (opening : Opening) (old new : State) (e : StoreFault) : Typ
   pub before : IsAsBefore old new
   pub blank : IsBlank old → IsTrue new.is_open → IsBlank new
   pub only : IsBlank old → IsExcused (DiskFailed old new) e
-  pub tells : TellsOn old new
+  pub tells : KeepsTelling old new
   pub crash : IsMadeWhole opening old new
 
 abbrev pub Makes : Opening → (old new : State) → Result (Unit {0}) JobFault → Type 0
@@ -82,7 +81,7 @@ pub record IsUnmoved (old new : State) (e : StoreFault) : Type 0 where
       → IsExcused (DiskFailed old new) e
   pub before : IsAsBefore old new
   pub back : (o : Opening) (l : List Arrival) → TellsBefore old o l → TellsBefore new o l
-  pub tells : TellsOn old new
+  pub tells : KeepsTelling old new
   pub crash : IsMovedWhole old new
 
 abbrev pub Migrates : (old new : State) → Result (Unit {0}) JobFault → Type 0

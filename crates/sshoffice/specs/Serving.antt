@@ -9,10 +9,10 @@ use Rattle.server.specs.Books.{Book}
 use Rattle.server.specs.Connections.{Extends, TellsAll, Visit, drawn_of, exchange_of, given_of}
 use Rattle.server.specs.Names.{listening_line}
 use Rattle.store.specs.Transactions.{IsAsBefore}
-use Rattle.store.specs.Meaning.{Tells}
+use Rattle.store.specs.Meaning.{KeepsTelling, Tells}
 use Rattle.sshoffice.specs.declared.job_fault.JobFault.{JobFault}
 use Rattle.sshoffice.specs.declared.job_fault.JobFault.TheVariants.{NoMemory, Socket, Store, Write}
-use Rattle.sshoffice.specs.Opening.{IsUnopened, TellsOn}
+use Rattle.sshoffice.specs.Opening.{IsUnopened}
 
 -- What `connections` connections did, in order, between the old and the new tables. Each got its specified response, or
 -- a fault. If one was answered since the last fault, the tables represent the history and the connection is open.
@@ -31,7 +31,7 @@ pub record IsServed (connections : ℕ) (book : Option Book) (nonces : Option (L
     : Type 0 where
   pub met : status ≡ 0
       → (book' : Option Book) × (left : Option (List ℕ)) × MeetsOver connections book book' nonces left old new
-  pub unmet : status ≡ 1 → IsAsBefore old new × TellsOn old new
+  pub unmet : status ≡ 1 → IsAsBefore old new × KeepsTelling old new
   pub served : Extends connections (Tells old) (Tells new)
   pub lawful : status ≤ 1
 
@@ -47,9 +47,9 @@ Serves connections source heard old new held holds (Ok status) =
     (book : Option Book) × (port : ℕ) × (heard ≡ Some (Ok (book, port))) × Appends held holds (listening_line port)
     × IsServed connections book source old new status
 Serves connections source heard old new held holds (Err Socket) =
-    (kind : ErrorKind) × (heard ≡ Some (Err kind)) × TellsOn old new × (holds ≡ held)
+    (kind : ErrorKind) × (heard ≡ Some (Err kind)) × KeepsTelling old new × (holds ≡ held)
 Serves connections source heard old new held holds (Err Write) =
-    (at : Option Book × ℕ) × (heard ≡ Some (Ok at)) × TellsOn old new
+    (at : Option Book × ℕ) × (heard ≡ Some (Ok at)) × KeepsTelling old new
 Serves connections source heard old new held holds (Err NoMemory) =
     (heard ≡ None) × IsUnopened old new store.NoMemory × (holds ≡ held)
 Serves connections source heard old new held holds (Err (Store e)) =

@@ -2,7 +2,7 @@
 use Rattle.std.proofs.Common.{◌≡◌, inl, inr, IsTrue, refl, sym, ◌∙◌}
 use Rattle.std.specs.Prelude.{Result, Ok, Err, OnErr}
 use Rattle.sqlite.specs.State.{State}
-use Rattle.store_sql.specs.Calls.{Begins, Fails, Stays, OnlyReads}
+use Rattle.store_sql.specs.Calls.{Begins, Fails, Stays}
 use Rattle.store_sql.specs.declared.table_fault.Fault.{Fault}
 use Rattle.store.specs.Transactions.{Concludes, HasEnded, IsAsBefore}
 
@@ -20,10 +20,6 @@ fails_before a b (inr back) = record {
 
 pub same_before : (a : State) → IsAsBefore a a
 same_before a = record { was_open = λ still. still; rest = λ still rests. rests; same = λ still rests. refl }
-
-pub reads_before : {X : Type 0} (a b : State) (r : Result X Fault) → OnlyReads a b r → IsAsBefore a b
-reads_before a b (Ok x) same = fails_before a b (inl same)
-reads_before a b (Err f) fails = fails_before a b fails.0
 
 ended : (a b c d : State) → (IsTrue b.is_open → IsTrue a.is_open) → (IsTrue b.is_open → b.committed ≡ a.committed)
     → (IsTrue c.is_open → IsTrue b.is_open) → (IsTrue c.is_open → c.committed ≡ b.committed) → HasEnded c d

@@ -17,10 +17,11 @@ use Rattle.message.specs.Values.{is_department, are_option_names, are_extension_
 use Rattle.message.proofs.Fields.{AllLack, split_joined}
 use Rattle.message.proofs.Elements.{administrators_lack, rules_lack, option_names_lack, extension_names_lack}
 use Rattle.message.proofs.Elements.{namespaces_lack}
+use Rattle.lines.specs.Signers.{list_text}
 use Rattle.store_sql.specs.declared.departments.DepartmentRow.{DepartmentRow}
 use Rattle.store_sql.specs.declared.table_fault.Fault.{Fault}
 use Rattle.cert.specs.Bodies.{kind_number}
-use Rattle.store.specs.Rows.{department_row, joined}
+use Rattle.store.specs.Rows.{department_row}
 use Rattle.store.specs.Reading.{IsRead, each}
 use Rattle.cert.specs.Reading.{kind_of}
 use Rattle.store.specs.Departments.{department_in, if_lawful, parted, parts_of}
@@ -33,7 +34,7 @@ abbrev pub following : List (List ℕ) → List ℕ
 following [] = []
 following (t ∷ ts) = 44 ∷ (t ++ following ts)
 
-pub joined_first : (t : List ℕ) (ts : List (List ℕ)) → t ++ following ts ≡ joined (t ∷ ts)
+pub joined_first : (t : List ℕ) (ts : List (List ℕ)) → t ++ following ts ≡ list_text (t ∷ ts)
 joined_first t [] = append-nil t
 joined_first t (u ∷ ts) = ap (λ (x : List ℕ). t ++ 44 ∷ x) (joined_first u ts)
 
@@ -53,7 +54,7 @@ pub following_none : (texts : List (List ℕ)) (k : ℕ) (bytes : List ℕ) → 
 following_none texts k bytes past =
     sym (ap (λ (ts : List (List ℕ)). bytes ++ following ts) (drop_all k texts past) ∙ append-nil bytes)
 
-joined_parted : (t : List ℕ) → joined (parted t) ≡ t
+joined_parted : (t : List ℕ) → list_text (parted t) ≡ t
 joined_parted [] = refl
 joined_parted (b ∷ t) = join_with_byte-slice_split 44 (b ∷ t)
 
@@ -62,16 +63,16 @@ parted_some [] some = absurd (some refl)
 parted_some (b ∷ t) some = refl
 
 joined_some : (test : List ℕ → Bool) (t : List ℕ) (ts : List (List ℕ)) → test [] ≡ false → test t ≡ true
-    → joined (t ∷ ts) ≡ [] → ⊥
+    → list_text (t ∷ ts) ≡ [] → ⊥
 joined_some test [] ts none is e = cc
 joined_some test (b ∷ t) [] none is e = cc
 joined_some test (b ∷ t) (u ∷ ts) none is e = cc
 
 parted_joined : (test : List ℕ → Bool) (ts : List (List ℕ)) → test [] ≡ false → list_all test ts ≡ true → AllLack 44 ts
-    → parted (joined ts) ≡ ts
+    → parted (list_text ts) ≡ ts
 parted_joined test [] none all lack = refl
 parted_joined test (t ∷ ts) none all lack =
-    parted_some (joined (t ∷ ts)) (joined_some test t ts none (and_parts _ _ all).0) ∙ split_joined t ts lack
+    parted_some (list_text (t ∷ ts)) (joined_some test t ts none (and_parts _ _ all).0) ∙ split_joined t ts lack
 
 -- ---- the whole row
 

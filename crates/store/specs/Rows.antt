@@ -1,8 +1,8 @@
 -- The rows of an office: those of its state and of its stored requests.
 use Rattle.std.specs.Prelude.{ℕ, suc, List, [], ◌∷◌, length, map}
-use Rattle.std.specs.List.{join_with_byte}
 use Rattle.std.specs.Option.{option_map}
 use Rattle.lines.specs.Keys.{key_blob}
+use Rattle.lines.specs.Signers.{list_text}
 use Rattle.krl.specs.declared.run.Run.{Run}
 use Rattle.krl.specs.Sets.{runs_in}
 use Rattle.message.specs.declared.department.Department.{Department}
@@ -37,20 +37,16 @@ office_row s = record {
   date = s.date;
 }
 
--- texts joined by commas
-abbrev pub joined : List (List ℕ) → List ℕ
-joined texts = join_with_byte 44 texts
-
 abbrev pub department_row : Department → DepartmentRow
 department_row d = record {
   name = d.name;
   kind = kind_number d.kind;
-  admins = joined d.administrators;
-  rules = joined d.rules;
-  options = joined d.options;
-  extensions = joined d.extensions;
+  admins = list_text d.administrators;
+  rules = list_text d.rules;
+  options = list_text d.options;
+  extensions = list_text d.extensions;
   max_life = d.longest_life;
-  namespaces = joined d.namespaces;
+  namespaces = list_text d.namespaces;
 }
 
 abbrev pub cert_row : Certificate → CertRow

@@ -6,7 +6,7 @@ ghost use Rattle.office.specs.Faults.{HasCause};
 ghost use Rattle.office.specs.History.{state};
 ghost use Rattle.office.specs.Listing.{AreRevocations, is_named, waiting_rows};
 ghost use Rattle.office.specs.Publication.{pending_of};
-ghost use Rattle.office.specs.Registers.{AnswersBy, FailsAsARegister, FailsWithin, MeansTheSame};
+ghost use Rattle.office.specs.Registers.{AnswersBy, FailsAsARegister, FailsWithin, Preserves};
 ghost use Rattle.waiting.specs.Knowing.{IsKept, Knows, serial_waits, still_waiting};
 
 use crate::known::Known;
@@ -29,12 +29,9 @@ fn waits_still<R: Registry>(
     revocations: &Revocations,
     serial: u64,
 ) -> Result<bool, StoreFault>
-    ensures honest { R.is_honest register.new → R.is_honest register.old }
-    ensures was_open { R.is_honest register.new → R.is_open register.new → R.is_open register.old }
+    ensures preserves { Preserves R.is_honest R.is_open R.is_as_before R.means register.old register.new }
     ensures row { R.is_honest register.new → AnswersBy R.means register.old result (λ o l is.
         AreRevocations revocations.now (state o l) → is ≡ serial_waits (state o l) serial) }
-    ensures same { R.is_honest register.new → MeansTheSame R.means register.old register.new }
-    ensures before { R.is_honest register.new → R.is_open register.new → R.is_as_before register.old register.new }
     ensures cause { IfErr result (λ e. HasCause e (R.fails register.old register.new)) }
     ensures only { R.is_honest register.new → FailsAsARegister R.means register.old result }
 {
@@ -62,13 +59,10 @@ fn push_waiting<R: Registry>(
     rows: &mut Vec<Pending>,
     row: &Pending,
 ) -> Result<(), StoreFault>
-    ensures honest { R.is_honest register.new → R.is_honest register.old }
-    ensures was_open { R.is_honest register.new → R.is_open register.new → R.is_open register.old }
+    ensures preserves { Preserves R.is_honest R.is_open R.is_as_before R.means register.old register.new }
     ensures row { R.is_honest register.new → AnswersBy R.means register.old result (λ o l _.
         AreRevocations revocations.now (state o l) → rows.new.items ≡ rows.old.items
         ++ (if serial_waits (state o l) row.now.serial then row.now ∷ [] else [])) }
-    ensures same { R.is_honest register.new → MeansTheSame R.means register.old register.new }
-    ensures before { R.is_honest register.new → R.is_open register.new → R.is_as_before register.old register.new }
     ensures cause { IfErr result (λ e. HasCause e (R.fails register.old register.new)) }
     ensures only { R.is_honest register.new → FailsAsARegister R.means register.old result }
 {
@@ -84,12 +78,9 @@ fn still_waiting<R: Registry>(
     revocations: &Revocations,
     rows: &[Pending],
 ) -> Result<Vec<Pending>, StoreFault>
-    ensures honest { R.is_honest register.new → R.is_honest register.old }
-    ensures was_open { R.is_honest register.new → R.is_open register.new → R.is_open register.old }
+    ensures preserves { Preserves R.is_honest R.is_open R.is_as_before R.means register.old register.new }
     ensures row { R.is_honest register.new → AnswersBy R.means register.old result (λ o l kept.
         AreRevocations revocations.now (state o l) → kept.items ≡ still_waiting (state o l) rows.now) }
-    ensures same { R.is_honest register.new → MeansTheSame R.means register.old register.new }
-    ensures before { R.is_honest register.new → R.is_open register.new → R.is_as_before register.old register.new }
     ensures cause { R.is_honest register.new
         → IfErr result (λ e. HasCause e (FailsWithin R.means R.fails register.old register.new)) }
     ensures only { R.is_honest register.new → FailsAsARegister R.means register.old result }
@@ -108,16 +99,13 @@ fn learned<R: Registry>(
     revocations: &Revocations,
     known: Known,
 ) -> Result<Known, StoreFault>
-    ensures honest { R.is_honest register.new → R.is_honest register.old }
-    ensures was_open { R.is_honest register.new → R.is_open register.new → R.is_open register.old }
+    ensures preserves { Preserves R.is_honest R.is_open R.is_as_before R.means register.old register.new }
     ensures stays_open { R.is_honest register.new → OnOk result (R.is_open register.new) }
     ensures row { R.is_honest register.new → AnswersBy R.means register.old result (λ o l all.
         known.seen ≤ length (state o l).certificates
         → known.rows.items ≡ waiting_rows revocations.now (take known.seen (state o l).certificates)
         → (all.seen ≡ length (state o l).certificates)
         × (all.rows.items ≡ waiting_rows revocations.now (state o l).certificates)) }
-    ensures same { R.is_honest register.new → MeansTheSame R.means register.old register.new }
-    ensures before { R.is_honest register.new → R.is_open register.new → R.is_as_before register.old register.new }
     ensures cause { R.is_honest register.new
         → IfErr result (λ e. HasCause e (FailsWithin R.means R.fails register.old register.new)) }
     ensures only { R.is_honest register.new → FailsAsARegister R.means register.old result }
@@ -141,12 +129,9 @@ fn revocations_by<R: Registry>(
     alloc: Global,
     kept: Option<Revocations>,
 ) -> Result<Revocations, StoreFault>
-    ensures honest { R.is_honest register.new → R.is_honest register.old }
-    ensures was_open { R.is_honest register.new → R.is_open register.new → R.is_open register.old }
+    ensures preserves { Preserves R.is_honest R.is_open R.is_as_before R.means register.old register.new }
     ensures row { R.is_honest register.new → AnswersBy R.means register.old result (λ o l r.
         IsKept kept (state o l) → AreRevocations r (state o l)) }
-    ensures same { R.is_honest register.new → MeansTheSame R.means register.old register.new }
-    ensures before { R.is_honest register.new → R.is_open register.new → R.is_as_before register.old register.new }
     ensures cause { IfErr result (λ e. HasCause e (R.fails register.old register.new)) }
     ensures only { R.is_honest register.new → FailsAsARegister R.means register.old result }
 {
@@ -164,15 +149,12 @@ pub(crate) fn asked<R: Registry>(
     known: Known,
     kept: Option<Revocations>,
 ) -> Result<(Known, Revocations), StoreFault>
-    ensures honest { R.is_honest register.new → R.is_honest register.old }
-    ensures was_open { R.is_honest register.new → R.is_open register.new → R.is_open register.old }
+    ensures preserves { Preserves R.is_honest R.is_open R.is_as_before R.means register.old register.new }
     ensures stays_open { R.is_honest register.new → OnOk result (R.is_open register.new) }
     ensures row { R.is_honest register.new → AnswersBy R.means register.old result (λ o l all.
         Knows known.seen known.rows.items (state o l) → IsKept kept (state o l)
         → Knows all.0.seen all.0.rows.items (state o l) × (all.0.rows.items ≡ pending_of (state o l))
         × AreRevocations all.1 (state o l)) }
-    ensures same { R.is_honest register.new → MeansTheSame R.means register.old register.new }
-    ensures before { R.is_honest register.new → R.is_open register.new → R.is_as_before register.old register.new }
     ensures cause { R.is_honest register.new
         → IfErr result (λ e. HasCause e (FailsWithin R.means R.fails register.old register.new)) }
     ensures only { R.is_honest register.new → FailsAsARegister R.means register.old result }

@@ -7,7 +7,7 @@ ghost use Rattle.office.specs.declared.arrival.Arrival.{Arrival};
 ghost use Rattle.office.specs.History.{due};
 ghost use Rattle.office.specs.Faults.{HasCause};
 ghost use Rattle.office.specs.Laws.{ReplyFits};
-ghost use Rattle.office.specs.Registers.{AnswersBy, FailsAsARegister, MeansOneMore, MeansTheSame};
+ghost use Rattle.office.specs.Registers.{AnswersBy, FailsAsARegister, FailuresPersist, MeansOneMore, MeansTheSame};
 ghost use Rattle.web.specs.Answers.{outcome_response};
 
 use crate::room::{ROOM, room};
@@ -53,8 +53,7 @@ pub(crate) fn to_arrival<R: Registry>(
     alloc: Global,
     arrival: Arrival,
 ) -> Result<Vec<u8>, StoreFault>
-    ensures honest { R.is_honest registry.new → R.is_honest registry.old }
-    ensures was_open { R.is_honest registry.new → R.is_open registry.new → R.is_open registry.old }
+    ensures failures { FailuresPersist R.is_honest R.is_open registry.old registry.new }
     ensures stays_open { R.is_honest registry.new → OnOk result (R.is_open registry.new) }
     ensures due { R.is_honest registry.new → AnswersBy R.means registry.old result
         (λ o l v. v.items ≡ outcome_response (due o l arrival)) }

@@ -5,7 +5,7 @@ ghost use Rattle.std.specs.List.{flat_map};
 ghost use Rattle.office.specs.Listing.{batch_of};
 ghost use Rattle.office.specs.History.{state};
 ghost use Rattle.office.specs.Faults.{HasCause};
-ghost use Rattle.office.specs.Registers.{AnswersBy, FailsAsARegister, FailsWithin, MeansTheSame};
+ghost use Rattle.office.specs.Registers.{AnswersBy, FailsAsARegister, FailsWithin, Preserves};
 ghost use Rattle.web.specs.Batches.{Says, line_among, line_as};
 
 use crate::report::put_entry;
@@ -48,13 +48,10 @@ fn put_batch<R: Registry>(
     out: &mut Vec<u8>,
 ) -> Result<u64, StoreFault>
     ensures ahead { IfOk result (λ next. place ≤ next) }
-    ensures honest { R.is_honest registry.new → R.is_honest registry.old }
-    ensures was_open { R.is_honest registry.new → R.is_open registry.new → R.is_open registry.old }
+    ensures preserves { Preserves R.is_honest R.is_open R.is_as_before R.means registry.old registry.new }
     ensures stays_open { R.is_honest registry.new → OnOk result (R.is_open registry.new) }
     ensures row { R.is_honest registry.new → AnswersBy R.means registry.old result (λ o l next.
         Says revocations.now (batch_of (state o l) place) place next out.old.items out.new.items) }
-    ensures same { R.is_honest registry.new → MeansTheSame R.means registry.old registry.new }
-    ensures before { R.is_honest registry.new → R.is_open registry.new → R.is_as_before registry.old registry.new }
     ensures cause { IfErr result (λ e. HasCause e (R.fails registry.old registry.new)) }
     ensures only { R.is_honest registry.new → FailsAsARegister R.means registry.old result }
 {
@@ -70,13 +67,10 @@ pub(crate) fn put_all<R: Registry>(
     revocations: &Revocations,
     out: &mut Vec<u8>,
 ) -> Result<u64, StoreFault>
-    ensures honest { R.is_honest registry.new → R.is_honest registry.old }
-    ensures was_open { R.is_honest registry.new → R.is_open registry.new → R.is_open registry.old }
+    ensures preserves { Preserves R.is_honest R.is_open R.is_as_before R.means registry.old registry.new }
     ensures stays_open { R.is_honest registry.new → OnOk result (R.is_open registry.new) }
     ensures row { R.is_honest registry.new → AnswersBy R.means registry.old result (λ o l count.
         Says revocations.now (state o l).certificates 0 count out.old.items out.new.items) }
-    ensures same { R.is_honest registry.new → MeansTheSame R.means registry.old registry.new }
-    ensures before { R.is_honest registry.new → R.is_open registry.new → R.is_as_before registry.old registry.new }
     ensures cause { R.is_honest registry.new
         → IfErr result (λ e. HasCause e (FailsWithin R.means R.fails registry.old registry.new)) }
     ensures only { R.is_honest registry.new → FailsAsARegister R.means registry.old result }

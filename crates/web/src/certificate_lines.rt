@@ -7,7 +7,7 @@ ghost use Rattle.office.specs.State.{body_of};
 ghost use Rattle.office.specs.Publication.{issued_of};
 ghost use Rattle.office.specs.History.{state};
 ghost use Rattle.office.specs.Faults.{HasCause};
-ghost use Rattle.office.specs.Registers.{AnswersBy, FailsAsARegister, FailsWithin, MeansTheSame};
+ghost use Rattle.office.specs.Registers.{AnswersBy, FailsAsARegister, FailsWithin, Preserves};
 ghost use Rattle.web.specs.Answers.{body_response, certificate_response, issued_response};
 ghost use Rattle.web.specs.Reports.{pending_line, pending_lines, pending_report};
 
@@ -26,13 +26,10 @@ pub(crate) fn to_serial_body<R: Registry>(
     alloc: Global,
     serial: u64,
 ) -> Result<Vec<u8>, StoreFault>
-    ensures honest { R.is_honest registry.new → R.is_honest registry.old }
-    ensures was_open { R.is_honest registry.new → R.is_open registry.new → R.is_open registry.old }
+    ensures preserves { Preserves R.is_honest R.is_open R.is_as_before R.means registry.old registry.new }
     ensures stays_open { R.is_honest registry.new → OnOk result (R.is_open registry.new) }
     ensures row { R.is_honest registry.new → AnswersBy R.means registry.old result
         (λ o l v. v.items ≡ body_response (body_of (state o l) serial)) }
-    ensures same { R.is_honest registry.new → MeansTheSame R.means registry.old registry.new }
-    ensures before { R.is_honest registry.new → R.is_open registry.new → R.is_as_before registry.old registry.new }
     ensures cause { IfErr result (λ e. HasCause e (R.fails registry.old registry.new)) }
     ensures only { R.is_honest registry.new → FailsAsARegister R.means registry.old result }
 {
@@ -63,13 +60,10 @@ pub(crate) fn to_certificate<R: Registry>(
     alloc: Global,
     serial: u64,
 ) -> Result<Vec<u8>, StoreFault>
-    ensures honest { R.is_honest registry.new → R.is_honest registry.old }
-    ensures was_open { R.is_honest registry.new → R.is_open registry.new → R.is_open registry.old }
+    ensures preserves { Preserves R.is_honest R.is_open R.is_as_before R.means registry.old registry.new }
     ensures stays_open { R.is_honest registry.new → OnOk result (R.is_open registry.new) }
     ensures row { R.is_honest registry.new → AnswersBy R.means registry.old result
         (λ o l v. v.items ≡ certificate_response (issued_of (state o l) serial)) }
-    ensures same { R.is_honest registry.new → MeansTheSame R.means registry.old registry.new }
-    ensures before { R.is_honest registry.new → R.is_open registry.new → R.is_as_before registry.old registry.new }
     ensures cause { IfErr result (λ e. HasCause e (R.fails registry.old registry.new)) }
     ensures only { R.is_honest registry.new → FailsAsARegister R.means registry.old result }
 {
@@ -102,13 +96,10 @@ pub(crate) fn to_pending<R: Registry>(
     registry: &mut R,
     alloc: Global,
 ) -> Result<Vec<u8>, StoreFault>
-    ensures honest { R.is_honest registry.new → R.is_honest registry.old }
-    ensures was_open { R.is_honest registry.new → R.is_open registry.new → R.is_open registry.old }
+    ensures preserves { Preserves R.is_honest R.is_open R.is_as_before R.means registry.old registry.new }
     ensures stays_open { R.is_honest registry.new → OnOk result (R.is_open registry.new) }
     ensures row { R.is_honest registry.new → AnswersBy R.means registry.old result
         (λ o l v. v.items ≡ response_text 200 PlainText (pending_report (state o l))) }
-    ensures same { R.is_honest registry.new → MeansTheSame R.means registry.old registry.new }
-    ensures before { R.is_honest registry.new → R.is_open registry.new → R.is_as_before registry.old registry.new }
     ensures cause { R.is_honest registry.new → IfErr result
         (λ e. HasCause e (FailsWithin R.means R.fails registry.old registry.new)) }
     ensures only { R.is_honest registry.new → FailsAsARegister R.means registry.old result }

@@ -7,7 +7,7 @@ ghost use Rattle.http_requests.specs.Responses.{response_text};
 ghost use Rattle.office.specs.Publication.{published_list};
 ghost use Rattle.office.specs.History.{state};
 ghost use Rattle.office.specs.Faults.{HasCause};
-ghost use Rattle.office.specs.Registers.{AnswersBy, FailsAsARegister, FailsWithin, MeansTheSame, WhereMeant};
+ghost use Rattle.office.specs.Registers.{AnswersBy, FailsAsARegister, FailsWithin, Preserves, WhereMeant};
 ghost use Rattle.lines.specs.Digests.{fingerprint_text};
 ghost use Rattle.lines.specs.Signers.{signers_text};
 ghost use Rattle.web.specs.Answers.{ListFits};
@@ -54,15 +54,12 @@ fn list_response(alloc: Global, revoked: &Revoked) -> Result<Vec<u8>, StoreFault
 
 /// The response with the key revocation list.
 pub(crate) fn to_list<R: Registry>(registry: &mut R, alloc: Global) -> Result<Vec<u8>, StoreFault>
-    ensures honest { R.is_honest registry.new → R.is_honest registry.old }
-    ensures was_open { R.is_honest registry.new → R.is_open registry.new → R.is_open registry.old }
+    ensures preserves { Preserves R.is_honest R.is_open R.is_as_before R.means registry.old registry.new }
     ensures stays_open { R.is_honest registry.new → OnOk result (R.is_open registry.new) }
     ensures row { R.is_honest registry.new → AnswersBy R.means registry.old result
         (λ o l v. v.items ≡ response_text 200 Bytes (published_list (state o l))) }
     ensures fits { R.is_honest registry.new → OnOk result
         (WhereMeant R.means registry.old (λ o l. ListFits (state o l))) }
-    ensures same { R.is_honest registry.new → MeansTheSame R.means registry.old registry.new }
-    ensures before { R.is_honest registry.new → R.is_open registry.new → R.is_as_before registry.old registry.new }
     ensures cause { IfErr result (λ e. HasCause e (R.fails registry.old registry.new)) }
     ensures only { R.is_honest registry.new → FailsAsARegister R.means registry.old result }
 {
@@ -150,13 +147,10 @@ pub(crate) fn to_signers<R: Registry>(
     registry: &mut R,
     alloc: Global,
 ) -> Result<Vec<u8>, StoreFault>
-    ensures honest { R.is_honest registry.new → R.is_honest registry.old }
-    ensures was_open { R.is_honest registry.new → R.is_open registry.new → R.is_open registry.old }
+    ensures preserves { Preserves R.is_honest R.is_open R.is_as_before R.means registry.old registry.new }
     ensures stays_open { R.is_honest registry.new → OnOk result (R.is_open registry.new) }
     ensures row { R.is_honest registry.new → AnswersBy R.means registry.old result
         (λ o l v. v.items ≡ response_text 200 PlainText (signers_report (state o l))) }
-    ensures same { R.is_honest registry.new → MeansTheSame R.means registry.old registry.new }
-    ensures before { R.is_honest registry.new → R.is_open registry.new → R.is_as_before registry.old registry.new }
     ensures cause { R.is_honest registry.new → IfErr result
         (λ e. HasCause e (FailsWithin R.means R.fails registry.old registry.new)) }
     ensures only { R.is_honest registry.new → FailsAsARegister R.means registry.old result }
@@ -198,13 +192,10 @@ fn ca_lines(alloc: Global, cas: &[Ca]) -> Result<Vec<u8>, NoMemory>
 
 /// The response with the CAs.
 pub(crate) fn to_cas<R: Registry>(registry: &mut R, alloc: Global) -> Result<Vec<u8>, StoreFault>
-    ensures honest { R.is_honest registry.new → R.is_honest registry.old }
-    ensures was_open { R.is_honest registry.new → R.is_open registry.new → R.is_open registry.old }
+    ensures preserves { Preserves R.is_honest R.is_open R.is_as_before R.means registry.old registry.new }
     ensures stays_open { R.is_honest registry.new → OnOk result (R.is_open registry.new) }
     ensures row { R.is_honest registry.new → AnswersBy R.means registry.old result
         (λ o l v. v.items ≡ response_text 200 PlainText (ca_report (state o l))) }
-    ensures same { R.is_honest registry.new → MeansTheSame R.means registry.old registry.new }
-    ensures before { R.is_honest registry.new → R.is_open registry.new → R.is_as_before registry.old registry.new }
     ensures cause { IfErr result (λ e. HasCause e (R.fails registry.old registry.new)) }
     ensures only { R.is_honest registry.new → FailsAsARegister R.means registry.old result }
 {

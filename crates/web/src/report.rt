@@ -5,7 +5,7 @@ ghost use Rattle.http_requests.specs.declared.response.MediaType.TheVariants.{Pl
 ghost use Rattle.http_requests.specs.Responses.{response_text};
 ghost use Rattle.office.specs.History.{state};
 ghost use Rattle.office.specs.Faults.{HasCause};
-ghost use Rattle.office.specs.Registers.{AnswersBy, FailsAsARegister, FailsWithin, MeansTheSame};
+ghost use Rattle.office.specs.Registers.{AnswersBy, FailsAsARegister, FailsWithin, Preserves};
 ghost use Rattle.message.specs.Texts.{kind_text};
 ghost use Rattle.web.specs.Reports.{entry_line, gap, moment_places, serial_places, standing_word, table_report, total_line};
 ghost use Rattle.web.specs.Batches.{table_among};
@@ -84,13 +84,10 @@ fn table_beside<R: Registry>(
     revocations: &Revocations,
     version: u64,
 ) -> Result<Vec<u8>, StoreFault>
-    ensures honest { R.is_honest registry.new → R.is_honest registry.old }
-    ensures was_open { R.is_honest registry.new → R.is_open registry.new → R.is_open registry.old }
+    ensures preserves { Preserves R.is_honest R.is_open R.is_as_before R.means registry.old registry.new }
     ensures stays_open { R.is_honest registry.new → OnOk result (R.is_open registry.new) }
     ensures row { R.is_honest registry.new → AnswersBy R.means registry.old result
         (λ o l v. v.items ≡ table_among revocations.now (state o l).certificates version) }
-    ensures same { R.is_honest registry.new → MeansTheSame R.means registry.old registry.new }
-    ensures before { R.is_honest registry.new → R.is_open registry.new → R.is_as_before registry.old registry.new }
     ensures cause { R.is_honest registry.new
         → IfErr result (λ e. HasCause e (FailsWithin R.means R.fails registry.old registry.new)) }
     ensures only { R.is_honest registry.new → FailsAsARegister R.means registry.old result }
@@ -103,13 +100,10 @@ fn table_beside<R: Registry>(
 
 /// The response with the table.
 pub(crate) fn to_table<R: Registry>(registry: &mut R, alloc: Global) -> Result<Vec<u8>, StoreFault>
-    ensures honest { R.is_honest registry.new → R.is_honest registry.old }
-    ensures was_open { R.is_honest registry.new → R.is_open registry.new → R.is_open registry.old }
+    ensures preserves { Preserves R.is_honest R.is_open R.is_as_before R.means registry.old registry.new }
     ensures stays_open { R.is_honest registry.new → OnOk result (R.is_open registry.new) }
     ensures row { R.is_honest registry.new → AnswersBy R.means registry.old result
         (λ o l v. v.items ≡ response_text 200 PlainText (table_report (state o l))) }
-    ensures same { R.is_honest registry.new → MeansTheSame R.means registry.old registry.new }
-    ensures before { R.is_honest registry.new → R.is_open registry.new → R.is_as_before registry.old registry.new }
     ensures cause { R.is_honest registry.new → IfErr result
         (λ e. HasCause e (FailsWithin R.means R.fails registry.old registry.new)) }
     ensures only { R.is_honest registry.new → FailsAsARegister R.means registry.old result }

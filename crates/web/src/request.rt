@@ -6,7 +6,8 @@ ghost use Rattle.http_requests.specs.Asked.{ask_of};
 ghost use Rattle.http_requests.specs.Asks.{Asks};
 ghost use Rattle.office.specs.Faults.{HasCause};
 ghost use Rattle.office.specs.History.{state};
-ghost use Rattle.office.specs.Registers.{AnswersBy, FailsAsARegister, FailsWithin, MeansTheSame, WhereMeant};
+ghost use Rattle.office.specs.Registers.{AnswersBy, FailsAsARegister, FailsWithin, FailuresPersist, MeansTheSame};
+ghost use Rattle.office.specs.Registers.{Preserves, WhereMeant};
 ghost use Rattle.web.specs.Answers.{AsksNoChange, IsAnswered, IsNoMessage, Keeps, ListFits, resource_response};
 ghost use Rattle.web.specs.Causes.{StopsAt};
 ghost use Rattle.web.specs.Requests.{request_ask};
@@ -64,15 +65,12 @@ fn to_resource<R: Registry>(
     alloc: Global,
     resource: Resource,
 ) -> Result<Vec<u8>, StoreFault>
-    ensures honest { R.is_honest registry.new → R.is_honest registry.old }
-    ensures was_open { R.is_honest registry.new → R.is_open registry.new → R.is_open registry.old }
+    ensures preserves { Preserves R.is_honest R.is_open R.is_as_before R.means registry.old registry.new }
     ensures stays_open { R.is_honest registry.new → OnOk result (R.is_open registry.new) }
     ensures row { R.is_honest registry.new → AnswersBy R.means registry.old result
         (λ o l v. v.items ≡ resource_response (state o l) resource) }
     ensures fits { R.is_honest registry.new → resource ≡ RevocationList
         → OnOk result (WhereMeant R.means registry.old (λ o l. ListFits (state o l))) }
-    ensures same { R.is_honest registry.new → MeansTheSame R.means registry.old registry.new }
-    ensures before { R.is_honest registry.new → R.is_open registry.new → R.is_as_before registry.old registry.new }
     ensures cause { R.is_honest registry.new → IfErr result
         (λ e. HasCause e (FailsWithin R.means R.fails registry.old registry.new)) }
     ensures only { R.is_honest registry.new → FailsAsARegister R.means registry.old result }
@@ -96,8 +94,7 @@ pub(crate) fn answer_request<R: Registry>(
     moment: u64,
     nonce: &[u8; 32],
 ) -> Result<Vec<u8>, StoreFault>
-    ensures honest { R.is_honest registry.new → R.is_honest registry.old }
-    ensures was_open { R.is_honest registry.new → R.is_open registry.new → R.is_open registry.old }
+    ensures failures { FailuresPersist R.is_honest R.is_open registry.old registry.new }
     ensures stays_open { R.is_honest registry.new → OnOk result (R.is_open registry.old → R.is_open registry.new) }
     ensures answered { R.is_honest registry.new → (bytes : List ℕ) → Asks bytes (request_ask request)
         → IfOk result (λ v. IsAnswered (R.means registry.old) (R.means registry.new)
@@ -140,8 +137,7 @@ pub fn answer_by<R: Registry>(
     moment: u64,
     nonce: &[u8; 32],
 ) -> Result<Vec<u8>, StoreFault>
-    ensures honest { R.is_honest registry.new → R.is_honest registry.old }
-    ensures was_open { R.is_honest registry.new → R.is_open registry.new → R.is_open registry.old }
+    ensures failures { FailuresPersist R.is_honest R.is_open registry.old registry.new }
     ensures stays_open { R.is_honest registry.new → OnOk result (R.is_open registry.old → R.is_open registry.new) }
     ensures answered { R.is_honest registry.new → IfOk result (λ v. IsAnswered (R.means registry.old)
         (R.means registry.new) (Keeps R.means R.is_open registry.new) request.now moment nonce.now v.items) }
@@ -176,8 +172,7 @@ pub fn answer<R: Registry>(
     moment: u64,
     nonce: &[u8; 32],
 ) -> Result<Vec<u8>, StoreFault>
-    ensures honest { R.is_honest registry.new → R.is_honest registry.old }
-    ensures was_open { R.is_honest registry.new → R.is_open registry.new → R.is_open registry.old }
+    ensures failures { FailuresPersist R.is_honest R.is_open registry.old registry.new }
     ensures stays_open { R.is_honest registry.new → OnOk result (R.is_open registry.old → R.is_open registry.new) }
     ensures answered { R.is_honest registry.new → IfOk result (λ v. IsAnswered (R.means registry.old)
         (R.means registry.new) (Keeps R.means R.is_open registry.new) request.now moment nonce.now v.items) }

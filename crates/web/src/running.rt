@@ -1,7 +1,7 @@
 //! Successive exchanges.
 
 ghost use Rattle.std.specs.Prelude.{◌≡◌, ℕ, List, IfOk, OnErr};
-ghost use Rattle.office.specs.Registers.{MeansTheSame};
+ghost use Rattle.office.specs.Registers.{FailuresPersist, MeansTheSame};
 ghost use Rattle.web.specs.Answers.{AsksNoChange, IsAnswered, Keeps};
 ghost use Rattle.web.specs.Runs.{AskNoChange, Serves};
 
@@ -19,8 +19,7 @@ fn given_by<R: Registry>(
     alloc: Global,
     exchange: &Exchange,
 ) -> Given
-    ensures honest { R.is_honest registry.new → R.is_honest registry.old }
-    ensures was_open { R.is_honest registry.new → R.is_open registry.new → R.is_open registry.old }
+    ensures failures { FailuresPersist R.is_honest R.is_open registry.old registry.new }
     ensures answered { R.is_honest registry.new → (response : List ℕ) → result ≡ Given.Answer response
         → IsAnswered (R.means registry.old) (R.means registry.new) (Keeps R.means R.is_open registry.new)
         exchange.now.request exchange.now.moment exchange.now.nonce response
@@ -52,8 +51,7 @@ pub fn run<R: Registry>(
     alloc: Global,
     exchanges: &[Exchange],
 ) -> Result<Vec<Given>, NoMemory>
-    ensures honest { R.is_honest registry.new → R.is_honest registry.old }
-    ensures was_open { R.is_honest registry.new → R.is_open registry.new → R.is_open registry.old }
+    ensures failures { FailuresPersist R.is_honest R.is_open registry.old registry.new }
 
     // Each exchange gets a fault, or the response specified after the arrivals before it that got no fault, and the
     // list only if it may be returned. The register then means the history followed by all arrivals that got no fault.

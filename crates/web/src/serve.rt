@@ -5,7 +5,7 @@ ghost use Rattle.std.specs.Io.KnownBytes.{Appends};
 ghost use Rattle.wire.specs.Streams.{AppendsBeginning};
 ghost use Rattle.office.specs.declared.opening.Opening.{Opening};
 ghost use Rattle.office.specs.declared.arrival.Arrival.{Arrival};
-ghost use Rattle.office.specs.Registers.{MeansTheSame};
+ghost use Rattle.office.specs.Registers.{FailuresPersist, MeansTheSame};
 ghost use Rattle.web.specs.Answers.{Keeps};
 ghost use Rattle.web.specs.Causes.{StopsAt};
 ghost use Rattle.web.specs.Faults.{is_read, is_write, IfServed, IfUnserved};
@@ -38,8 +38,7 @@ pub fn serve_one<R: Source, W: Sink, S: Registry, N: Source>(
     requires reads { R.failed reader.old < u64.MAX }
     requires writes { W.failed writer.old < u64.MAX }
     requires draws { N.failed nonces.old < u64.MAX }
-    ensures honest { S.is_honest registry.new → S.is_honest registry.old }
-    ensures was_open { S.is_honest registry.new → S.is_open registry.new → S.is_open registry.old }
+    ensures failures { FailuresPersist S.is_honest S.is_open registry.old registry.new }
     ensures stays_open { S.is_honest registry.new → IfServed result (S.is_open registry.old → S.is_open registry.new) }
 
     // One request and one nonce were taken, and the response specified for them was written. If the request needed the

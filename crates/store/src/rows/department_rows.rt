@@ -6,7 +6,8 @@ ghost use Rattle.std.specs.Prelude.{◌≡◌, ◌<◌, ◌^◌, IfOk, IsTrue, S
 ghost use Rattle.message.specs.declared.department.Department.{Department};
 ghost use Rattle.message.specs.Values.{is_department};
 ghost use Rattle.cert.specs.Bodies.{kind_number};
-ghost use Rattle.store.specs.Rows.{department_row, joined};
+ghost use Rattle.lines.specs.Signers.{list_text};
+ghost use Rattle.store.specs.Rows.{department_row};
 ghost use Rattle.store.specs.Reading.{IsRead};
 ghost use Rattle.cert.specs.Reading.{kind_of};
 ghost use Rattle.store.specs.Departments.{department_in, if_lawful, parted, parts_of};
@@ -23,7 +24,7 @@ use values::{Kind, LONGEST_LIFE, is_name};
 
 /// The texts joined by commas.
 fn joined(alloc: Global, texts: &[Text]) -> Result<Text, NoMemory>
-    ensures { IfOk result (λ t. t ≡ joined texts.now) }
+    ensures { IfOk result (λ t. t ≡ list_text texts.now) }
 {
     let Some((first, rest)) = texts.split_first() else {
         return Ok(Text::new(alloc));

@@ -19,10 +19,10 @@ loop-served-preserved g c =
     let failed : g.N.Source.failed step.new.nonces ≤ g.N.Source.failed c.args.nonces.now + (at.served + 1) = omega
     (arith, at.invariant.failed, step.ensures.failed) in
     record {
-      honest = λ h. at.invariant.honest (step.ensures.honest h);
-      was_open = λ h is. at.invariant.was_open (step.ensures.honest h) (step.ensures.was_open h is);
+      honest = λ h. at.invariant.honest (step.ensures.failures.honest h);
+      was_open = λ h is. at.invariant.was_open (step.ensures.failures.honest h) (step.ensures.failures.was_open h is);
       meets = meets_more at.served step.result _ _ _ _ _ _ g.S.Registry _ _ _ at.invariant.meets step.ensures.visit
-          step.ensures.honest step.ensures.stays_open;
+          step.ensures.failures.honest step.ensures.stays_open;
       failed = failed;
     }
 

@@ -2,22 +2,17 @@ use Rattle.std.proofs.Common.{◌+◌, ◌++◌, ◌∙◌, List, ap, length}
 use Rattle.office.specs.declared.certificate.Certificate.{Certificate}
 use Rattle.office.specs.History.{state}
 use Rattle.office.specs.Listing.{waiting_rows}
+use Rattle.office.proofs.Registers.{preserves_both}
 use Rattle.office.proofs.Waiting.{all_batches, one_batch_more, place_is_end}
 use Rattle.waiting.proofs.asking.learned.Goals as goal
 
 pub batches-preserved : goal.batches-preserved
 batches-preserved g c = record {
-  honest = λ h. c.batches.invariant.honest (c.certificates.ensures.honest h);
-  was_open = λ h is. c.batches.invariant.was_open (c.certificates.ensures.honest h) (c.certificates.ensures.was_open h is);
-  before = λ h is.
-      g.met.R.Registry.through c.args.register.now c.batches.register c.certificates.new.self
-      (c.batches.invariant.before (c.certificates.ensures.honest h) (c.certificates.ensures.was_open h is))
-      (c.certificates.ensures.before h is);
-  same = λ h o l m. c.certificates.ensures.same h o l (c.batches.invariant.same (c.certificates.ensures.honest h) o l m);
+  preserves = preserves_both g.met.R.Registry.through c.batches.invariant.preserves c.certificates.ensures.preserves;
   rows = λ h o l m within known.
-      let before = c.certificates.ensures.honest h in
+      let before = c.certificates.ensures.preserves.honest h in
       let rows = c.batches.invariant.rows before o l m within known in
-      let batch = c.in_ok-batch.ensures.row h o l (c.batches.invariant.same before o l m) in
+      let batch = c.in_ok-batch.ensures.row h o l (c.batches.invariant.preserves.same before o l m) in
       one_batch_more c.args.revocations.now (state o l) c.batches.place c.in_ok-next.next c.batches.rows.items
       c.push_waiting.new.rows.items rows.0 rows.1
       (c.in_ok-next.ensures ∙ ap (λ (cs : List Certificate). c.batches.place + length cs)
@@ -28,9 +23,9 @@ batches-preserved g c = record {
 
 pub returns-then-next-place-clause-row : goal.returns-then-next-place-clause-row
 returns-then-next-place-clause-row g c h o l m within known =
-    let before = c.certificates.ensures.honest h in
+    let before = c.certificates.ensures.preserves.honest h in
     let rows = c.batches.invariant.rows before o l m within known in
-    let batch = c.in_ok-batch.ensures.row h o l (c.batches.invariant.same before o l m) in
+    let batch = c.in_ok-batch.ensures.row h o l (c.batches.invariant.preserves.same before o l m) in
     let behind = c.in_ok-next.ensures ∙ ap (λ (cs : List Certificate). c.batches.place + length cs)
     (c.deref-in-batches.ensures.value ∙ batch) in
     let more = c.in_ok-push_waiting.ensures ∙ ap (λ (cs : List Certificate). c.batches.rows.items

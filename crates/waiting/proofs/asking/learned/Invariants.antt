@@ -3,16 +3,13 @@ use Rattle.office.specs.declared.opening.Opening.{Opening}
 use Rattle.office.specs.declared.arrival.Arrival.{Arrival}
 use Rattle.office.specs.History.{state}
 use Rattle.office.specs.Listing.{waiting_rows}
+use Rattle.office.specs.Registers.{Preserves}
 use Rattle.waiting.proofs.asking.learned.Given as goal
 
 abbrev pub invariant-batches : goal.invariant-batches
 invariant-batches g l = record {
-  honest : g.R.Registry.is_honest l.register → g.R.Registry.is_honest l.fn.register;
-  was_open : g.R.Registry.is_honest l.register → g.R.Registry.is_open l.register → g.R.Registry.is_open l.fn.register;
-  before : g.R.Registry.is_honest l.register → g.R.Registry.is_open l.register
-      → g.R.Registry.is_as_before l.fn.register l.register;
-  same : g.R.Registry.is_honest l.register → (o : Opening) (h : List Arrival) → g.R.Registry.means l.fn.register o h
-      → g.R.Registry.means l.register o h;
+  preserves : Preserves g.R.Registry.is_honest g.R.Registry.is_open g.R.Registry.is_as_before
+      g.R.Registry.means l.fn.register l.register;
   rows : g.R.Registry.is_honest l.register → (o : Opening) (h : List Arrival) → g.R.Registry.means l.fn.register o h
       → l.fn.known.seen ≤ length (state o h).certificates
       → l.fn.known.rows.items ≡ waiting_rows l.revocations (take l.fn.known.seen (state o h).certificates)

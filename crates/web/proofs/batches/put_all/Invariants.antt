@@ -3,17 +3,14 @@ use Rattle.std.specs.List.{flat_map}
 use Rattle.office.specs.declared.opening.Opening.{Opening}
 use Rattle.office.specs.declared.arrival.Arrival.{Arrival}
 use Rattle.office.specs.History.{state}
+use Rattle.office.specs.Registers.{Preserves}
 use Rattle.web.specs.Batches.{line_among}
 use Rattle.web.proofs.batches.put_all.Given as goal
 
 abbrev pub invariant-batches : goal.invariant-batches
 invariant-batches g l = record {
-  honest : g.R.Registry.is_honest l.registry → g.R.Registry.is_honest l.fn.registry;
-  was_open : g.R.Registry.is_honest l.registry → g.R.Registry.is_open l.registry → g.R.Registry.is_open l.fn.registry;
-  before : g.R.Registry.is_honest l.registry → g.R.Registry.is_open l.registry
-      → g.R.Registry.is_as_before l.fn.registry l.registry;
-  same : g.R.Registry.is_honest l.registry → (o : Opening) (h : List Arrival) → g.R.Registry.means l.fn.registry o h
-      → g.R.Registry.means l.registry o h;
+  preserves : Preserves g.R.Registry.is_honest g.R.Registry.is_open g.R.Registry.is_as_before
+      g.R.Registry.means l.fn.registry l.registry;
   lines : g.R.Registry.is_honest l.registry → (o : Opening) (h : List Arrival) → g.R.Registry.means l.fn.registry o h
       → (l.place ≤ length (state o h).certificates)
       × (l.out.items ≡ l.fn.out.items ++ flat_map (line_among l.revocations) (take l.place (state o h).certificates));

@@ -1,3 +1,4 @@
+use Rattle.office.proofs.Registers.{preserves_both}
 use Rattle.web.proofs.Shown.{memory_cause, memory_only}
 use Rattle.web.proofs.publishing.to_signers.Goals as goal
 
@@ -7,12 +8,10 @@ returns-clause-cause g c h = memory_cause c.signers_response.result _ c.signers_
 pub returns-clause-only : goal.returns-clause-only
 returns-clause-only g c h = memory_only c.signers_response.result _ c.signers_response.ensures.err
 
-pub returns-in_err-cas-clause-before : goal.returns-in_err-cas-clause-before
-returns-in_err-cas-clause-before g c h is =
-    g.met.R.Registry.through c.args.registry.now c.departments.new.self c.cas.new.self
-    (c.departments.ensures.before (c.cas.ensures.honest h) (c.cas.ensures.was_open h is)) (c.cas.ensures.before h is)
+pub returns-in_err-cas-clause-preserves : goal.returns-in_err-cas-clause-preserves
+returns-in_err-cas-clause-preserves g c =
+    preserves_both g.met.R.Registry.through c.departments.ensures.preserves c.cas.ensures.preserves
 
-pub returns-clause-before : goal.returns-clause-before
-returns-clause-before g c h is =
-    g.met.R.Registry.through c.args.registry.now c.departments.new.self c.cas.new.self
-    (c.departments.ensures.before (c.cas.ensures.honest h) (c.cas.ensures.was_open h is)) (c.cas.ensures.before h is)
+pub returns-clause-preserves : goal.returns-clause-preserves
+returns-clause-preserves g c =
+    preserves_both g.met.R.Registry.through c.departments.ensures.preserves c.cas.ensures.preserves

@@ -17,7 +17,7 @@ returns-in-Get-clause-answered g c honest bytes asks =
     (g.R.Registry.means called.new.registry) (g.R.Registry.is_open called.new.registry)
     bytes c.args.moment c.args.nonce.now (rw c.in-Get.is at asks)
     (g.met.R.Registry.lawful c.args.registry.now) (called.ensures.row honest) (called.ensures.fits honest)
-    (called.ensures.same honest) (called.ensures.stays_open honest)
+    (called.ensures.preserves.same honest) (called.ensures.stays_open honest)
 
 pub returns-in-Post-clause-answered : goal.returns-in-Post-clause-answered
 returns-in-Post-clause-answered g c honest bytes asks =
@@ -54,7 +54,7 @@ returns-in-Refused-clause-reads g c honest is none = g.met.R.Registry.unasked c.
 
 pub returns-in-Get-clause-before : goal.returns-in-Get-clause-before
 returns-in-Get-clause-before g c honest is =
-    always_err c.to_resource.result _ (λ e differs. c.to_resource.ensures.before honest is)
+    always_err c.to_resource.result _ (λ e differs. c.to_resource.ensures.preserves.before honest is)
 
 pub returns-in-Post-clause-reads : goal.returns-in-Post-clause-reads
 returns-in-Post-clause-reads g c honest is none = absurd (rw c.in-Post.is at none)

@@ -23,16 +23,16 @@ loop-exchange-preserved g c =
     let left : drop i all ≡ x ∷ rest =
     rw (add-one, drop-cons all i x c.loop-exchange-test.true) (ap (λ (y : Exchange). y ∷ drop (suc i) all) (sym c.exchange-item.is)) in
     record {
-      honest = λ h. c.loop-exchange.invariant.honest (c.given_by.ensures.honest h);
-      was_open = λ h is. c.loop-exchange.invariant.was_open (c.given_by.ensures.honest h) (c.given_by.ensures.was_open h is);
+      honest = λ h. c.loop-exchange.invariant.honest (c.given_by.ensures.failures.honest h);
+      was_open = λ h is. c.loop-exchange.invariant.was_open (c.given_by.ensures.failures.honest h) (c.given_by.ensures.failures.was_open h is);
       before = λ h is none.
           g.met.R.Registry.through c.args.registry.now c.loop-exchange.registry c.given_by.new.registry
-          (c.loop-exchange.invariant.before (c.given_by.ensures.honest h) (c.given_by.ensures.was_open h is) none)
+          (c.loop-exchange.invariant.before (c.given_by.ensures.failures.honest h) (c.given_by.ensures.failures.was_open h is) none)
           (c.given_by.ensures.reads h is (subst (λ (y : Exchange). AsksNoChange y.request) (sym c.exchange-item.is)
           (none i _ c.loop-exchange-test.true)));
       underway = λ h.
           let u : IsUnderway before now was_open all (x ∷ rest) given =
-          subst (λ (r : List Exchange). IsUnderway before now was_open all r given) left (c.loop-exchange.invariant.underway (c.given_by.ensures.honest h)) in
+          subst (λ (r : List Exchange). IsUnderway before now was_open all r given) left (c.loop-exchange.invariant.underway (c.given_by.ensures.failures.honest h)) in
           subst (λ (g : List Given). IsUnderway before new is_open all rest g) (sym pushed)
           (goes_with before now new was_open is_open all rest x given c.given_by.result (c.given_by.ensures.answered h)
           (c.given_by.ensures.fault h) u);

@@ -2,22 +2,17 @@ use Rattle.std.proofs.Common.{◌+◌, ◌++◌, ◌∙◌, List, ap, length}
 use Rattle.office.specs.declared.certificate.Certificate.{Certificate}
 use Rattle.office.specs.History.{state}
 use Rattle.office.specs.Listing.{waiting_rows}
+use Rattle.office.proofs.Registers.{preserves_both}
 use Rattle.office.proofs.Waiting.{all_batches, one_batch_more, pending_is}
 use Rattle.office.proofs.registry.Registry.pending.Goals as goal
 
 pub batches-preserved : goal.batches-preserved
 batches-preserved g c = record {
-  honest = λ h. c.batches.invariant.honest (c.certificates.ensures.honest h);
-  was_open = λ h is. c.batches.invariant.was_open (c.certificates.ensures.honest h) (c.certificates.ensures.was_open h is);
-  before = λ h is.
-      let honest = c.certificates.ensures.honest h in
-      g.met.Self.Registry.through c.args.self.now c.batches.self c.certificates.new.self
-      (c.batches.invariant.before honest (c.certificates.ensures.was_open h is)) (c.certificates.ensures.before h is);
-  same = λ h o l m. c.certificates.ensures.same h o l (c.batches.invariant.same (c.certificates.ensures.honest h) o l m);
+  preserves = preserves_both g.met.Self.Registry.through c.batches.invariant.preserves c.certificates.ensures.preserves;
   rows = λ h o l m.
-      let before = c.certificates.ensures.honest h in
+      let before = c.certificates.ensures.preserves.honest h in
       let rows = c.batches.invariant.rows before o l m in
-      let batch = c.in_ok-batch.ensures.row h o l (c.batches.invariant.same before o l m) in
+      let batch = c.in_ok-batch.ensures.row h o l (c.batches.invariant.preserves.same before o l m) in
       let more = one_batch_more c.in_ok-revocations.revocations (state o l) c.batches.place c.in_ok-next.next c.batches.rows.items
       c.push_waiting.new.rows.items rows.1 rows.2
       (c.in_ok-next.ensures ∙ ap (λ (cs : List Certificate). c.batches.place + length cs)
@@ -29,9 +24,9 @@ batches-preserved g c = record {
 
 pub returns-then-next-place-clause-row : goal.returns-then-next-place-clause-row
 returns-then-next-place-clause-row g c h o l m =
-    let before = c.certificates.ensures.honest h in
+    let before = c.certificates.ensures.preserves.honest h in
     let rows = c.batches.invariant.rows before o l m in
-    let batch = c.in_ok-batch.ensures.row h o l (c.batches.invariant.same before o l m) in
+    let batch = c.in_ok-batch.ensures.row h o l (c.batches.invariant.preserves.same before o l m) in
     pending_is c.in_ok-revocations.revocations (state o l) rows.0 c.push_waiting.new.rows.items
     (all_batches c.in_ok-revocations.revocations (state o l) c.batches.place c.in_ok-next.next c.batches.rows.items
     c.push_waiting.new.rows.items rows.1 rows.2

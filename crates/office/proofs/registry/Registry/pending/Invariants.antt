@@ -3,15 +3,13 @@ use Rattle.office.specs.declared.opening.Opening.{Opening}
 use Rattle.office.specs.declared.arrival.Arrival.{Arrival}
 use Rattle.office.specs.History.{state}
 use Rattle.office.specs.Listing.{AreRevocations, waiting_rows}
+use Rattle.office.specs.Registers.{Preserves}
 use Rattle.office.proofs.registry.Registry.pending.Given as goal
 
 abbrev pub invariant-batches : goal.invariant-batches
 invariant-batches g l = record {
-  honest : g.Self.Registry.is_honest l.self → g.Self.Registry.is_honest l.fn.self;
-  was_open : g.Self.Registry.is_honest l.self → g.Self.Registry.is_open l.self → g.Self.Registry.is_open l.fn.self;
-  before : g.Self.Registry.is_honest l.self → g.Self.Registry.is_open l.self
-      → g.Self.Registry.is_as_before l.fn.self l.self;
-  same : g.Self.Registry.is_honest l.self → (o : Opening) (h : List Arrival) → g.Self.Registry.means l.fn.self o h → g.Self.Registry.means l.self o h;
+  preserves : Preserves g.Self.Registry.is_honest g.Self.Registry.is_open g.Self.Registry.is_as_before
+      g.Self.Registry.means l.fn.self l.self;
   rows : g.Self.Registry.is_honest l.self → (o : Opening) (h : List Arrival) → g.Self.Registry.means l.fn.self o h
       → AreRevocations l.revocations (state o h) × (l.place ≤ length (state o h).certificates)
       × (l.rows.items ≡ waiting_rows l.revocations (take l.place (state o h).certificates));

@@ -1,10 +1,10 @@
-use Rattle.sqlite.specs.Held.{state}
-use Rattle.store.proofs.Before.{reads_before}
 use Rattle.store.proofs.Answering.{answered}
 use Rattle.store.proofs.registry.StoreRegistry.certificates.Goals as goal
 
-pub returns-clause-was_open : goal.returns-clause-was_open
-returns-clause-was_open g c = (answered c.told.ensures c.read_batch.ensures).was_open
+pub returns-clause-preserves : goal.returns-clause-preserves
+returns-clause-preserves g c =
+    let t = answered c.told.ensures c.read_batch.ensures in
+    assumption t
 
 pub returns-clause-stays_open : goal.returns-clause-stays_open
 returns-clause-stays_open g c = (answered c.told.ensures c.read_batch.ensures).stays_open
@@ -12,16 +12,8 @@ returns-clause-stays_open g c = (answered c.told.ensures c.read_batch.ensures).s
 pub returns-clause-row : goal.returns-clause-row
 returns-clause-row g c = (answered c.told.ensures c.read_batch.ensures).row
 
-pub returns-clause-same : goal.returns-clause-same
-returns-clause-same g c = (answered c.told.ensures c.read_batch.ensures).same
-
 pub returns-clause-cause : goal.returns-clause-cause
 returns-clause-cause g c = (answered c.told.ensures c.read_batch.ensures).cause
 
 pub returns-clause-only : goal.returns-clause-only
 returns-clause-only g c = (answered c.told.ensures c.read_batch.ensures).only
-
-pub returns-clause-before : goal.returns-clause-before
-returns-clause-before g c clean still =
-    reads_before (state g.S.Store c.args.self.now.conn) (state g.S.Store c.read_batch.new.conn) c.read_batch.result
-    (c.read_batch.ensures.reads clean)

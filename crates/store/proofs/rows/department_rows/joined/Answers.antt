@@ -1,5 +1,5 @@
 use Rattle.std.proofs.Common.{◌≡◌, ◌++◌, ◌∷◌, List, ℕ, ap, sym, ◌∙◌}
-use Rattle.store.specs.Rows.{joined}
+use Rattle.lines.specs.Signers.{list_text}
 use Rattle.store.proofs.DepartmentRows.{following, following_more, following_none, joined_first}
 use Rattle.store.proofs.rows.department_rows.joined.Goals as goal
 
@@ -9,7 +9,7 @@ loop-text-init c =
     let rest = c.in-Some.rest.now in
     let parts : c.args.texts.now ≡ first ∷ rest = c.in-Some.ensures.cases.0 in
     let begun : c.in_ok-bytes.bytes.items ≡ first = c.in_ok-bytes.ensures.items ∙ c.as_slice.ensures in
-    ap (λ (x : List ℕ). x ++ following rest) begun ∙ joined_first first rest ∙ ap joined (sym parts)
+    ap (λ (x : List ℕ). x ++ following rest) begun ∙ joined_first first rest ∙ ap list_text (sym parts)
 
 pub loop-text-preserved : goal.loop-text-preserved
 loop-text-preserved c =

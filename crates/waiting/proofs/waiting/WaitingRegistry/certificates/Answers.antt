@@ -6,10 +6,13 @@ returns-clause-row g c h =
     same_answer g.R.Registry.means c.args.self.now.register c.args.self.now.known.seen c.args.self.now.known.rows.items
     c.args.self.now.revoked c.certificates.result _ (c.certificates.ensures.row h)
 
-pub returns-clause-same : goal.returns-clause-same
-returns-clause-same g c h =
+pub returns-clause-preserves : goal.returns-clause-preserves
+returns-clause-preserves g c =
+    let below = c.certificates.ensures.preserves in
+    let same = λ (h : g.R.Registry.is_honest c.certificates.new.self).
     still_known g.R.Registry.means c.args.self.now.register c.certificates.new.self c.args.self.now.known.seen
-    c.args.self.now.known.rows.items c.args.self.now.revoked (c.certificates.ensures.same h)
+    c.args.self.now.known.rows.items c.args.self.now.revoked (below.same h) in
+    assumption (same, below)
 
 pub returns-clause-only : goal.returns-clause-only
 returns-clause-only g c h =
