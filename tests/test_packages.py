@@ -27,6 +27,8 @@ from running import TOP, left_out, run
 PAGE = TOP / "docs/INSTALLING.md"
 NAMES = ["vethlumi-office", "vethlumi-front", "vethlumi-station", "vethlumi-client"]
 MACHINES = ("station", "office", "server", "client")
+# The one on which the page begins, which has the packages.
+ADMIN = "admin"
 OLDER = "0.9.0"
 # Servers fetch the list more often than in service, so that tests are sooner done.
 OFTEN = "[Timer]\nOnUnitInactiveSec=5s\nRandomizedDelaySec=0\n"
@@ -679,18 +681,24 @@ with open(room / "said", "a") as it:
     it.write(json.dumps([name, words, sys.stdin.read()]) + chr(10))
 for form, text in json.loads((room / "answers").read_text()).items():
     if re.fullmatch(form, " ".join(words)):
+        if isinstance(text, int):
+            sys.exit(text)
         print(text, end="")
         sys.exit()
 sys.exit("nothing is known of " + " ".join(words))
 """
+KEYS_OF = r"(?s).* sh -c cd /etc/vethlumi/station\n.*"
+INSTALL = ".* env DEBIAN_FRONTEND=noninteractive apt-get install .*"
+LISTS = "deb.debian.org_debian_dists_bookworm_InRelease\ndeb.debian.org_debian_main_binary-amd64_Packages.lz4\n"
 ANSWERS = {
-    r".* test -e \S+ && echo yes \|\| true": "yes\n",
-    ".* dpkg .*": "amd64\n", ".* (env DEBIAN_FRONTEND=noninteractive apt-get install|rm -f) .*": "",
-    ".*-setup .*|--hosts .*": "", r".*\.deb \S+@\S+:": "", ".*/first.office": "[ca]\nthe line\n",
+    r".* test -e \S+ && echo yes \|\| true": "yes\n", KEYS_OF: "+first\nfirst\n",
+    ".* dpkg .*": "amd64\n", INSTALL: "", ".* (apt-get update|rm -f .*)": "",
+    ".*-setup .*|--hosts .*": "", r".*\.deb \S+@\S+:": "", r".*/(first|second)\.office": "[ca]\nthe line\n",
     ".*/cas.pub": f"{CA} first\n", r".*/(\S+)\.bundle": "[office]\nhttps://office:8443\n",
 }
 FINGERPRINT = "SHA256:" + 43 * "."
-CLIENT = ["client", "--office", "o", "--station", "s"]
+CLIENT_OF = ["--office", "o", "--station", "s"]
+CLIENT = ["client", *CLIENT_OF]
 
 
 class Installing:
@@ -705,12 +713,12 @@ class Installing:
         for name in NAMES:
             (room / f"{name}_1.0.0_{'all' if name in ('vethlumi-front', 'vethlumi-client') else 'amd64'}.deb").touch()
 
-    def __call__(self, *words, **answers):
+    def __call__(self, *words, command=TOP / "setup/vethlumi-install", **answers):
         """The status, what was told, and what the programs were told: the program, its words, its input."""
         answers |= {form: it for form, it in ANSWERS.items() if form not in answers}
         (self.room / "answers").write_text(json.dumps(answers))
         (self.room / "said").write_text("")
-        done = run([TOP / "setup/vethlumi-install", *words], cwd=self.room,
+        done = run([command, *words], cwd=self.room,
                    env=os.environ | {"PATH": f"{self.room}/bin:{os.environ['PATH']}"})
         said = [json.loads(it) for it in (self.room / "said").read_text().splitlines()]
         return done.returncode, done.stderr.decode(), [(*it[1], *([it[2]] if it[2] else [])) for it in said]
@@ -725,25 +733,78 @@ def test_what_is_installed_on_the_station(installing):
     status, told, said = installing("station", "s.example.org", "--principals", "alice", "--yes")
     assert 0 == status, told
     name = "vethlumi-station_1.0.0_amd64.deb"
-    assert [(name, "root@s.example.org:"),
+    assert [(f"{installing.room}/{name}", "root@s.example.org:"),
+            ("root@s.example.org", "apt-get", "update"),
             ("root@s.example.org", "env", "DEBIAN_FRONTEND=noninteractive", "apt-get", "install", "-y", "-o",
              "Dpkg::Options::=--force-confold", f"./{name}"),
             ("root@s.example.org", "rm", "-f", f"./{name}"),
             ("root@s.example.org", "vethlumi-station-setup", "--principals", "alice", "--yes")] == said[1:]
+    # What is done is shown before.
+    assert re.search(r"will do this:\n  copy .*\n  on s.example.org: apt-get update\n  on s.example.org: apt-get inst",
+                     told)
 
 
 def test_what_is_there_is_not_installed_again(installing):
+    room = installing.room
     there = {".* dpkg .*": "amd64\ninstalled vethlumi-office 1.0.0\ninstalled vethlumi-front 0.9.0\n"
-                           "config-files vethlumi-station 1.0.0\n"}
+                           f"config-files vethlumi-station 1.0.0\n{LISTS}"}
     status, told, said = installing("office", "o", "--station", "s", "--yes", **there)
-    assert (0, ("vethlumi-front_1.0.0_all.deb", "root@o:")) == (status, said[2]), told
+    assert (0, (f"{room}/vethlumi-front_1.0.0_all.deb", "root@o:")) == (status, said[3]), told
+    assert [] == [it for it in said if "update" in it]
     _, _, said = installing("station", "o", "--yes", **there)
-    assert ("vethlumi-station_1.0.0_amd64.deb", "root@o:") == said[1]
+    assert (f"{room}/vethlumi-station_1.0.0_amd64.deb", "root@o:") == said[1]
     # Packages that came from elsewhere need no files.
-    for it in installing.room.glob("*.deb"):
+    for it in room.glob("*.deb"):
         it.unlink()
-    assert 0 == installing("office", "o", "--station", "s", "--yes", **there)[0]
-    assert (1, True) == (lambda it: (it[0], "has no vethlumi-station_" in it[1]))(installing("station", "o", **there))
+    assert 0 == installing("office", "o", "--station", "s", "--packages", ".", "--yes", **there)[0]
+    status, told, _ = installing("station", "o", "--packages", ".", **there)
+    assert (1, True) == (status, "has no vethlumi-station_" in told)
+
+
+def test_where_the_packages_are(installing, room):
+    """In the folder that is named, which may have any letters, in the current one, or in `out` of a clone."""
+    (room / "a:b").mkdir()
+    name = "vethlumi-station_1.0.0_amd64.deb"
+    (room / name).rename(room / "a:b" / name)
+    status, told, said = installing("station", "s", "--packages", "a:b", "--yes")
+    assert (0, (f"{room}/a:b/{name}", "root@s:")) == (status, said[1]), told
+    shutil.copytree(TOP / "setup", room / "clone/setup")
+    (room / "a:b").rename(room / "clone/out")
+    for it in room.glob("*.deb"):
+        it.unlink()
+    status, told, said = installing("station", "s", "--yes", command=room / "clone/setup/vethlumi-install")
+    assert (0, (f"{room}/clone/out/{name}", "root@s:")) == (status, said[1]), told
+
+
+@pytest.mark.parametrize("lists, due", [("", ["update", "install"]), (LISTS, ["install", "update", "install"])])
+def test_old_lists_of_packages_are_fetched_again(installing, lists, due):
+    """Once: what fails after that has another reason, which is told."""
+    status, told, said = installing("station", "s", "--yes", **{".* dpkg .*": f"amd64\n{lists}", INSTALL: 100})
+    assert (1, True) == (status, "apt-get install -y ./vethlumi-station_1.0.0_amd64.deb: env on s failed" in told), told
+    assert due == [word for it in said for word in ("update", "install") if word in it]
+
+
+@pytest.mark.parametrize("words, form", [
+    (["station", "s"], ".* dpkg .*"), (["office", "o", "--station", "s"], r"root@s .* test -e .*"),
+    (["server", "c", *CLIENT_OF], r"root@o .* test -e .*"), (["client", *CLIENT_OF], r"root@s .* test -e .*"),
+    (["client", "c", *CLIENT_OF], r"root@c .* dpkg .*"),
+], ids=str)
+def test_a_machine_that_is_down_is_named_before_anything_is_done(installing, words, form):
+    """By the status that ssh alone gives."""
+    status, told, said = installing(*words, "--yes", **{form: 255})
+    host = form[5] if form.startswith("root") else "s"
+    assert (1, True) == (status, f"no connection to root@{host}, so run this again" in told), told
+    assert [] == [it for it in said if re.search("setup|apt-get|deb$", " ".join(it))]
+
+
+def test_a_machine_that_goes_down_in_between_is_named_with_the_step(installing):
+    last = {".*-setup .*--name first --yes -": 255}
+    status, told, said = installing("office", "o", "--station", "s", "--yes", **last)
+    assert 1 == status
+    assert ("on s: vethlumi-station-setup --name first --yes - <(o: /var/lib/vethlumi-authority/station.bundle): "
+            "no connection to root@s, so run this again when there is one") in told
+    # The same command then goes on.
+    assert 0 == installing("office", "o", "--station", "s", "--yes")[0]
 
 
 def test_what_machines_make_is_carried_to_others(installing):
@@ -754,16 +815,18 @@ def test_what_machines_make_is_carried_to_others(installing):
             ("ana@s", "sudo", "-n", "cat", "/etc/vethlumi/station/first.office"),
             ("root@o", "vethlumi-office-setup", "--yes", "-", "[ca]\nthe line\n"),
             ("root@o", "cat", "/var/lib/vethlumi-authority/station.bundle"),
-            ("ana@s", "sudo", "-n", "vethlumi-station-setup", "--yes", "-", "[office]\nhttps://office:8443\n"),
+            ("ana@s", "sudo", "-n", "vethlumi-station-setup", "--name", "first", "--yes", "-",
+             "[office]\nhttps://office:8443\n"),
             ] == [it for it in said if re.search("setup|cat", " ".join(it))]
-    status, told, said = installing("server", "bob@web.example.org", "--office", "o", "--station", "s", "--yes")
+    # The host is asked for in small letters by whoever logs in to it.
+    status, told, said = installing("server", "bob@Web.example.org", "--office", "o", "--station", "s", "--yes")
     assert 0 == status, told
     fingerprint = said[-1][-3]
     assert [("root@o", "vethlumi-front-setup", "--server", "web.example.org", "--yes"),
             ("root@s", "cat", "/etc/vethlumi/station/cas.pub"),
             ("root@o", "cat", "/var/lib/vethlumi-authority/web.example.org.bundle"),
-            ("bob@web.example.org", "sudo", "-n", "vethlumi-server-setup", "--yes", "--ca", fingerprint, "-",
-             f"{CA} first\n[office]\nhttps://office:8443\n")] == said[6:]
+            ("bob@Web.example.org", "sudo", "-n", "vethlumi-server-setup", "--yes", "--ca", fingerprint, "-",
+             f"{CA} first\n[office]\nhttps://office:8443\n")] == said[7:]
     assert re.fullmatch(FINGERPRINT, fingerprint)
     status, told, said = installing(*CLIENT, "--hosts", "*.org", "--yes")
     assert 0 == status, told
@@ -799,14 +862,65 @@ def test_of_several_cas_a_machine_trusts_those_that_are_named(installing, room, 
 @pytest.mark.parametrize("words, why", [
     (["station", "s", "--ca", "SHA256:x"], "station takes no --ca"),
     (["office", "o", "--station", "s", "--ca", "SHA256:x"], "office takes no --ca"),
-    (["station"], "station needs MACHINE"), (["client", "c"], "no MACHINE here: c"), ([], "arguments are required"),
+    (["station"], "station needs MACHINE"), (["client", "c"], "give --office too"), ([], "arguments are required"),
     (["stations", "s"], "invalid choice"), (["station", "a b"], "no machine"), (["station", "ana;x@s"], "no machine"),
     (["station", "s/t"], "no machine"), ([*CLIENT, "--office=-oProxyCommand=x"], "no machine"),
     (["office", "o"], "give --station too"), (["server", "s", "--station", "s"], "give --office too"),
+    (["station", "-s"], "station needs MACHINE"), (["station", "s."], "no machine"), (["station", ".s"], "no machine"),
+    (["station", "\u0455"], "no machine"), (["station", "s\n"], "no machine"), (["station", 254 * "s"], "no machine"),
+    ([*CLIENT, "--name", "first"], "client takes no --name"), (["station", "s", "--name", "a/b"], "no name of a key"),
+    # What the set-up command doesn't know either.
+    (["station", "s", "--princpals", "alice"], "nor vethlumi-station-setup has an option --princpals"),
+    (["office", "o", "--station", "s", "--server=x", "--Port", "1"], "nor vethlumi-front-setup has an option --Port"),
+    (["server", "c", *CLIENT_OF, "--hosts", "x"], "nor vethlumi-server-setup has an option --hosts"),
+    ([*CLIENT, "--princ=s"], "nor vethlumi-client-setup has an option"), (["station", "s", "-y"], "has an option -y"),
 ])
 def test_bad_words_install_nothing(installing, words, why):
     status, told, said = installing(*words)
     assert (2, True, []) == (status, why in told, said), told
+
+
+@pytest.mark.parametrize("told_of, named, due", [
+    ("first\n", [], ["first"]), ("prod\n", [], ["prod"]), ("+first\nfirst\n", [], ["first"]),
+    # The first one was lost or has ended: its unit is off.
+    ("first\n+second\nsecond\n", [], ["second"]), ("first\nsecond\n", ["--name", "second"], ["second"]),
+    ("+first\nfirst\n+second\nsecond\n", [], ["first", "second"]),
+])
+def test_the_office_gets_the_keys_that_sign(installing, told_of, named, due):
+    """A lost CA's line would be offered to servers, and its station started again."""
+    answers = {KEYS_OF: told_of, r".*cat( \S+/\w+\.office)+": "[ca]\nlines\n"}
+    status, told, said = installing("office", "o", "--station", "s", *named, "--yes", **answers)
+    assert 0 == status, told
+    assert [("root@s", "cat", *[f"/etc/vethlumi/station/{it}.office" for it in due])
+            ] == [it for it in said if it[-1].endswith(".office")]
+    assert due == [it[3] for it in said if it[1:3] == ("vethlumi-station-setup", "--name")]
+
+
+def test_which_keys_sign(room):
+    """By the links that `systemctl enable` makes."""
+    keys = load("vethlumi-install").KEYS
+    for it in ("etc/vethlumi/station", "etc/systemd/system/multi-user.target.wants"):
+        (room / it).mkdir(parents=True)
+    here = keys.replace("/etc/", f"{room}/etc/")
+
+    def told():
+        return run(["sh", "-c", here], check=True).stdout.decode().split()
+    assert [] == told()
+    for it in ("first", "second"):
+        (room / f"etc/vethlumi/station/{it}.office").touch()
+    (room / "etc/vethlumi/station/cas.pub").touch()
+    assert ["first", "second"] == told()
+    # The unit is in a package, and the machine of this test may have none.
+    (room / "etc/systemd/system/multi-user.target.wants/office-station@second.service").symlink_to("/nowhere")
+    assert ["first", "+second", "second"] == told()
+
+
+def test_a_client_is_installed_on_another_machine(installing):
+    status, told, said = installing("client", "ana@c", *CLIENT_OF, "--hosts", "*.org", "--yes")
+    assert 0 == status, told
+    assert [(f"{installing.room}/vethlumi-client_1.0.0_all.deb", "ana@c:")] == [it for it in said if it[-1] == "ana@c:"]
+    assert ("ana@c", "sudo", "-n", "vethlumi-client-setup", "--hosts", "*.org", "--yes", "--ca") == said[-1][:8]
+    assert f"{CA} first\n[office]\nhttps://office:8443\n" == said[-1][-1]
 
 
 NOT_THERE = r".* test -e \S+/{} && echo yes \|\| true"
@@ -814,8 +928,15 @@ NOT_THERE = r".* test -e \S+/{} && echo yes \|\| true"
 
 @pytest.mark.parametrize("words, answers, why", [
     # A machine that isn't set up yet.
-    (["office", "o", "--station", "s", "--yes"], {NOT_THERE.format("first.office"): ""},
-     "s has no /etc/vethlumi/station/first.office: first type vethlumi-install station s"),
+    (["office", "o", "--station", "s", "--yes"], {NOT_THERE.format("cas.pub"): ""},
+     "s has no /etc/vethlumi/station/cas.pub: first type vethlumi-install station s"),
+    (["office", "o", "--station", "s", "--yes"], {KEYS_OF: ""},
+     "s has no /etc/vethlumi/station/NAME.office: first type vethlumi-install station s"),
+    # Several keys, none of which signs, or one that isn't there.
+    (["office", "o", "--station", "s", "--yes"], {KEYS_OF: "first\nsecond\n"},
+     "s has several keys, and the unit of none is enabled: name one by --name: first, second"),
+    (["office", "o", "--station", "s", "--name", "third", "--yes"], {KEYS_OF: "+first\nfirst\n"},
+     "s has no /etc/vethlumi/station/third.office: first type vethlumi-install station s --name third"),
     (["server", "c", *CLIENT[1:], "--yes"], {NOT_THERE.format("station.bundle"): ""},
      "first type vethlumi-install office o"),
     # A station's machine that gives something else, or an office's that brings a CA of its own.
@@ -834,6 +955,7 @@ def test_what_is_not_installed(installing, words, answers, why):
 # ---- machines
 
 # What ours depend on, and the folder in which apt has it.
+ARCHIVES = "var/cache/apt/archives"
 NEEDED = "python3-click python3-rich nginx curl sqlite3 openssl logrotate openssh-client python3-requests".split()
 FETCH = """set -e
 mount --make-rprivate /
@@ -883,38 +1005,56 @@ def base(tmp_path_factory):
         left_out(reason)
 
 
+def index(layer):
+    """What apt reads of the packages in a folder, as in a mirror of Debian's: each with its file."""
+    made = run(["dpkg-scanpackages", "--multiversion", "."], cwd=layer / ARCHIVES)
+    if made.returncode:
+        left_out("dpkg-dev isn't installed")
+    return made.stdout
+
+
 class Fleet(boxes.Rack):
-    """Machines into which the commands of the page are typed, one shell for each."""
+    """Machines into which the commands of the page are typed, one shell for each. They are bare: apt has no lists of
+    packages, and gets them by `apt-get update` alone, from a folder that stands for a mirror."""
 
     def __init__(self, room, base, packages, kept=None):
         super().__init__(room, base, kept)
         self.packages, self.shells = packages, {}
+        self.index = None if kept else index(pathlib.Path(base.split(":")[0]))
 
     def furnish(self, box):
         box.write("etc/systemd/system/office-list.timer.d/often.conf", OFTEN)
-        if box.name == "client":
-            self.furnish_client(box)
+        if not self.kept:
+            box.write(f"{ARCHIVES}/Packages", self.index)
+            box.write("etc/apt/sources.list", f"deb [trusted=yes] file:/{ARCHIVES} ./\n")
+            for it in (box.files / "var/lib/apt/lists").iterdir():
+                shutil.rmtree(it) if it.is_dir() else it.unlink()
+        if box.name == ADMIN:
+            self.furnish_admin(box)
 
-    def furnish_client(self, box):
-        """What the page says of the machine from which the others are administered: it has the packages, may log in to
-        the others, and knows their keys."""
+    def furnish_admin(self, box):
+        """What the page says of the machine from which the others are administered: a clone in which the packages are
+        made, and root's key to the others, whose keys it knows. It is no machine of Vethlumi's."""
+        clone = box.files / "root/vethlumi"
+        (clone / "out").mkdir(parents=True, exist_ok=True)
         for name in NAMES:
-            shutil.copy(of(self.packages, name), box.files / "root")
+            shutil.copy(of(self.packages, name), clone / "out")
+        shutil.copytree(TOP / "setup", clone / "setup", dirs_exist_ok=True)
         box.write("root/.ssh/id_ed25519", self.key, 0o600)
         box.write("root/.ssh/config", "StrictHostKeyChecking yes\n", 0o600)
-        if not self.kept:
-            key = (box.files / "etc/ssh/ssh_host_ed25519_key.pub").read_text()
-            others = ",".join(f"{it}.{boxes.DOMAIN}" for it in MACHINES if it != box.name)
-            box.write("root/.ssh/known_hosts", f"{others} {key}", 0o600)
+        key = (box.files / "etc/ssh/ssh_host_ed25519_key.pub").read_text()
+        box.write("root/.ssh/known_hosts", f"{','.join(f'{it}.{boxes.DOMAIN}' for it in MACHINES)} {key}", 0o600)
 
-    def type(self, text):
-        """Types the blocks of a text, each on its machine, and returns the lines that were printed."""
-        printed = []
-        for block in pages.blocks(text):
-            if block.machine not in self.shells:
-                self.shells[block.machine] = boxes.Shell(self.boxes[block.machine])
-            printed += self.shells[block.machine].run(block.commands).splitlines()
-        return printed
+    def shell(self, name):
+        if name not in self.shells:
+            self.shells[name] = boxes.Shell(self.boxes[name])
+            if name == ADMIN:
+                self.shells[name].run("cd vethlumi")
+        return self.shells[name]
+
+    def type(self, blocks):
+        """Types the blocks of a page, each on its machine, and returns the lines that were printed."""
+        return [line for it in blocks for line in self.shell(it.machine).run(it.commands).splitlines()]
 
     def end_shells(self):
         for it in self.shells.values():
@@ -932,28 +1072,47 @@ def typed(text):
             for line in block.commands.replace("\\\n", " ").replace("|\n", "| ").splitlines()]
 
 
+# What would make one line of several commands, or hide one in another.
+COMPOUND = re.compile(r"[;|&<>`$(){}]|^(for|until|while|if|case|cd|sudo|sh|bash|eval|exec) ")
+# The words in backticks that the page may have before the last command, though they are a command's: those that make
+# the packages, and the one that the machines are set up by.
+NAMED = {"./build", "./package", "vethlumi-install"}
+TYPED = re.compile(r"(apt|apt-get|scp|cp|cd|ssh|ssh-\w+|useradd|adduser|systemctl|dpkg|sudo|vethlumi.*|\./.*)( |$)")
+
+
 def test_the_page_has_at_most_twelve_commands():
-    """Alice's among them, and the copy of the packages to the machine on which all are typed. None is made of several
-    but the last, which waits. Up to the refused login the page is one screen: at most 66 lines."""
+    """All that a person types from four empty machines to the refused login: each line, and a login to each machine on
+    which something is typed. None is made of several, and the words between the blocks ask for none. Up to the refused
+    login the page is one screen: at most 66 lines."""
     text = PAGE.read_text()
     commands_ = typed(text)
-    assert {"client"} == {machine for machine, _ in commands_}
-    assert 12 >= len(commands_) + 1
-    assert [] == [it for _, it in commands_[:-1] if re.search(r"[;|&<>]|^(for|until|while) ", it)]
-    assert "ssh -i alice" in commands_[-1][1]
-    assert 66 >= text[:text.index(commands_[-1][1])].count("\n")
+    logins = [machine for machine in dict.fromkeys(it for it, _ in commands_) if machine != ADMIN]
+    assert [] == [it for it in logins if (ADMIN, f"ssh root@{it}.example.org") not in commands_]
+    assert 12 >= len(commands_)
+    assert [] == [it for _, it in commands_ if COMPOUND.search(it)]
+    granted, refused = [at for at, (_, it) in enumerate(commands_) if it.startswith("ssh -i alice")]
+    assert len(commands_) - 1 == refused > granted
+    before = text[:text.index(commands_[-1][1])]
+    assert 66 >= before.count("\n")
+    words = re.findall("`([^`]+)`", re.sub("^```.*?^```$", "", before, flags=re.M | re.S))
+    assert NAMED == {it for it in words if TYPED.match(it)}
+    assert "ten commands" in before and 10 == len(commands_)
 
 
 def recording():
-    """What the page shows of what is printed, without the commands and what was cut: lines in their order."""
+    """What the page shows of what is printed: the commands, with the machine and what is typed next, and the other
+    lines in their order, without what was cut."""
     shown, = re.findall(r"^```text\n(.*?)^```$", PAGE.read_text(), re.M | re.S)
-    return [it for it in shown.splitlines() if not it.startswith("root@client# ") and it.strip() != "..."]
+    lines = shown.replace("\\\n> ", " ").splitlines()
+    prompts = [re.fullmatch(r"(admin)\$ (.*)|(client)# (.*)", it) for it in lines]
+    commands_ = [(it[1] or it[3], it[2] or it[4]) for it in prompts if it]
+    return commands_, [it for it, prompt in zip(lines, prompts) if not prompt and it.strip() != "..."]
 
 
 def test_the_recording_has_the_commands_of_the_page():
-    shown = re.findall(r"^root@client# (.*)$", PAGE.read_text(), re.M)
-    assert [it for _, it in typed(PAGE.read_text())] == shown
-    assert 20 <= len(shown) + len(recording()) <= 25
+    commands_, lines = recording()
+    assert typed(PAGE.read_text()) == commands_
+    assert 20 <= len(commands_) + len(lines) <= 25
 
 
 def is_as_shown(shown, printed):
@@ -964,7 +1123,11 @@ def is_as_shown(shown, printed):
 
 # The private keys that each machine then has, but for those of SSH itself, and for those of the office.
 PRIVATE = {"station": ["/etc/vethlumi/station/first.key", "/etc/vethlumi/station/station.pem"],
-           "server": ["/etc/vethlumi/host.pem"], "client": ["/root/.config/vethlumi/admin.pem", "/root/alice"]}
+           "server": ["/etc/vethlumi/host.pem"], "client": ["/root/.config/vethlumi/admin.pem", "/root/alice"],
+           "admin": []}
+# What a machine has that isn't bare: a file of ours, an account, or lists of packages.
+FIND_OURS = ("find /etc/vethlumi /usr/share/vethlumi* /root/*.deb /home/* /var/lib/apt/lists/* -maxdepth 0 2>/dev/null "
+             "|| true")
 FIND_KEYS = "grep -rlE '^-----BEGIN .*PRIVATE KEY' /etc/vethlumi /home /root /srv /tmp /var --exclude-dir=.ssh || true"
 
 
@@ -972,21 +1135,30 @@ def install(room, base, packages, kept):
     """Types the page into empty machines, and keeps them."""
     fleet = Fleet(room, base, packages)
     with contextlib.closing(fleet):
-        fleet.add(*MACHINES)
-        # The page says that alice has an account.
-        fleet.boxes["server"].run("useradd --create-home --shell /bin/bash alice")
+        fleet.add(ADMIN, *MACHINES)
+        assert {it: "" for it in MACHINES} == {it: fleet.boxes[it].says(FIND_OURS) for it in MACHINES}
         begun = time.monotonic()
-        printed = fleet.type(PAGE.read_text())
+        *blocks, last = pages.blocks(PAGE.read_text())
+        printed = fleet.type(blocks)
+        # The page says how long this takes. Here servers fetch the list more often.
+        boxes.wait_until(lambda: is_revoked(fleet), "the server has the revocation", 240)
+        refused = fleet.boxes[last.machine].run(last.commands, False)
         seconds = time.monotonic() - begun
-        seen = [it for it in printed if it in ("granted", "refused")]
-        assert ("granted", "refused", 1) == (seen[0], seen[-1], seen.count("refused")), "\n".join(printed)
-        assert is_as_shown(recording(), printed), "\n".join(printed)
+        printed += refused.stdout.splitlines()
+        assert (255, 1) == (refused.returncode, printed.count("granted")), "\n".join(printed)
+        assert is_as_shown(recording()[1], printed), "\n".join(printed)
         assert 600 > seconds
         found = {name: sorted(fleet.boxes[name].says(f"{FIND_KEYS} 2>/dev/null").split()) for name in PRIVATE}
         assert PRIVATE == found, "no machine has a key that it doesn't need"
         print(f"figure: from made packages and booted boxes to a refused login in {seconds:.0f} s")
         fleet.end_shells()
         fleet.keep(kept)
+
+
+def is_revoked(fleet):
+    """Whether the server has a list with a revocation."""
+    told = fleet.boxes["server"].says("ssh-keygen -Q -l -f /var/lib/office-list/revoked.krl")
+    return any(it and it[0] != "#" for it in told.splitlines())
 
 
 @pytest.fixture(scope="session")
@@ -1027,7 +1199,7 @@ def login(fleet, name):
 
 @marked(*on_boxes)
 def test_the_page_leads_to_a_login_that_is_granted_and_refused(installed):
-    assert {*MACHINES} == {it.name for it in installed.iterdir()}
+    assert {ADMIN, *MACHINES} == {it.name for it in installed.iterdir()}
 
 
 def ask(fleet, name):
@@ -1130,6 +1302,7 @@ def files_of(folder):
 
 
 SET_UP = """set -e
+apt-get update -qq
 apt-get install -y -qq {debs} >/dev/null
 vethlumi-front-setup --port 80 --yes solo.example.org || true
 vethlumi-front-setup --port 22 --yes solo.example.org || true
