@@ -15,6 +15,7 @@ import pathlib
 import pty
 import re
 import shutil
+import signal
 import subprocess
 import time
 
@@ -23,6 +24,7 @@ import pytest
 import boxes
 import pages
 from running import TOP, left_out, run
+from test_lists import published
 
 PAGE = TOP / "docs/INSTALLING.md"
 NAMES = ["vethlumi-office", "vethlumi-front", "vethlumi-station", "vethlumi-client"]
@@ -359,7 +361,7 @@ def test_each_client_of_a_front_has_a_name_of_its_own():
     # The bundle of a server that is called `station` would have the signing station's private key.
     {"server": ["station"]}, {"server": ["root"]}, {"server": ["admin"]}, {"server": ["server"]},
     {"caller": ["server"]}, {"reader": ["admin"]}, {"caller": ["root"]}, {"caller": ["watch"]}, {"caller": ["../a"]},
-    {"reader": [""]},
+    {"reader": [""]}, {"caller": ["-a"]}, {"server": ["-db"]}, {"server": ["db."]}, {"server": [".db"]},
     {"caller": ["db"], "server": ["db"]}, {"server": ["db.example.org", "db-example.org"]},
 ])
 def test_no_client_gets_the_name_of_another(given):
@@ -409,10 +411,89 @@ def test_bundles_follow_a_certificate_that_is_made_again(room, authority):
     old = (folder / "admin.pem").read_text()
     assert old in (folder / "admin.bundle").read_text()
     run(["authority", "renew", folder, "admin", "--revoke"], check=True)
-    assert [f"make the bundles root, station, admin, watch, server in {folder}"] == do()
+    assert [f"make the bundles admin in {folder}"] == do()
     text = (folder / "admin.bundle").read_text()
     assert ((folder / "admin.pem").read_text() in text, old in text) == (True, False)
     assert [] == do()
+
+
+def test_bundles_of_clients_that_are_not_named_follow_too(room, authority, capsys):
+    """Servers and callers of earlier runs, whether their certificate is renewed or the front has another name."""
+    do, _ = authority
+    folder = room / "authority"
+    do("--server", "db.example.org", "--caller", "ana", "--reader", "eye")
+    assert "new bundles" not in capsys.readouterr().err, "nobody has an old one"
+    (folder / "kept.bundle").write_text("no bundle\n")
+    for name in ("db-example-org", "eye"):
+        run(["authority", "renew", folder, name], check=True)
+    assert [f"make the bundles db.example.org, eye in {folder}"] == do()
+    assert "these have new bundles, so set up again whoever has an old one: db.example.org, eye\n" in (
+        capsys.readouterr().err)
+    for name, host in (("db-example-org", "db.example.org"), ("eye", "eye")):
+        text = (folder / f"{host}.bundle").read_text()
+        assert f"[caller]\n{name}\n" in text and (folder / f"{name}.pem").read_text() in text
+        assert ("[host]\ndb.example.org\n" in text) == (host != name)
+    assert [] == do() and "no bundle\n" == (folder / "kept.bundle").read_text()
+    do("other.example.org")
+    files = [it.read_text() for it in folder.glob("*.bundle") if it.name != "kept.bundle"]
+    assert 8 == len(files) == sum("[office]\nhttps://other.example.org:8443\n" in it for it in files)
+    # One whose certificate was removed has nothing to follow.
+    (folder / "ana.pem").unlink()
+    before = (folder / "ana.bundle").read_text()
+    assert "ana" not in "".join(do("front.example.org")) and before == (folder / "ana.bundle").read_text()
+
+
+@pytest.mark.parametrize("hosts", [["Front.Example.org"], ["2001:DB8:0::7"], ["front.example.org", "192.0.2.7", "::1"],
+                                   ["a", "*.example.org"], ["::1", "0:0::1"]], ids=" ".join)
+def test_a_front_that_is_set_up_again_keeps_its_certificate(room, authority, hosts):
+    """However its names are written."""
+    do, _ = authority
+    do(*hosts)
+    certificate = (room / "authority/server.crt").read_bytes()
+    assert [] == do(*hosts) == do(*map(str.upper, hosts)) == do()
+    assert certificate == (room / "authority/server.crt").read_bytes()
+
+
+@pytest.mark.parametrize("hosts", [["a b"], ["a", "b,email:c"], ["a", "-b"], ["a", ""], ["a", "*"], ["*.a"]], ids=str)
+def test_what_is_no_host_of_a_front(room, hosts):
+    done = run_as_root(TOP / "setup/vethlumi-front-setup", "--yes", "--authority", "authority", "--", *hosts)
+    assert (2, True) == (done.returncode, b"no name of a host" in done.stderr), done.stderr
+    assert [] == [*room.iterdir()]
+
+
+@pytest.mark.parametrize("command, words, why", [
+    ("front", ["--port", "0", "a"], "a port is a number from 1 to 65535: '0'"),
+    ("front", ["--port", "65536", "a"], "a port is a number"), ("front", ["--port", "x", "a"], "a port is a number"),
+    ("station", ["--first", "0"], "a serial is a number from 1 to 9223372036854775806: '0'"),
+    ("station", ["--first", "9223372036854775807"], "a serial is a number"),
+    ("station", ["--first", "\u0661"], "a serial is a number"), ("station", ["--nothing"], "unrecognized arguments"),
+    ("station", ["--name", "-a"], "expected one argument"), ("station", ["--name=-a"], "doesn't begin with -: -a"),
+    ("station", ["--name=a/b"], "1 to 32 of a-z"), ("station", ["--name", "cas"], "that of another file"),
+    ("office", ["--first", "1x", "a"], "a serial is a number"), ("office", [], "required: FILE"),
+    ("office", ["--first", "9", "--last", "8", "a"], "--first 9 is above --last 8"),
+    ("server", ["--life", "30"], "--life is a number followed by s, m, h, d or w: 30"),
+    ("server", ["--account", "a b"], "no name of an account: 'a b'"), ("server", ["--account=-r"], "no name of an"),
+    ("server", ["--account", "a:0"], "no name of an account"), ("server", ["--cacert", "nothing"], "no file: nothing"),
+    ("client", [], "required: BUNDLE"), ("client", ["a", "b"], "unrecognized arguments: b"),
+], ids=str)
+def test_bad_words_set_nothing_up(room, command, words, why):
+    """They are refused before anything is asked or done."""
+    done = run_as_root(TOP / f"setup/vethlumi-{command}-setup", *words)
+    assert (2, True) == (done.returncode, why in done.stderr.decode()), done.stderr.decode()
+    assert [] == [*room.iterdir()]
+
+
+AS_ROOT = """
+import os, runpy, sys
+os.getuid = lambda: 0
+sys.argv = sys.argv[1:]
+runpy.run_path(sys.argv[0], run_name="__main__")
+"""
+
+
+def run_as_root(*words):
+    """Runs a set-up command that takes its user for root."""
+    return run(["/usr/bin/python3", "-B", "-c", AS_ROOT, *words])
 
 
 @pytest.mark.parametrize("host, name", [("db.example.org", "db-example-org"), ("DB", "db"), ("a_b", None),
@@ -492,25 +573,224 @@ def test_a_station_has_its_key_among_those_of_all_cas(room, keeping, monkeypatch
         assert (line, f"another\n{line}") == ((room / "first.pub").read_text(), (room / "cas.pub").read_text()), written
 
 
-@pytest.mark.parametrize("reason", [KeyboardInterrupt, None])
-def test_a_first_list_that_is_interrupted_is_begun_again(room, keeping, monkeypatch, reason):
-    """A file of lists that has no first one would never get it."""
-    station, _ = keeping
+# Runs the step of a station's set-up that makes the guard of lists, of one user, in a room of its own.
+BEGIN_LISTS = """
+import argparse, importlib.machinery, importlib.util, os, pathlib, sys
+room = pathlib.Path(sys.argv[2])
+loader = importlib.machinery.SourceFileLoader("station", sys.argv[1])
+station = importlib.util.module_from_spec(importlib.util.spec_from_loader("station", loader))
+loader.exec_module(station)
+station.STATION = station.STATE = room
+station.setting_up.as_user = lambda user, *words: station.setting_up.run(words)
+os.getuid = lambda: 1000
+steps = station.setting_up.Steps(argparse.Namespace(yes=True), "vethlumi-station-setup")
+station.list_steps(None, steps, lambda kind: room / f"first.{kind}", "https://office")
+try:
+    steps.carry_out()
+except station.Fault as fault:
+    sys.exit(str(fault))
+"""
+# Stands for a program. It does what that does, and hangs then if its words are those of HANGS.
+HANGING = """#!/bin/sh
+{program}
+case "${{0##*/}} $*" in $HANGS) touch {room}/reached; sleep 100 ;; esac
+"""
 
-    def as_user(user, program, *words):
-        if program == "curl":
-            (room / "first.krl").touch()
-        if "--init" in words:
-            (room / "lists.db").touch()
-        if "--begin" in words:
-            if reason:
-                raise reason
-            return "refused"
-        return ""
-    monkeypatch.setattr(station.setting_up, "as_user", as_user)
-    with pytest.raises(reason or station.Fault):
-        station.begin_lists(room / "lists.db", lambda kind: room / f"first.{kind}", "https://a")
-    assert not (room / "lists.db").exists()
+
+class FirstList:
+    """A station's guard of lists that is being made, from a first list without revocations."""
+
+    def __init__(self, room, guard):
+        self.room, self.guard = room, guard
+        (room / "bin").mkdir()
+        (room / "published").write_bytes(published((), set(), 0))
+        (room / "first.pub").write_text(f"{CA} first\n")
+        fetch = f'for it; do [ "$last" != -o ] || cp {room}/published "$it"; last=$it; done'
+        for name, program in (("sshstation", f'{guard} "$@" || exit'), ("mv", '/bin/mv "$@" || exit'), ("curl", fetch)):
+            (room / "bin" / name).write_text(HANGING.format(program=program, room=room))
+            (room / "bin" / name).chmod(0o755)
+
+    def begin(self, hangs="nothing"):
+        environment = os.environ | {"PATH": f"{self.room}/bin:{os.environ['PATH']}", "HANGS": hangs}
+        words = ["/usr/bin/python3", "-B", "-c", BEGIN_LISTS, TOP / "setup/vethlumi-station-setup", self.room]
+        return subprocess.Popen(words, env=environment, stderr=subprocess.PIPE, text=True, start_new_session=True)
+
+    def run(self):
+        """The status of a run, and what it told."""
+        with self.begin() as running:
+            told = running.communicate(timeout=60)[1]
+        return running.returncode, told
+
+    def kill(self, hangs):
+        """Kills a run, with all that it has begun, once a program has done its work."""
+        with self.begin(hangs) as running:
+            boxes.wait_until((self.room / "reached").exists, f"{hangs} is reached", 30)
+            os.killpg(running.pid, signal.SIGKILL)
+        (self.room / "reached").unlink()
+
+    def is_whole(self):
+        """Whether the guard has a list: then it says of the same one, without --begin, that it may follow."""
+        words = ["list", "--db", "lists.db", "--ca", "first.pub", "published"]
+        return b"list " == run([self.guard, *words], check=True).stdout[:5]
+
+
+KILLS = pytest.mark.parametrize("hangs, is_made", [
+    ("curl *", False), ("sshstation lists *", False), ("sshstation list *", False), ("mv *", True)])
+
+
+@KILLS
+def test_a_first_list_that_is_killed_is_made_by_the_next_run(room, hangs, is_made):
+    check_a_killed_first_list(FirstList(room, TOP / "tests/plain_lists.py"), hangs, is_made)
+
+
+@KILLS
+def test_a_first_list_of_the_program_that_is_killed(room, sshstation, hangs, is_made):
+    """The program leaves a log beside its file."""
+    check_a_killed_first_list(FirstList(room, sshstation), hangs, is_made)
+
+
+def check_a_killed_first_list(made, hangs, is_made):
+    """A guard without a first list would be taken for one that has it, and the station would never publish."""
+    made.kill(hangs)
+    left = (made.room / "lists.db.new").exists()
+    assert (is_made, "lists" in hangs or "list *" in hangs) == ((made.room / "lists.db").exists(), left)
+    status, told = made.run()
+    assert (0, left) == (status, f"left {made.room}/lists.db.new, which is made again" in told), told
+    assert made.is_whole()
+    assert (0, "everything is as it should be\n") == made.run()
+    assert [] == sorted(it.name for it in made.room.glob("lists.db?*"))
+
+
+@pytest.mark.parametrize("content, why", [
+    (b"damaged", "first.krl"), (published(((0x11, {1}),), set()), "the list revokes something already")], ids=len)
+def test_a_first_list_that_is_none_leaves_no_guard(room, content, why):
+    made = FirstList(room, TOP / "tests/plain_lists.py")
+    (room / "published").write_bytes(content)
+    status, told = made.run()
+    assert (1, True) == (status, why in told), told
+    assert [] == [*room.glob("lists.db*")]
+
+
+def test_a_file_that_is_not_written_whole_leaves_nothing(room, monkeypatch):
+    """It may have half a private key."""
+    common = load("setting_up.py")
+    (room / "file").write_text("old\n")
+
+    def full(_):
+        raise OSError(28, "No space left on device")
+    monkeypatch.setattr(os, "fsync", full)
+    with pytest.raises(OSError, match="No space"):
+        common.put(room / "file", "new\n", 0o600)
+    assert ["file"] == [it.name for it in room.iterdir()] and "old\n" == (room / "file").read_text()
+
+
+@pytest.fixture
+def naming(room, monkeypatch):
+    """The station's set-up, where some keys' units are enabled: a function of an option and of these keys."""
+    station = load("vethlumi-station-setup")
+    monkeypatch.setattr(station, "ENABLED", room)
+
+    def name(named, *enabled):
+        for it in enabled:
+            (room / f"office-station@{it}.service").symlink_to("/nowhere")
+        (room / "office.service").touch()
+        return station.name_of_key(argparse.Namespace(name=named))
+    return name, station.BadWords
+
+
+@pytest.mark.parametrize("named, enabled, due", [
+    (None, [], "first"), (None, ["first"], "first"), (None, ["second"], "second"), ("first", ["second"], "first"),
+    ("third", ["first", "second"], "third"), (None, ["first", "second"], "several keys sign here: .*: first, second"),
+])
+def test_a_station_is_set_up_again_for_the_key_that_signs(naming, named, enabled, due):
+    """If the first one was lost, a run without --name doesn't start its station again."""
+    name, fault = naming
+    if " " not in due:
+        assert due == name(named, *enabled)
+    else:
+        with pytest.raises(fault, match=due):
+            name(named, *enabled)
+
+
+def policy_words(**given):
+    return argparse.Namespace(**{"policy": None, "department": "people", "admins": None, "principals": "alice",
+                                 "host": []} | given)
+
+
+def test_a_policy_has_no_department_twice(room):
+    station = load("vethlumi-station-setup")
+    assert 2 == station.policy_of(policy_words(host=["a.b", "a.b"])).count("department ")
+    for hosts, why in ((["a.b", "a-b"], "a-b would be a second department a-b"), (["people"], "second department peo"),
+                       (["a_b"], "no name of a host"), (["-a"], "no name of a host"), ([""], "no name of a host")):
+        with pytest.raises(station.Fault, match=why):
+            station.policy_of(policy_words(host=hosts))
+
+
+def test_a_policy_that_the_guard_does_not_take_is_told_by_its_line(room, sshstation, monkeypatch):
+    station = load("vethlumi-station-setup")
+    (room / "sshstation").symlink_to(sshstation)
+    monkeypatch.setenv("PATH", f"{room}:{os.environ['PATH']}")
+    station.check_policy(station.policy_of(policy_words()))
+    for words, line in (({"principals": "alice, bob"}, "line 4, 'principals alice, bob'"),
+                        ({"department": "a b"}, "line 1, 'department a b'"),
+                        ({"admins": "ana,"}, "line 3, 'admins ana,'")):
+        with pytest.raises(station.BadWords, match=f"the guard doesn't take {line}"):
+            station.check_policy(station.policy_of(policy_words(**words)))
+
+
+def test_what_a_station_writes_for_the_office_is_not_written_again(room, keeping, capsys):
+    """A second run shows nothing but changes."""
+    station, _ = keeping
+    (room / "first.policy").write_text("department a\n")
+    given = argparse.Namespace(yes=True, name="first", policy=None, principals=None, host=[], first=1, bundle=None)
+    for due in (["make a CA's private key", "write"], [], ["write"]):
+        steps = station.setting_up.Steps(given, "vethlumi-station-setup")
+        station.do(given, steps)
+        assert [True] * len(due) == [it[0].startswith(word) for it, word in zip(steps.steps, due, strict=True)]
+        (room / "first.policy").write_text("department a\n" + "department b\n" * (due == []))
+    assert (room / "first.office").read_text() == (
+        f"[ca]\n{(room / 'first.pub').read_text()}[policy]\ndepartment a\ndepartment b\n")
+
+
+def test_nothing_is_made_before_somebody_agrees(room):
+    """No folder either."""
+    common = load("setting_up.py")
+    steps = common.Steps(argparse.Namespace(yes=False), "set-up")
+    steps.folders[room / "a/b"] = 0o700
+    steps.file(room / "a/b/file", "one\n")
+    with pytest.raises(common.BadWords, match="nobody can be asked here"):
+        steps.carry_out()
+    assert [] == [*room.iterdir()]
+    steps.given.yes = True
+    steps.carry_out()
+    assert ("one\n", 0o700) == ((room / "a/b/file").read_text(), (room / "a/b").stat().st_mode & 0o777)
+
+
+def test_an_account_is_created_once(room, monkeypatch):
+    """Without a password, and never in the place of one that is there."""
+    server = load("vethlumi-server-setup")
+    said, there = [], {"root", "bob"}
+    monkeypatch.setattr(server, "is_account", there.__contains__)
+    monkeypatch.setattr(server, "run", said.append)
+    given = argparse.Namespace(yes=True, account=["alice", "bob", "root", "carol", "alice"])
+    steps = server.setting_up.Steps(given, "vethlumi-server-setup")
+    server.account_steps(given, steps)
+    assert ["create the account alice, without a password", "create the account carol, without a password"] == [
+        it for it, _ in steps.steps]
+    steps.carry_out()
+    useradd = ["useradd", "--create-home", "--shell", "/bin/bash", "--password", "*"]
+    assert [[*useradd, "alice"], [*useradd, "carol"]] == said
+    monkeypatch.undo()
+    assert (True, False) == (server.is_account("root"), server.is_account("nobody-of-this-name"))
+
+
+def test_a_host_has_an_ed25519_key(room):
+    """Told at once, and not by each run of the timer."""
+    server = load("vethlumi-server-setup")
+    run(["ssh-keygen", "-q", "-t", "ecdsa", "-N", "", "-f", room / "other"], check=True)
+    given = argparse.Namespace(yes=True, key=str(room / "other.pub"), life="30d")
+    with pytest.raises(server.BadWords, match="other.pub is no Ed25519 key, and the office takes no other: 256 SHA256"):
+        server.host_steps(given, None, {"caller": "db\n", "host": "db\n"}, "https://a")
 
 
 def test_a_set_up_changes_nothing_that_is_as_it_should_be(room):
