@@ -298,11 +298,25 @@ def signers(keys):
     return {ETC / "list-signers": [f'krl namespaces="krl@vethlumi" {it}' for it in bare], ETC / "list-cas": bare}
 
 
+def start(unit):
+    """Starts a unit that ends by itself. Its journal says why it failed."""
+    try:
+        run(["systemctl", "start", unit])
+    except Fault:
+        words = ["journalctl", "--quiet", "--no-pager", "--unit", unit, "--output", "cat", "--lines", "20"]
+        told = subprocess.run(words, capture_output=True, text=True, errors="replace").stdout.splitlines()
+        # Without what systemd says of it.
+        of_systemd = re.compile(rf"{re.escape(unit)}: |(Start|Stop|Finish|Fail|Depend|Deactiv)\w* ")
+        own = [it for it in told if not of_systemd.match(it)]
+        why = own[-1] if own else f"journalctl -u {unit} says why"
+        raise Fault(f"{unit} failed: {why}") from None
+
+
 def fetch_list():
     end = time.monotonic() + LONGEST_WAIT
     while True:
         try:
-            return run(["systemctl", "start", "office-list.service"])
+            return start("office-list.service")
         except Fault:
             # The station publishes the first list within seconds.
             if time.monotonic() > end:

@@ -766,6 +766,22 @@ def test_nothing_is_made_before_somebody_agrees(room):
     assert ("one\n", 0o700) == ((room / "a/b/file").read_text(), (room / "a/b").stat().st_mode & 0o777)
 
 
+@pytest.mark.parametrize("journal, why", [
+    ("Starting the keys...\nfetch-ca-keys: can't reach https://a\na.service: Main process exited\n"
+     "a.service: Failed with result 'exit-code'.\nFailed to start a.service\n", "fetch-ca-keys: can't reach https://a"),
+    ("a.service: Failed\n", "journalctl -u a.service says why"), ("", "journalctl -u a.service says why"),
+], ids=["said", "nothing of its own", "nothing"])
+def test_what_a_unit_said_is_told(room, monkeypatch, journal, why):
+    common = load("setting_up.py")
+    (room / "journal").write_text(journal)
+    for name, command in (("systemctl", "false"), ("journalctl", f"cat {room}/journal")):
+        (room / name).write_text(f"#!/bin/sh\n{command}\n")
+        (room / name).chmod(0o755)
+    monkeypatch.setenv("PATH", f"{room}:{os.environ['PATH']}")
+    with pytest.raises(common.Fault, match=f"^a.service failed: {re.escape(why)}$"):
+        common.start("a.service")
+
+
 def test_an_account_is_created_once(room, monkeypatch):
     """Without a password, and never in the place of one that is there."""
     server = load("vethlumi-server-setup")
@@ -1541,10 +1557,65 @@ def test_a_host_renews_its_certificate_by_its_timer(fleet):
     told = server.run("vethlumi-host --reload", False)
     assert 1 == told.returncode and "the old one is back" in told.stdout
     assert "active" == server.says("systemctl is-active ssh")
-    # Another name than the host's own is refused.
+    # Another name than the host's own is refused. Root may type it, and leaves no file that the timer can't replace.
     told = server.run("sed -i 's/^PRINCIPALS=.*/PRINCIPALS=office.example.org/' /etc/vethlumi/host.env; "
-                      "env HOME=/var/lib/office-host runuser -u office-host -- vethlumi-host --now", False)
+                      "vethlumi-host --now", False)
     assert 1 == told.returncode and "refused 14 NotPermitted" in told.stdout
+    assert "office-host" == server.says("find /var/lib/office-host -printf '%u\\n' | sort -u")
+
+
+@marked(*on_boxes)
+def test_with_a_machine_down_nothing_is_done_and_the_same_command_goes_on_later(fleet):
+    """A server is set up again while the office's machine is off, and then the front."""
+    fleet.add(ADMIN)
+    office, server, admin = fleet.boxes["office"], fleet.boxes["server"], fleet.shell(ADMIN)
+    install = ("setup/vethlumi-install server server.example.org --office office.example.org "
+               "--station station.example.org --account bob --yes")
+    office.pull_the_plug()
+    told = admin.run(f"{install} || echo status $?\n").splitlines()
+    assert told[0].startswith("vethlumi-install: no connection to root@office.example.org, so run this again when ")
+    assert "status 1" == told[-1] and "" == server.says("getent passwd bob || true")
+    office.start()
+    office.wait_until_up()
+    boxes.wait_until(lambda: is_up(fleet), "the office answers")
+    # The front's port is closed for the server alone: the set-up says what it couldn't fetch.
+    server.run("ip route add unreachable $(getent hosts office.example.org | cut -d ' ' -f 1)")
+    told = admin.run(f"{install} || echo status $?\n")
+    assert "office-ca-keys.service failed: fetch-ca-keys: " in told and "status 1" in told.splitlines()
+    server.run("ip route del unreachable $(getent hosts office.example.org | cut -d ' ' -f 1)")
+    admin.run(f"{install}\n")
+    assert server.says("getent passwd bob").endswith(":/home/bob:/bin/bash")
+    assert "bob:*:" in server.says("grep ^bob: /etc/shadow"), "nobody logs in by a password"
+
+
+@marked(*on_boxes)
+def test_a_lost_ca_is_not_passed_on(fleet):
+    """Its key's unit is off, as the drill leaves it, and the front offers the new CA's key alone."""
+    fleet.add(ADMIN)
+    station, office, admin = fleet.boxes["station"], fleet.boxes["office"], fleet.shell(ADMIN)
+    station.run("systemctl disable -q --now office-station@first; cd /etc/vethlumi/station; mv first.env second.env")
+    install = "setup/vethlumi-install {} {}.example.org {} --yes\n".format
+    told = admin.run(install("station", "station", "--name second --principals alice --first 1000"))
+    second = station.says("cat /etc/vethlumi/station/second.pub")
+    assert f"CA {station.says('ssh-keygen -l -f /etc/vethlumi/station/second.pub').split()[1]}" in told.splitlines()
+    office.write("etc/vethlumi/front/ca-keys", f"{second}\n")
+    of_office = "--station station.example.org "
+    # While no unit is enabled, somebody has to say which key it is.
+    told = admin.run(f"{install('office', 'office', of_office).strip()} || true\n")
+    assert "has several keys, and the unit of none is enabled: name one by --name: first, second" in told
+    for more in ("--name second", ""):
+        told = admin.run(install("office", "office", of_office + more))
+        assert "second.office)" in told and "first.office" not in told
+        assert second == office.says("cat /etc/vethlumi/front/ca-keys")
+        assert ["disabled", "enabled"] == station.run(
+            "systemctl is-enabled office-station@first office-station@second", False).stdout.split()
+        assert ["inactive", "active"] == station.run(
+            "systemctl is-active office-station@first office-station@second", False).stdout.split()
+        assert "first.env" not in station.says("ls /etc/vethlumi/station")
+    # The key that signs is meant from then on.
+    assert "second.office" not in admin.run(install("station", "station", "")), "nothing has changed"
+    station.run("rm /etc/vethlumi/station/second.office")
+    assert "write /etc/vethlumi/station/second.office" in admin.run(install("station", "station", ""))
 
 
 @marked(*on_boxes)
