@@ -71,7 +71,7 @@ def read_bundle(path):
             found[part] = f"{found.get(part, '')}{line}\n"
     for line in found.get("ca", "").splitlines():
         if not CA_LINE.fullmatch(line):
-            raise Fault(f"{path} is no bundle, and has a line that is no CA's public key: {line[:60]}")
+            raise Fault(f"{path} is no bundle, and has a line that is no CA's public key: {line[:60]!r}")
     if not found:
         raise Fault(f"{path} is empty")
     if "ca" in headings and headings - {"ca", "policy"}:

@@ -483,6 +483,21 @@ def test_bad_words_set_nothing_up(room, command, words, why):
     assert [] == [*room.iterdir()]
 
 
+@pytest.mark.parametrize("command, text, why", [
+    ("server", "[office]\nhttps://a\n[caller]\nadmin\n", "this is the bundle of admin, and not of a server"),
+    ("client", "[office]\nhttps://a\n[authority]\nb\n", "the bundle has no part [caller]"),
+    ("office", "[office]\nhttps://a\n", "the bundle has no part [ca]"), ("server", "", "bundle is empty"),
+    ("client", "\0", "no CA's public key: '\\x00'"), ("server", None, "can't read bundle"),
+    ("client", b"\xff", "can't read bundle"),
+], ids=repr)
+def test_a_bundle_of_another_sets_nothing_up(room, command, text, why):
+    if text is not None:
+        (room / "bundle").write_bytes(text if isinstance(text, bytes) else text.encode())
+    done = run_as_root(TOP / f"setup/vethlumi-{command}-setup", "--yes", "bundle")
+    assert (1, True) == (done.returncode, why in done.stderr.decode()), done.stderr.decode()
+    assert ["bundle"] * (text is not None) == [it.name for it in room.iterdir()]
+
+
 AS_ROOT = """
 import os, runpy, sys
 os.getuid = lambda: 0
@@ -1315,7 +1330,7 @@ class Fleet(boxes.Rack):
 
     def __init__(self, room, base, packages, kept=None):
         super().__init__(room, base, kept)
-        self.packages, self.shells = packages, {}
+        self.packages, self.shells, self.typed = packages, {}, []
         self.index = None if kept else index(pathlib.Path(base.split(":")[0]))
 
     def furnish(self, box):
@@ -1350,7 +1365,11 @@ class Fleet(boxes.Rack):
 
     def type(self, blocks):
         """Types the blocks of a page, each on its machine, and returns the lines that were printed."""
-        return [line for it in blocks for line in self.shell(it.machine).run(it.commands).splitlines()]
+        printed = []
+        for it in blocks:
+            self.typed += commands_of(it)
+            printed += self.shell(it.machine).run(it.commands).splitlines()
+        return printed
 
     def end_shells(self):
         for it in self.shells.values():
@@ -1362,10 +1381,14 @@ class Fleet(boxes.Rack):
         self.end()
 
 
+def commands_of(block):
+    """The commands of a block, each with its machine."""
+    return [(block.machine, it) for it in block.commands.replace("\\\n", " ").splitlines()]
+
+
 def typed(text):
     """The commands of the page: the machine and the command, in order."""
-    return [(block.machine, line) for block in pages.blocks(text)
-            for line in block.commands.replace("\\\n", " ").replace("|\n", "| ").splitlines()]
+    return [it for block in pages.blocks(text) for it in commands_of(block)]
 
 
 # What would make one line of several commands, or hide one in another.
@@ -1439,6 +1462,8 @@ def install(room, base, packages, kept):
         # The page says how long this takes. Here servers fetch the list more often.
         boxes.wait_until(lambda: is_revoked(fleet), "the server has the revocation", 240)
         refused = fleet.boxes[last.machine].run(last.commands, False)
+        fleet.typed += commands_of(last)
+        assert 12 >= len(fleet.typed), "everything that a person types counts"
         seconds = time.monotonic() - begun
         printed += refused.stdout.splitlines()
         assert (255, 1) == (refused.returncode, printed.count("granted")), "\n".join(printed)
