@@ -727,6 +727,20 @@ def test_a_station_is_set_up_again_for_the_key_that_signs(naming, named, enabled
             name(named, *enabled)
 
 
+@pytest.mark.parametrize("enabled, due", [([], False), (["first"], True), (["second"], False), (["third"], False),
+                                          (["first", "second"], True)])
+def test_one_station_publishes(room, naming, monkeypatch, enabled, due):
+    """If the one that did has ended, the next one does: otherwise servers get no list any more."""
+    name, _ = naming
+    station = load("vethlumi-station-setup")
+    monkeypatch.setattr(station, "STATION", room)
+    monkeypatch.setattr(station, "ENABLED", room)
+    name("second", *enabled)
+    for key, lists in (("first", "--lists a"), ("second", "--lists a"), ("third", "")):
+        (room / f"{key}.env").write_text(f"OFFICE=https://a\nSTATION_LISTS={lists}\n")
+    assert due == station.another_publishes("second")
+
+
 def policy_words(**given):
     return argparse.Namespace(**{"policy": None, "department": "people", "admins": None, "principals": "alice",
                                  "host": []} | given)
@@ -1615,10 +1629,11 @@ def test_with_a_machine_down_nothing_is_done_and_the_same_command_goes_on_later(
 
 @marked(*on_boxes)
 def test_a_lost_ca_is_not_passed_on(fleet):
-    """Its key's unit is off, as the drill leaves it, and the front offers the new CA's key alone."""
+    """Its key's unit is off, as the drill leaves it, and the front offers the new CA's key alone. The new one's station
+    publishes the list instead."""
     fleet.add(ADMIN)
     station, office, admin = fleet.boxes["station"], fleet.boxes["office"], fleet.shell(ADMIN)
-    station.run("systemctl disable -q --now office-station@first; cd /etc/vethlumi/station; mv first.env second.env")
+    station.run("systemctl disable -q --now office-station@first")
     install = "setup/vethlumi-install {} {}.example.org {} --yes\n".format
     told = admin.run(install("station", "station", "--name second --principals alice --first 1000"))
     second = station.says("cat /etc/vethlumi/station/second.pub")
@@ -1636,7 +1651,7 @@ def test_a_lost_ca_is_not_passed_on(fleet):
             "systemctl is-enabled office-station@first office-station@second", False).stdout.split()
         assert ["inactive", "active"] == station.run(
             "systemctl is-active office-station@first office-station@second", False).stdout.split()
-        assert "first.env" not in station.says("ls /etc/vethlumi/station")
+        assert station.says("grep -c STATION_LISTS=--lists /etc/vethlumi/station/second.env") == "1"
     # The key that signs is meant from then on.
     assert "second.office" not in admin.run(install("station", "station", "")), "nothing has changed"
     station.run("rm /etc/vethlumi/station/second.office")
