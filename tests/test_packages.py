@@ -1236,8 +1236,10 @@ def test_which_keys_sign(room):
     (room / "etc/vethlumi/station/cas.pub").touch()
     assert ["first", "second"] == told()
     # The unit is in a package, and the machine of this test may have none.
-    (room / "etc/systemd/system/multi-user.target.wants/office-station@second.service").symlink_to("/nowhere")
-    assert ["first", "+second", "second"] == told()
+    wants = room / "etc/systemd/system/multi-user.target.wants"
+    for it in ("office-station@second", "office-station@third", "office"):
+        (wants / f"{it}.service").symlink_to("/nowhere")
+    assert ["+second", "+third", "first", "second"] == told()
 
 
 def test_a_client_is_installed_on_another_machine(installing):
@@ -1257,7 +1259,9 @@ NOT_THERE = r".* test -e \S+/{} && echo yes \|\| true"
      "s has no /etc/vethlumi/station/cas.pub: first type vethlumi-install station s"),
     (["office", "o", "--station", "s", "--yes"], {KEYS_OF: ""},
      "s has no /etc/vethlumi/station/NAME.office: first type vethlumi-install station s"),
-    # Several keys, none of which signs, or one that isn't there.
+    # Several keys, none of which signs, or one that isn't there. The new one after a lost CA, which has no part yet.
+    (["office", "o", "--station", "s", "--yes"], {KEYS_OF: "+second\nfirst\n"},
+     "s has no /etc/vethlumi/station/second.office: first type vethlumi-install station s --name second"),
     (["office", "o", "--station", "s", "--yes"], {KEYS_OF: "first\nsecond\n"},
      "s has several keys, and the unit of none is enabled: name one by --name: first, second"),
     (["office", "o", "--station", "s", "--name", "third", "--yes"], {KEYS_OF: "+first\nfirst\n"},
@@ -1652,10 +1656,13 @@ def test_a_lost_ca_is_not_passed_on(fleet):
         assert ["inactive", "active"] == station.run(
             "systemctl is-active office-station@first office-station@second", False).stdout.split()
         assert station.says("grep -c STATION_LISTS=--lists /etc/vethlumi/station/second.env") == "1"
-    # The key that signs is meant from then on.
+    # The key that signs is meant from then on, also if it was made by hand and has no part for the office yet.
     assert "second.office" not in admin.run(install("station", "station", "")), "nothing has changed"
     station.run("rm /etc/vethlumi/station/second.office")
+    told = admin.run(f"{install('office', 'office', of_office).strip()} || true\n")
+    assert "has no /etc/vethlumi/station/second.office: first type vethlumi-install station" in told
     assert "write /etc/vethlumi/station/second.office" in admin.run(install("station", "station", ""))
+    assert second == office.says("cat /etc/vethlumi/front/ca-keys")
 
 
 @marked(*on_boxes)
