@@ -588,6 +588,20 @@ def test_a_station_has_its_key_among_those_of_all_cas(room, keeping, monkeypatch
         assert (line, f"another\n{line}") == ((room / "first.pub").read_text(), (room / "cas.pub").read_text()), written
 
 
+def test_a_station_may_be_connected_in_the_run_that_makes_its_key(room, keeping, monkeypatch):
+    """Then its CA is one of those of the list too."""
+    station, _ = keeping
+    monkeypatch.setattr(station.setting_up, "put_database", lambda *_: None)
+    (room / "list-cas").write_text("another\n")
+    given = argparse.Namespace(yes=True, name="first", policy=None, principals=None, host=[], first=1)
+    for _ in range(2):
+        steps = station.setting_up.Steps(given, "vethlumi-station-setup")
+        station.key_steps(given, steps, lambda kind: room / f"first.{kind}")
+        station.list_steps(given, steps, lambda kind: room / f"first.{kind}", "https://a")
+        steps.carry_out()
+        assert f"another\n{(room / 'first.pub').read_text()}" == (room / "list-cas").read_text()
+
+
 # Runs the step of a station's set-up that makes the guard of lists, of one user, in a room of its own.
 BEGIN_LISTS = """
 import argparse, importlib.machinery, importlib.util, os, pathlib, sys
