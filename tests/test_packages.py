@@ -1479,7 +1479,8 @@ PRIVATE = {"station": ["/etc/vethlumi/station/first.key", "/etc/vethlumi/station
 # What a machine has that isn't bare: a file of ours, an account, or lists of packages.
 FIND_OURS = ("find /etc/vethlumi /usr/share/vethlumi* /root/*.deb /home/* /var/lib/apt/lists/* -maxdepth 0 2>/dev/null "
              "|| true")
-FIND_KEYS = "grep -rlE '^-----BEGIN .*PRIVATE KEY' /etc/vethlumi /home /root /srv /tmp /var --exclude-dir=.ssh || true"
+FIND_KEYS = ("grep -rlE '^-----BEGIN .*PRIVATE KEY' /etc/vethlumi /home /root /srv /tmp /var --exclude-dir=.ssh "
+             "2>/dev/null || true")
 
 
 def install(room, base, packages, kept):
@@ -1501,7 +1502,7 @@ def install(room, base, packages, kept):
         assert (255, 1) == (refused.returncode, printed.count("granted")), "\n".join(printed)
         assert is_as_shown(recording()[1], printed), "\n".join(printed)
         assert 600 > seconds
-        found = {name: sorted(fleet.boxes[name].says(f"{FIND_KEYS} 2>/dev/null").split()) for name in PRIVATE}
+        found = {name: sorted(fleet.boxes[name].says(FIND_KEYS).split()) for name in PRIVATE}
         assert PRIVATE == found, "no machine has a key that it doesn't need"
         print(f"figure: from made packages and booted boxes to a refused login in {seconds:.0f} s")
         fleet.end_shells()
