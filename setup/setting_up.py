@@ -14,20 +14,30 @@ import sys
 import tempfile
 import time
 
-LAST_SERIAL = "9223372036854775806"
+LAST_SERIAL = 9223372036854775806
 ETC = pathlib.Path("/etc/vethlumi")
 PARTS = ("office", "caller", "host", "authority", "certificate", "ca", "policy")
 CA_LINE = re.compile(r"ssh-ed25519 AAAAC3NzaC1lZDI1NTE5AAAAI[A-P][A-Za-z0-9+/]{42}( .*)?", re.ASCII)
-NAME = re.compile(r"[a-z0-9-]{1,32}", re.ASCII)
+# A name that begins with - would be taken for an option.
+NAME = re.compile(r"[a-z0-9][a-z0-9-]{0,31}", re.ASCII)
 # Parts of one line. Root writes them into settings, and names files by them, so nothing else may stand there.
 FORMS = {"office": ("URL of a front", re.compile(r"https://[A-Za-z0-9.:\[\]/~_-]{1,300}")),
-         "caller": ("name of a caller", NAME), "host": ("name of a host", re.compile(r"[A-Za-z0-9.:-]{1,253}"))}
+         "caller": ("name of a caller", NAME),
+         "host": ("name of a host", re.compile(r"(?=.{1,253}$)[A-Za-z0-9:]([A-Za-z0-9.:-]*[A-Za-z0-9:])?"))}
+# Closes a database of SQLite whose log is left.
+CLOSE = """
+import sqlite3, sys
+database = sqlite3.connect(sys.argv[1])
+database.execute("PRAGMA wal_checkpoint(TRUNCATE)")
+database.close()
+"""
 # Where the list of revoked certificates is, and how long the first one is waited for, in seconds.
 LIST, LONGEST_WAIT = pathlib.Path("/var/lib/office-list"), 60
 
 
 class Fault(Exception):
-    """Why a set-up can't go on."""
+    """Why a set-up can't go on. `status` is that of a program that failed."""
+    status = None
 
 
 class BadWords(Fault):
@@ -61,7 +71,7 @@ def read_bundle(path):
             found[part] = f"{found.get(part, '')}{line}\n"
     for line in found.get("ca", "").splitlines():
         if not CA_LINE.fullmatch(line):
-            raise Fault(f"{path} is no bundle, and has a line that is no CA's public key: {line[:60]}")
+            raise Fault(f"{path} is no bundle, and has a line that is no CA's public key: {line[:60]!r}")
     if not found:
         raise Fault(f"{path} is empty")
     if "ca" in headings and headings - {"ca", "policy"}:
@@ -80,6 +90,7 @@ def check_line(name, text):
 
 def name_of_host(host):
     """The name by which a host asks the office, and that of its department: its own name with - for each dot."""
+    check_line("host", host)
     name = host.lower().replace(".", "-")
     if not NAME.fullmatch(name):
         raise Fault(f"{host} gives no name of 1 to 32 of a-z, 0-9 and -")
@@ -129,7 +140,9 @@ def run(words, shown=None, **how):
     if done.returncode:
         # What it has printed may be part of a private key.
         said = (done.stderr or done.stdout or "").strip()[-600:] or f"status {done.returncode}"
-        raise Fault(f"{shown or ' '.join(map(str, words))} failed: {said}")
+        fault = Fault(f"{shown or ' '.join(map(str, words))} failed: {said}")
+        fault.status = done.returncode
+        raise fault
     return done.stdout
 
 
@@ -141,14 +154,40 @@ def put(path, text, mode, user="root", group=None):
     """Puts a text into a file, whole or not at all. The folder may be that of a user who isn't root."""
     path = pathlib.Path(path)
     handle, new = tempfile.mkstemp(prefix=f".{path.name}.", dir=path.parent)
-    with open(handle, "w") as it:
-        it.write(text)
-        it.flush()
-        if not os.getuid():
-            os.fchown(handle, pwd.getpwnam(user).pw_uid, grp.getgrnam(group or user).gr_gid)
-        os.fchmod(handle, mode)
-        os.fsync(handle)
-    os.rename(new, path)
+    try:
+        with open(handle, "w") as it:
+            it.write(text)
+            it.flush()
+            if not os.getuid():
+                os.fchown(handle, pwd.getpwnam(user).pw_uid, grp.getgrnam(group or user).gr_gid)
+            os.fchmod(handle, mode)
+            os.fsync(handle)
+        os.rename(new, path)
+    except BaseException:
+        # It may have half a private key.
+        pathlib.Path(new).unlink(missing_ok=True)
+        raise
+
+
+def put_database(user, path, make):
+    """Makes a database by another name, as this user, and gives it its own name once it is whole. A set-up that is
+    killed before that leaves a file that the next one removes, and never one that would be taken for a whole one."""
+    new = f"{path}.new"
+
+    def remove():
+        as_user(user, "rm", "-f", new, f"{new}-wal", f"{new}-shm")
+    remove()
+    try:
+        make(new)
+        # Its log becomes a part of it, so that one name is that of all.
+        as_user(user, "/usr/bin/python3", "-c", CLOSE, new)
+        if pathlib.Path(f"{new}-wal").exists():
+            raise Fault(f"{new} is in use")
+        as_user(user, "mv", "--no-target-directory", new, str(path))
+        as_user(user, "sync", str(pathlib.Path(path).parent))
+    except BaseException:
+        remove()
+        raise
 
 
 def text_of(path):
@@ -165,6 +204,8 @@ class Steps:
 
     def __init__(self, given, program):
         self.given, self.program, self.steps, self.changed = given, program, [], set()
+        # What has to be there before the first step: each folder and its mode.
+        self.folders = {}
 
     def add(self, what, do):
         self.steps.append((what, do))
@@ -182,6 +223,14 @@ class Steps:
         if new and old and not old.endswith("\n"):
             old += "\n"
         self.file(path, old + "".join(f"{it}\n" for it in new), mode, user, group, what)
+
+    def database(self, user, path, what, make):
+        """A step that makes a database, unless it is there."""
+        if path.exists():
+            return
+        left = "" if not pathlib.Path(f"{path}.new").exists() else (
+            f"; an earlier run was interrupted and left {path}.new, which is made again")
+        self.add(f"make {what} {path}{left}", lambda: put_database(user, path, make))
 
     def units(self, *names):
         """A step that enables units and starts them, and has those that run read what changed."""
@@ -207,6 +256,8 @@ class Steps:
                 raise BadWords("nobody can be asked here: give --yes")
             if input("Go on? [y/N] ").strip().lower() not in ("y", "yes"):
                 raise Fault("nothing was done")
+        for folder, mode in self.folders.items():
+            folder.mkdir(mode=mode, parents=True, exist_ok=True)
         for what, do in self.steps:
             try:
                 do()
@@ -214,6 +265,18 @@ class Steps:
                 raise Fault(f"{what}: {fault.filename or ''} {fault.strerror}") from None
             except Fault as fault:
                 raise Fault(f"{what}: {fault}") from None
+
+
+def number(low, high, what):
+    """Reads an option that is a number: a type for argparse."""
+    def read(text):
+        if not re.fullmatch("[1-9][0-9]{0,18}", text, re.ASCII) or not low <= int(text) <= high:
+            raise argparse.ArgumentTypeError(f"{what} is a number from {low} to {high}: {text!r}")
+        return int(text)
+    return read
+
+
+SERIAL, PORT = number(1, LAST_SERIAL, "a serial"), number(1, 65535, "a port")
 
 
 # ---- the list of revoked certificates, on servers and clients
@@ -235,11 +298,25 @@ def signers(keys):
     return {ETC / "list-signers": [f'krl namespaces="krl@vethlumi" {it}' for it in bare], ETC / "list-cas": bare}
 
 
+def start(unit):
+    """Starts a unit that ends by itself. Its journal says why it failed."""
+    try:
+        run(["systemctl", "start", unit])
+    except Fault:
+        words = ["journalctl", "--quiet", "--no-pager", "--unit", unit, "--output", "cat", "--lines", "20"]
+        told = subprocess.run(words, capture_output=True, text=True, errors="replace").stdout.splitlines()
+        # Without what systemd says of it.
+        of_systemd = re.compile(rf"{re.escape(unit)}: |(Start|Stop|Finish|Fail|Depend|Deactiv)\w* ")
+        own = [it for it in told if not of_systemd.match(it)]
+        why = own[-1] if own else f"journalctl -u {unit} says why"
+        raise Fault(f"{unit} failed: {why}") from None
+
+
 def fetch_list():
     end = time.monotonic() + LONGEST_WAIT
     while True:
         try:
-            return run(["systemctl", "start", "office-list.service"])
+            return start("office-list.service")
         except Fault:
             # The station publishes the first list within seconds.
             if time.monotonic() > end:

@@ -3,6 +3,7 @@ import os
 import re
 import shutil
 import subprocess
+import tempfile
 import time
 
 import pytest
@@ -175,6 +176,49 @@ def test_what_is_left_out_is_asked_for_again_after_a_while(given, room):
     os.utime(failed, (time.time() - 9000,) * 2)
     certify(room, "host.pub")
     assert 0 == given()[0] and not failed.exists()
+
+
+def test_what_cannot_be_put_in_place_costs_few_serials(given, room):
+    """As when somebody else's files are there: the timer comes each minute, and each certificate has a serial."""
+    certify(room, "host.pub")
+    given.old.mkdir()
+    old, asked = given.present.read_bytes(), room / "asked"
+    status, told = given()
+    assert (1, f"vethlumi-host: {given.old}: Is a directory") == (status, told.splitlines()[-1])
+    assert (old, 2) == (given.present.read_bytes(), len(asked.read_text().splitlines()))
+    assert (0, "") == given() and 2 == len(asked.read_text().splitlines())
+    given.old.rmdir()
+    assert 0 == given("--now")[0] and old == given.old.read_bytes() != given.present.read_bytes()
+    assert 0o644 == given.old.stat().st_mode & 0o777
+
+
+@pytest.mark.root
+def test_root_leaves_no_file_of_its_own(given, room):
+    """A file of root's in the user's folder would be in the way of the next run by the timer."""
+    certify(room, "host.pub")
+    for it in (*room.parents, room):
+        if str(it).startswith(tempfile.gettempdir() + "/"):
+            it.chmod(it.stat().st_mode | 0o011)
+    for it in (given.state, *given.state.iterdir(), room / "bin"):
+        os.chown(it, 65534, 65534)
+    (room / "asked").touch()
+    (room / "asked").chmod(0o666)
+    assert 0 == given("--now")[0]
+    assert {65534} == {it.stat().st_uid for it in given.state.iterdir()}
+    assert given.old.exists()
+
+
+def test_without_a_folder_of_its_own_it_says_so(given):
+    shutil.rmtree(given.state)
+    assert (1, f"vethlumi-host: {given.state}: No such file or directory\n") == given()
+
+
+@pytest.mark.parametrize("words, status", [(["--help"], 0), (["-h"], 0), (["--nothing"], 2), (["--now", "--reload"], 2),
+                                           (["now"], 2)], ids=str)
+def test_words_that_are_none_ask_for_nothing(given, room, words, status):
+    done = run([HOST, *words], env=given.environment())
+    assert (status, b"vethlumi-host [--now | --reload]") == (done.returncode, (done.stdout + done.stderr)[:32])
+    assert not (room / "asked").exists()
 
 
 def test_without_an_answer_nothing_is_asked_anew(room, given):

@@ -15,6 +15,7 @@ import pathlib
 import pty
 import re
 import shutil
+import signal
 import subprocess
 import time
 
@@ -23,10 +24,13 @@ import pytest
 import boxes
 import pages
 from running import TOP, left_out, run
+from test_lists import published
 
 PAGE = TOP / "docs/INSTALLING.md"
 NAMES = ["vethlumi-office", "vethlumi-front", "vethlumi-station", "vethlumi-client"]
 MACHINES = ("station", "office", "server", "client")
+# The one on which the page begins, which has the packages.
+ADMIN = "admin"
 OLDER = "0.9.0"
 # Servers fetch the list more often than in service, so that tests are sooner done.
 OFTEN = "[Timer]\nOnUnitInactiveSec=5s\nRandomizedDelaySec=0\n"
@@ -357,7 +361,7 @@ def test_each_client_of_a_front_has_a_name_of_its_own():
     # The bundle of a server that is called `station` would have the signing station's private key.
     {"server": ["station"]}, {"server": ["root"]}, {"server": ["admin"]}, {"server": ["server"]},
     {"caller": ["server"]}, {"reader": ["admin"]}, {"caller": ["root"]}, {"caller": ["watch"]}, {"caller": ["../a"]},
-    {"reader": [""]},
+    {"reader": [""]}, {"caller": ["-a"]}, {"server": ["-db"]}, {"server": ["db."]}, {"server": [".db"]},
     {"caller": ["db"], "server": ["db"]}, {"server": ["db.example.org", "db-example.org"]},
 ])
 def test_no_client_gets_the_name_of_another(given):
@@ -407,10 +411,104 @@ def test_bundles_follow_a_certificate_that_is_made_again(room, authority):
     old = (folder / "admin.pem").read_text()
     assert old in (folder / "admin.bundle").read_text()
     run(["authority", "renew", folder, "admin", "--revoke"], check=True)
-    assert [f"make the bundles root, station, admin, watch, server in {folder}"] == do()
+    assert [f"make the bundles admin in {folder}"] == do()
     text = (folder / "admin.bundle").read_text()
     assert ((folder / "admin.pem").read_text() in text, old in text) == (True, False)
     assert [] == do()
+
+
+def test_bundles_of_clients_that_are_not_named_follow_too(room, authority, capsys):
+    """Servers and callers of earlier runs, whether their certificate is renewed or the front has another name."""
+    do, _ = authority
+    folder = room / "authority"
+    do("--server", "db.example.org", "--caller", "ana", "--reader", "eye")
+    assert "new bundles" not in capsys.readouterr().err, "nobody has an old one"
+    (folder / "kept.bundle").write_text("no bundle\n")
+    for name in ("db-example-org", "eye"):
+        run(["authority", "renew", folder, name], check=True)
+    assert [f"make the bundles db.example.org, eye in {folder}"] == do()
+    assert "these have new bundles, so set up again whoever has an old one: db.example.org, eye\n" in (
+        capsys.readouterr().err)
+    for name, host in (("db-example-org", "db.example.org"), ("eye", "eye")):
+        text = (folder / f"{host}.bundle").read_text()
+        assert f"[caller]\n{name}\n" in text and (folder / f"{name}.pem").read_text() in text
+        assert ("[host]\ndb.example.org\n" in text) == (host != name)
+    assert [] == do() and "no bundle\n" == (folder / "kept.bundle").read_text()
+    do("other.example.org")
+    files = [it.read_text() for it in folder.glob("*.bundle") if it.name != "kept.bundle"]
+    assert 8 == len(files) == sum("[office]\nhttps://other.example.org:8443\n" in it for it in files)
+    # One whose certificate was removed has nothing to follow.
+    (folder / "ana.pem").unlink()
+    before = (folder / "ana.bundle").read_text()
+    assert "ana" not in "".join(do("front.example.org")) and before == (folder / "ana.bundle").read_text()
+
+
+@pytest.mark.parametrize("hosts", [["Front.Example.org"], ["2001:DB8:0::7"], ["front.example.org", "192.0.2.7", "::1"],
+                                   ["a", "*.example.org"], ["::1", "0:0::1"]], ids=" ".join)
+def test_a_front_that_is_set_up_again_keeps_its_certificate(room, authority, hosts):
+    """However its names are written."""
+    do, _ = authority
+    do(*hosts)
+    certificate = (room / "authority/server.crt").read_bytes()
+    assert [] == do(*hosts) == do(*map(str.upper, hosts)) == do()
+    assert certificate == (room / "authority/server.crt").read_bytes()
+
+
+@pytest.mark.parametrize("hosts", [["a b"], ["a", "b,email:c"], ["a", "-b"], ["a", ""], ["a", "*"], ["*.a"]], ids=str)
+def test_what_is_no_host_of_a_front(room, hosts):
+    done = run_as_root(TOP / "setup/vethlumi-front-setup", "--yes", "--authority", "authority", "--", *hosts)
+    assert (2, True) == (done.returncode, b"no name of a host" in done.stderr), done.stderr
+    assert [] == [*room.iterdir()]
+
+
+@pytest.mark.parametrize("command, words, why", [
+    ("front", ["--port", "0", "a"], "a port is a number from 1 to 65535: '0'"),
+    ("front", ["--port", "65536", "a"], "a port is a number"), ("front", ["--port", "x", "a"], "a port is a number"),
+    ("station", ["--first", "0"], "a serial is a number from 1 to 9223372036854775806: '0'"),
+    ("station", ["--first", "9223372036854775807"], "a serial is a number"),
+    ("station", ["--first", "\u0661"], "a serial is a number"), ("station", ["--nothing"], "unrecognized arguments"),
+    ("station", ["--name", "-a"], "expected one argument"), ("station", ["--name=-a"], "doesn't begin with -: -a"),
+    ("station", ["--name=a/b"], "1 to 32 of a-z"), ("station", ["--name", "cas"], "that of another file"),
+    ("office", ["--first", "1x", "a"], "a serial is a number"), ("office", [], "required: FILE"),
+    ("office", ["--first", "9", "--last", "8", "a"], "--first 9 is above --last 8"),
+    ("server", ["--life", "30"], "--life is a number followed by s, m, h, d or w: 30"),
+    ("server", ["--account", "a b"], "no name of an account: 'a b'"), ("server", ["--account=-r"], "no name of an"),
+    ("server", ["--account", "a:0"], "no name of an account"), ("server", ["--cacert", "nothing"], "no file: nothing"),
+    ("client", [], "required: BUNDLE"), ("client", ["a", "b"], "unrecognized arguments: b"),
+], ids=str)
+def test_bad_words_set_nothing_up(room, command, words, why):
+    """They are refused before anything is asked or done."""
+    done = run_as_root(TOP / f"setup/vethlumi-{command}-setup", *words)
+    assert (2, True) == (done.returncode, why in done.stderr.decode()), done.stderr.decode()
+    assert [] == [*room.iterdir()]
+
+
+@pytest.mark.parametrize("command, text, why", [
+    ("server", "[office]\nhttps://a\n[caller]\nadmin\n", "this is the bundle of admin, and not of a server"),
+    ("client", "[office]\nhttps://a\n[authority]\nb\n", "the bundle has no part [caller]"),
+    ("office", "[office]\nhttps://a\n", "the bundle has no part [ca]"), ("server", "", "bundle is empty"),
+    ("client", "\0", "no CA's public key: '\\x00'"), ("server", None, "can't read bundle"),
+    ("client", b"\xff", "can't read bundle"),
+], ids=repr)
+def test_a_bundle_of_another_sets_nothing_up(room, command, text, why):
+    if text is not None:
+        (room / "bundle").write_bytes(text if isinstance(text, bytes) else text.encode())
+    done = run_as_root(TOP / f"setup/vethlumi-{command}-setup", "--yes", "bundle")
+    assert (1, True) == (done.returncode, why in done.stderr.decode()), done.stderr.decode()
+    assert ["bundle"] * (text is not None) == [it.name for it in room.iterdir()]
+
+
+AS_ROOT = """
+import os, runpy, sys
+os.getuid = lambda: 0
+sys.argv = sys.argv[1:]
+runpy.run_path(sys.argv[0], run_name="__main__")
+"""
+
+
+def run_as_root(*words):
+    """Runs a set-up command that takes its user for root."""
+    return run(["/usr/bin/python3", "-B", "-c", AS_ROOT, *words])
 
 
 @pytest.mark.parametrize("host, name", [("db.example.org", "db-example-org"), ("DB", "db"), ("a_b", None),
@@ -490,25 +588,268 @@ def test_a_station_has_its_key_among_those_of_all_cas(room, keeping, monkeypatch
         assert (line, f"another\n{line}") == ((room / "first.pub").read_text(), (room / "cas.pub").read_text()), written
 
 
-@pytest.mark.parametrize("reason", [KeyboardInterrupt, None])
-def test_a_first_list_that_is_interrupted_is_begun_again(room, keeping, monkeypatch, reason):
-    """A file of lists that has no first one would never get it."""
+def test_a_station_may_be_connected_in_the_run_that_makes_its_key(room, keeping, monkeypatch):
+    """Then its CA is one of those of the list too."""
     station, _ = keeping
+    monkeypatch.setattr(station.setting_up, "put_database", lambda *_: None)
+    (room / "list-cas").write_text("another\n")
+    given = argparse.Namespace(yes=True, name="first", policy=None, principals=None, host=[], first=1)
+    for _ in range(2):
+        steps = station.setting_up.Steps(given, "vethlumi-station-setup")
+        station.key_steps(given, steps, lambda kind: room / f"first.{kind}")
+        station.list_steps(given, steps, lambda kind: room / f"first.{kind}", "https://a")
+        steps.carry_out()
+        assert f"another\n{(room / 'first.pub').read_text()}" == (room / "list-cas").read_text()
 
-    def as_user(user, program, *words):
-        if program == "curl":
-            (room / "first.krl").touch()
-        if "--init" in words:
-            (room / "lists.db").touch()
-        if "--begin" in words:
-            if reason:
-                raise reason
-            return "refused"
-        return ""
-    monkeypatch.setattr(station.setting_up, "as_user", as_user)
-    with pytest.raises(reason or station.Fault):
-        station.begin_lists(room / "lists.db", lambda kind: room / f"first.{kind}", "https://a")
-    assert not (room / "lists.db").exists()
+
+# Runs the step of a station's set-up that makes the guard of lists, of one user, in a room of its own.
+BEGIN_LISTS = """
+import argparse, importlib.machinery, importlib.util, os, pathlib, sys
+room = pathlib.Path(sys.argv[2])
+loader = importlib.machinery.SourceFileLoader("station", sys.argv[1])
+station = importlib.util.module_from_spec(importlib.util.spec_from_loader("station", loader))
+loader.exec_module(station)
+station.STATION = station.STATE = room
+station.setting_up.as_user = lambda user, *words: station.setting_up.run(words)
+os.getuid = lambda: 1000
+steps = station.setting_up.Steps(argparse.Namespace(yes=True), "vethlumi-station-setup")
+station.list_steps(None, steps, lambda kind: room / f"first.{kind}", "https://office")
+try:
+    steps.carry_out()
+except station.Fault as fault:
+    sys.exit(str(fault))
+"""
+# Stands for a program. It does what that does, and hangs then if its words are those of HANGS.
+HANGING = """#!/bin/sh
+{program}
+case "${{0##*/}} $*" in $HANGS) touch {room}/reached; sleep 100 ;; esac
+"""
+
+
+class FirstList:
+    """A station's guard of lists that is being made, from a first list without revocations."""
+
+    def __init__(self, room, guard):
+        self.room, self.guard = room, guard
+        (room / "bin").mkdir()
+        (room / "published").write_bytes(published((), set(), 0))
+        (room / "first.pub").write_text(f"{CA} first\n")
+        fetch = f'for it; do [ "$last" != -o ] || cp {room}/published "$it"; last=$it; done'
+        for name, program in (("sshstation", f'{guard} "$@" || exit'), ("mv", '/bin/mv "$@" || exit'), ("curl", fetch)):
+            (room / "bin" / name).write_text(HANGING.format(program=program, room=room))
+            (room / "bin" / name).chmod(0o755)
+
+    def begin(self, hangs="nothing"):
+        environment = os.environ | {"PATH": f"{self.room}/bin:{os.environ['PATH']}", "HANGS": hangs}
+        words = ["/usr/bin/python3", "-B", "-c", BEGIN_LISTS, TOP / "setup/vethlumi-station-setup", self.room]
+        return subprocess.Popen(words, env=environment, stderr=subprocess.PIPE, text=True, start_new_session=True)
+
+    def run(self):
+        """The status of a run, and what it told."""
+        with self.begin() as running:
+            told = running.communicate(timeout=60)[1]
+        return running.returncode, told
+
+    def kill(self, hangs):
+        """Kills a run, with all that it has begun, once a program has done its work."""
+        with self.begin(hangs) as running:
+            boxes.wait_until((self.room / "reached").exists, f"{hangs} is reached", 30)
+            os.killpg(running.pid, signal.SIGKILL)
+        (self.room / "reached").unlink()
+
+    def is_whole(self):
+        """Whether the guard has a list: then it says of the same one, without --begin, that it may follow."""
+        words = ["list", "--db", "lists.db", "--ca", "first.pub", "published"]
+        return b"list " == run([self.guard, *words], check=True).stdout[:5]
+
+
+KILLS = pytest.mark.parametrize("hangs, is_made", [
+    ("curl *", False), ("sshstation lists *", False), ("sshstation list *", False), ("mv *", True)])
+
+
+@KILLS
+def test_a_first_list_that_is_killed_is_made_by_the_next_run(room, hangs, is_made):
+    check_a_killed_first_list(FirstList(room, TOP / "tests/plain_lists.py"), hangs, is_made)
+
+
+@KILLS
+def test_a_first_list_of_the_program_that_is_killed(room, sshstation, hangs, is_made):
+    """The program leaves a log beside its file."""
+    check_a_killed_first_list(FirstList(room, sshstation), hangs, is_made)
+
+
+def check_a_killed_first_list(made, hangs, is_made):
+    """A guard without a first list would be taken for one that has it, and the station would never publish."""
+    made.kill(hangs)
+    left = (made.room / "lists.db.new").exists()
+    assert (is_made, "lists" in hangs or "list *" in hangs) == ((made.room / "lists.db").exists(), left)
+    status, told = made.run()
+    assert (0, left) == (status, f"left {made.room}/lists.db.new, which is made again" in told), told
+    assert made.is_whole()
+    assert (0, "everything is as it should be\n") == made.run()
+    assert [] == [*made.room.glob("lists.db.new*")]
+
+
+@pytest.mark.parametrize("content, why", [
+    (b"damaged", "first.krl"), (published(((0x11, {1}),), set()), "the list revokes something already")], ids=len)
+def test_a_first_list_that_is_none_leaves_no_guard(room, content, why):
+    made = FirstList(room, TOP / "tests/plain_lists.py")
+    (room / "published").write_bytes(content)
+    status, told = made.run()
+    assert (1, True) == (status, why in told), told
+    assert [] == [*room.glob("lists.db*")]
+
+
+def test_a_file_that_is_not_written_whole_leaves_nothing(room, monkeypatch):
+    """It may have half a private key."""
+    common = load("setting_up.py")
+    (room / "file").write_text("old\n")
+
+    def full(_):
+        raise OSError(28, "No space left on device")
+    monkeypatch.setattr(os, "fsync", full)
+    with pytest.raises(OSError, match="No space"):
+        common.put(room / "file", "new\n", 0o600)
+    assert ["file"] == [it.name for it in room.iterdir()] and "old\n" == (room / "file").read_text()
+
+
+@pytest.fixture
+def naming(room, monkeypatch):
+    """The station's set-up, where some keys' units are enabled: a function of an option and of these keys."""
+    station = load("vethlumi-station-setup")
+    monkeypatch.setattr(station, "ENABLED", room)
+
+    def name(named, *enabled):
+        for it in enabled:
+            (room / f"office-station@{it}.service").symlink_to("/nowhere")
+        (room / "office.service").touch()
+        return station.name_of_key(argparse.Namespace(name=named))
+    return name, station.BadWords
+
+
+@pytest.mark.parametrize("named, enabled, due", [
+    (None, [], "first"), (None, ["first"], "first"), (None, ["second"], "second"), ("first", ["second"], "first"),
+    ("third", ["first", "second"], "third"), (None, ["first", "second"], "several keys sign here: .*: first, second"),
+])
+def test_a_station_is_set_up_again_for_the_key_that_signs(naming, named, enabled, due):
+    """If the first one was lost, a run without --name doesn't start its station again."""
+    name, fault = naming
+    if " " not in due:
+        assert due == name(named, *enabled)
+    else:
+        with pytest.raises(fault, match=due):
+            name(named, *enabled)
+
+
+@pytest.mark.parametrize("enabled, due", [([], False), (["first"], True), (["second"], False), (["third"], False),
+                                          (["first", "second"], True)])
+def test_one_station_publishes(room, naming, monkeypatch, enabled, due):
+    """If the one that did has ended, the next one does: otherwise servers get no list any more."""
+    name, _ = naming
+    station = load("vethlumi-station-setup")
+    monkeypatch.setattr(station, "STATION", room)
+    monkeypatch.setattr(station, "ENABLED", room)
+    name("second", *enabled)
+    for key, lists in (("first", "--lists a"), ("second", "--lists a"), ("third", "")):
+        (room / f"{key}.env").write_text(f"OFFICE=https://a\nSTATION_LISTS={lists}\n")
+    assert due == station.another_publishes("second")
+
+
+def policy_words(**given):
+    return argparse.Namespace(**{"policy": None, "department": "people", "admins": None, "principals": "alice",
+                                 "host": []} | given)
+
+
+def test_a_policy_has_no_department_twice(room):
+    station = load("vethlumi-station-setup")
+    assert 2 == station.policy_of(policy_words(host=["a.b", "a.b"])).count("department ")
+    for hosts, why in ((["a.b", "a-b"], "a-b would be a second department a-b"), (["people"], "second department peo"),
+                       (["a_b"], "no name of a host"), (["-a"], "no name of a host"), ([""], "no name of a host")):
+        with pytest.raises(station.Fault, match=why):
+            station.policy_of(policy_words(host=hosts))
+
+
+def test_a_policy_that_the_guard_does_not_take_is_told_by_its_line(room, sshstation, monkeypatch):
+    station = load("vethlumi-station-setup")
+    (room / "sshstation").symlink_to(sshstation)
+    monkeypatch.setenv("PATH", f"{room}:{os.environ['PATH']}")
+    station.check_policy(station.policy_of(policy_words()))
+    for words, line in (({"principals": "alice, bob"}, "line 4, 'principals alice, bob'"),
+                        ({"department": "a b"}, "line 1, 'department a b'"),
+                        ({"admins": "ana,"}, "line 3, 'admins ana,'")):
+        with pytest.raises(station.BadWords, match=f"the guard doesn't take {line}"):
+            station.check_policy(station.policy_of(policy_words(**words)))
+
+
+def test_what_a_station_writes_for_the_office_is_not_written_again(room, keeping, capsys):
+    """A second run shows nothing but changes."""
+    station, _ = keeping
+    (room / "first.policy").write_text("department a\n")
+    given = argparse.Namespace(yes=True, name="first", policy=None, principals=None, host=[], first=1, bundle=None)
+    for due in (["make a CA's private key", "write"], [], ["write"]):
+        steps = station.setting_up.Steps(given, "vethlumi-station-setup")
+        station.do(given, steps)
+        assert [True] * len(due) == [it[0].startswith(word) for it, word in zip(steps.steps, due, strict=True)]
+        (room / "first.policy").write_text("department a\n" + "department b\n" * (due == []))
+    assert (room / "first.office").read_text() == (
+        f"[ca]\n{(room / 'first.pub').read_text()}[policy]\ndepartment a\ndepartment b\n")
+
+
+def test_nothing_is_made_before_somebody_agrees(room):
+    """No folder either."""
+    common = load("setting_up.py")
+    steps = common.Steps(argparse.Namespace(yes=False), "set-up")
+    steps.folders[room / "a/b"] = 0o700
+    steps.file(room / "a/b/file", "one\n")
+    with pytest.raises(common.BadWords, match="nobody can be asked here"):
+        steps.carry_out()
+    assert [] == [*room.iterdir()]
+    steps.given.yes = True
+    steps.carry_out()
+    assert ("one\n", 0o700) == ((room / "a/b/file").read_text(), (room / "a/b").stat().st_mode & 0o777)
+
+
+@pytest.mark.parametrize("journal, why", [
+    ("Starting the keys...\nfetch-ca-keys: can't reach https://a\na.service: Main process exited\n"
+     "a.service: Failed with result 'exit-code'.\nFailed to start a.service\n", "fetch-ca-keys: can't reach https://a"),
+    ("a.service: Failed\n", "journalctl -u a.service says why"), ("", "journalctl -u a.service says why"),
+], ids=["said", "nothing of its own", "nothing"])
+def test_what_a_unit_said_is_told(room, monkeypatch, journal, why):
+    common = load("setting_up.py")
+    (room / "journal").write_text(journal)
+    for name, command in (("systemctl", "false"), ("journalctl", f"cat {room}/journal")):
+        (room / name).write_text(f"#!/bin/sh\n{command}\n")
+        (room / name).chmod(0o755)
+    monkeypatch.setenv("PATH", f"{room}:{os.environ['PATH']}")
+    with pytest.raises(common.Fault, match=f"^a.service failed: {re.escape(why)}$"):
+        common.start("a.service")
+
+
+def test_an_account_is_created_once(room, monkeypatch):
+    """Without a password, and never in the place of one that is there."""
+    server = load("vethlumi-server-setup")
+    said, there = [], {"root", "bob"}
+    monkeypatch.setattr(server, "is_account", there.__contains__)
+    monkeypatch.setattr(server, "run", said.append)
+    given = argparse.Namespace(yes=True, account=["alice", "bob", "root", "carol", "alice"])
+    steps = server.setting_up.Steps(given, "vethlumi-server-setup")
+    server.account_steps(given, steps)
+    assert ["create the account alice, without a password", "create the account carol, without a password"] == [
+        it for it, _ in steps.steps]
+    steps.carry_out()
+    useradd = ["useradd", "--create-home", "--shell", "/bin/bash", "--password", "*"]
+    assert [[*useradd, "alice"], [*useradd, "carol"]] == said
+    monkeypatch.undo()
+    assert (True, False) == (server.is_account("root"), server.is_account("nobody-of-this-name"))
+
+
+def test_a_host_has_an_ed25519_key(room):
+    """Told at once, and not by each run of the timer."""
+    server = load("vethlumi-server-setup")
+    run(["ssh-keygen", "-q", "-t", "ecdsa", "-N", "", "-f", room / "other"], check=True)
+    given = argparse.Namespace(yes=True, key=str(room / "other.pub"), life="30d")
+    with pytest.raises(server.BadWords, match="other.pub is no Ed25519 key, and the office takes no other: 256 SHA256"):
+        server.host_steps(given, None, {"caller": "db\n", "host": "db\n"}, "https://a")
 
 
 def test_a_set_up_changes_nothing_that_is_as_it_should_be(room):
@@ -679,18 +1020,24 @@ with open(room / "said", "a") as it:
     it.write(json.dumps([name, words, sys.stdin.read()]) + chr(10))
 for form, text in json.loads((room / "answers").read_text()).items():
     if re.fullmatch(form, " ".join(words)):
+        if isinstance(text, int):
+            sys.exit(text)
         print(text, end="")
         sys.exit()
 sys.exit("nothing is known of " + " ".join(words))
 """
+KEYS_OF = r"(?s).* sh -c cd /etc/vethlumi/station\n.*"
+INSTALL = ".* env DEBIAN_FRONTEND=noninteractive apt-get install .*"
+LISTS = "deb.debian.org_debian_dists_bookworm_InRelease\ndeb.debian.org_debian_main_binary-amd64_Packages.lz4\n"
 ANSWERS = {
-    r".* test -e \S+ && echo yes \|\| true": "yes\n",
-    ".* dpkg .*": "amd64\n", ".* (env DEBIAN_FRONTEND=noninteractive apt-get install|rm -f) .*": "",
-    ".*-setup .*|--hosts .*": "", r".*\.deb \S+@\S+:": "", ".*/first.office": "[ca]\nthe line\n",
+    r".* test -e \S+ && echo yes \|\| true": "yes\n", KEYS_OF: "+first\nfirst\n",
+    ".* dpkg .*": "amd64\n", INSTALL: "", ".* (apt-get update|rm -f .*)": "",
+    ".*-setup .*|--hosts .*": "", r".*\.deb \S+@\S+:": "", r".*/(first|second)\.office": "[ca]\nthe line\n",
     ".*/cas.pub": f"{CA} first\n", r".*/(\S+)\.bundle": "[office]\nhttps://office:8443\n",
 }
 FINGERPRINT = "SHA256:" + 43 * "."
-CLIENT = ["client", "--office", "o", "--station", "s"]
+CLIENT_OF = ["--office", "o", "--station", "s"]
+CLIENT = ["client", *CLIENT_OF]
 
 
 class Installing:
@@ -705,12 +1052,12 @@ class Installing:
         for name in NAMES:
             (room / f"{name}_1.0.0_{'all' if name in ('vethlumi-front', 'vethlumi-client') else 'amd64'}.deb").touch()
 
-    def __call__(self, *words, **answers):
+    def __call__(self, *words, command=TOP / "setup/vethlumi-install", **answers):
         """The status, what was told, and what the programs were told: the program, its words, its input."""
         answers |= {form: it for form, it in ANSWERS.items() if form not in answers}
         (self.room / "answers").write_text(json.dumps(answers))
         (self.room / "said").write_text("")
-        done = run([TOP / "setup/vethlumi-install", *words], cwd=self.room,
+        done = run([command, *words], cwd=self.room,
                    env=os.environ | {"PATH": f"{self.room}/bin:{os.environ['PATH']}"})
         said = [json.loads(it) for it in (self.room / "said").read_text().splitlines()]
         return done.returncode, done.stderr.decode(), [(*it[1], *([it[2]] if it[2] else [])) for it in said]
@@ -725,25 +1072,78 @@ def test_what_is_installed_on_the_station(installing):
     status, told, said = installing("station", "s.example.org", "--principals", "alice", "--yes")
     assert 0 == status, told
     name = "vethlumi-station_1.0.0_amd64.deb"
-    assert [(name, "root@s.example.org:"),
+    assert [(f"{installing.room}/{name}", "root@s.example.org:"),
+            ("root@s.example.org", "apt-get", "update"),
             ("root@s.example.org", "env", "DEBIAN_FRONTEND=noninteractive", "apt-get", "install", "-y", "-o",
              "Dpkg::Options::=--force-confold", f"./{name}"),
             ("root@s.example.org", "rm", "-f", f"./{name}"),
             ("root@s.example.org", "vethlumi-station-setup", "--principals", "alice", "--yes")] == said[1:]
+    # What is done is shown before.
+    assert re.search(r"will do this:\n  copy .*\n  on s.example.org: apt-get update\n  on s.example.org: apt-get inst",
+                     told)
 
 
 def test_what_is_there_is_not_installed_again(installing):
+    room = installing.room
     there = {".* dpkg .*": "amd64\ninstalled vethlumi-office 1.0.0\ninstalled vethlumi-front 0.9.0\n"
-                           "config-files vethlumi-station 1.0.0\n"}
+                           f"config-files vethlumi-station 1.0.0\n{LISTS}"}
     status, told, said = installing("office", "o", "--station", "s", "--yes", **there)
-    assert (0, ("vethlumi-front_1.0.0_all.deb", "root@o:")) == (status, said[2]), told
+    assert (0, (f"{room}/vethlumi-front_1.0.0_all.deb", "root@o:")) == (status, said[3]), told
+    assert [] == [it for it in said if "update" in it]
     _, _, said = installing("station", "o", "--yes", **there)
-    assert ("vethlumi-station_1.0.0_amd64.deb", "root@o:") == said[1]
+    assert (f"{room}/vethlumi-station_1.0.0_amd64.deb", "root@o:") == said[1]
     # Packages that came from elsewhere need no files.
-    for it in installing.room.glob("*.deb"):
+    for it in room.glob("*.deb"):
         it.unlink()
-    assert 0 == installing("office", "o", "--station", "s", "--yes", **there)[0]
-    assert (1, True) == (lambda it: (it[0], "has no vethlumi-station_" in it[1]))(installing("station", "o", **there))
+    assert 0 == installing("office", "o", "--station", "s", "--packages", ".", "--yes", **there)[0]
+    status, told, _ = installing("station", "o", "--packages", ".", **there)
+    assert (1, True) == (status, "has no vethlumi-station_" in told)
+
+
+def test_where_the_packages_are(installing, room):
+    """In the folder that is named, which may have any letters, in the current one, or in `out` of a clone."""
+    (room / "a:b").mkdir()
+    name = "vethlumi-station_1.0.0_amd64.deb"
+    (room / name).rename(room / "a:b" / name)
+    status, told, said = installing("station", "s", "--packages", "a:b", "--yes")
+    assert (0, (f"{room}/a:b/{name}", "root@s:")) == (status, said[1]), told
+    shutil.copytree(TOP / "setup", room / "clone/setup")
+    (room / "a:b").rename(room / "clone/out")
+    for it in room.glob("*.deb"):
+        it.unlink()
+    status, told, said = installing("station", "s", "--yes", command=room / "clone/setup/vethlumi-install")
+    assert (0, (f"{room}/clone/out/{name}", "root@s:")) == (status, said[1]), told
+
+
+@pytest.mark.parametrize("lists, due", [("", ["update", "install"]), (LISTS, ["install", "update", "install"])])
+def test_old_lists_of_packages_are_fetched_again(installing, lists, due):
+    """Once: what fails after that has another reason, which is told."""
+    status, told, said = installing("station", "s", "--yes", **{".* dpkg .*": f"amd64\n{lists}", INSTALL: 100})
+    assert (1, True) == (status, "apt-get install -y ./vethlumi-station_1.0.0_amd64.deb: env on s failed" in told), told
+    assert due == [word for it in said for word in ("update", "install") if word in it]
+
+
+@pytest.mark.parametrize("words, form", [
+    (["station", "s"], ".* dpkg .*"), (["office", "o", "--station", "s"], r"root@s .* test -e .*"),
+    (["server", "c", *CLIENT_OF], r"root@o .* test -e .*"), (["client", *CLIENT_OF], r"root@s .* test -e .*"),
+    (["client", "c", *CLIENT_OF], r"root@c .* dpkg .*"),
+], ids=str)
+def test_a_machine_that_is_down_is_named_before_anything_is_done(installing, words, form):
+    """By the status that ssh alone gives."""
+    status, told, said = installing(*words, "--yes", **{form: 255})
+    host = form[5] if form.startswith("root") else "s"
+    assert (1, True) == (status, f"no connection to root@{host}, so run this again" in told), told
+    assert [] == [it for it in said if re.search("setup|apt-get|deb$", " ".join(it))]
+
+
+def test_a_machine_that_goes_down_in_between_is_named_with_the_step(installing):
+    last = {".*-setup .*--name first --yes -": 255}
+    status, told, said = installing("office", "o", "--station", "s", "--yes", **last)
+    assert 1 == status
+    assert ("on s: vethlumi-station-setup --name first --yes - <(o: /var/lib/vethlumi-authority/station.bundle): "
+            "no connection to root@s, so run this again when there is one") in told
+    # The same command then goes on.
+    assert 0 == installing("office", "o", "--station", "s", "--yes")[0]
 
 
 def test_what_machines_make_is_carried_to_others(installing):
@@ -754,16 +1154,18 @@ def test_what_machines_make_is_carried_to_others(installing):
             ("ana@s", "sudo", "-n", "cat", "/etc/vethlumi/station/first.office"),
             ("root@o", "vethlumi-office-setup", "--yes", "-", "[ca]\nthe line\n"),
             ("root@o", "cat", "/var/lib/vethlumi-authority/station.bundle"),
-            ("ana@s", "sudo", "-n", "vethlumi-station-setup", "--yes", "-", "[office]\nhttps://office:8443\n"),
+            ("ana@s", "sudo", "-n", "vethlumi-station-setup", "--name", "first", "--yes", "-",
+             "[office]\nhttps://office:8443\n"),
             ] == [it for it in said if re.search("setup|cat", " ".join(it))]
-    status, told, said = installing("server", "bob@web.example.org", "--office", "o", "--station", "s", "--yes")
+    # The host is asked for in small letters by whoever logs in to it.
+    status, told, said = installing("server", "bob@Web.example.org", "--office", "o", "--station", "s", "--yes")
     assert 0 == status, told
     fingerprint = said[-1][-3]
     assert [("root@o", "vethlumi-front-setup", "--server", "web.example.org", "--yes"),
             ("root@s", "cat", "/etc/vethlumi/station/cas.pub"),
             ("root@o", "cat", "/var/lib/vethlumi-authority/web.example.org.bundle"),
-            ("bob@web.example.org", "sudo", "-n", "vethlumi-server-setup", "--yes", "--ca", fingerprint, "-",
-             f"{CA} first\n[office]\nhttps://office:8443\n")] == said[6:]
+            ("bob@Web.example.org", "sudo", "-n", "vethlumi-server-setup", "--yes", "--ca", fingerprint, "-",
+             f"{CA} first\n[office]\nhttps://office:8443\n")] == said[7:]
     assert re.fullmatch(FINGERPRINT, fingerprint)
     status, told, said = installing(*CLIENT, "--hosts", "*.org", "--yes")
     assert 0 == status, told
@@ -799,14 +1201,67 @@ def test_of_several_cas_a_machine_trusts_those_that_are_named(installing, room, 
 @pytest.mark.parametrize("words, why", [
     (["station", "s", "--ca", "SHA256:x"], "station takes no --ca"),
     (["office", "o", "--station", "s", "--ca", "SHA256:x"], "office takes no --ca"),
-    (["station"], "station needs MACHINE"), (["client", "c"], "no MACHINE here: c"), ([], "arguments are required"),
+    (["station"], "station needs MACHINE"), (["client", "c"], "give --office too"), ([], "arguments are required"),
     (["stations", "s"], "invalid choice"), (["station", "a b"], "no machine"), (["station", "ana;x@s"], "no machine"),
     (["station", "s/t"], "no machine"), ([*CLIENT, "--office=-oProxyCommand=x"], "no machine"),
     (["office", "o"], "give --station too"), (["server", "s", "--station", "s"], "give --office too"),
+    (["station", "-s"], "station needs MACHINE"), (["station", "s."], "no machine"), (["station", ".s"], "no machine"),
+    (["station", "\u0455"], "no machine"), (["station", "s\n"], "no machine"), (["station", 254 * "s"], "no machine"),
+    ([*CLIENT, "--name", "first"], "client takes no --name"), (["station", "s", "--name", "a/b"], "no name of a key"),
+    # What the set-up command doesn't know either.
+    (["station", "s", "--princpals", "alice"], "nor vethlumi-station-setup has an option --princpals"),
+    (["office", "o", "--station", "s", "--server=x", "--Port", "1"], "nor vethlumi-front-setup has an option --Port"),
+    (["server", "c", *CLIENT_OF, "--hosts", "x"], "nor vethlumi-server-setup has an option --hosts"),
+    ([*CLIENT, "--princ=s"], "nor vethlumi-client-setup has an option"), (["station", "s", "-y"], "has an option -y"),
 ])
 def test_bad_words_install_nothing(installing, words, why):
     status, told, said = installing(*words)
     assert (2, True, []) == (status, why in told, said), told
+
+
+@pytest.mark.parametrize("told_of, named, due", [
+    ("first\n", [], ["first"]), ("prod\n", [], ["prod"]), ("+first\nfirst\n", [], ["first"]),
+    # The first one was lost or has ended: its unit is off.
+    ("first\n+second\nsecond\n", [], ["second"]), ("first\nsecond\n", ["--name", "second"], ["second"]),
+    ("+first\nfirst\n+second\nsecond\n", [], ["first", "second"]),
+])
+def test_the_office_gets_the_keys_that_sign(installing, told_of, named, due):
+    """A lost CA's line would be offered to servers, and its station started again."""
+    answers = {KEYS_OF: told_of, r".*cat( \S+/\w+\.office)+": "[ca]\nlines\n"}
+    status, told, said = installing("office", "o", "--station", "s", *named, "--yes", **answers)
+    assert 0 == status, told
+    assert [("root@s", "cat", *[f"/etc/vethlumi/station/{it}.office" for it in due])
+            ] == [it for it in said if it[-1].endswith(".office")]
+    assert due == [it[3] for it in said if it[1:3] == ("vethlumi-station-setup", "--name")]
+
+
+def test_which_keys_sign(room):
+    """By the links that `systemctl enable` makes."""
+    keys = load("vethlumi-install").KEYS
+    for it in ("etc/vethlumi/station", "etc/systemd/system/multi-user.target.wants"):
+        (room / it).mkdir(parents=True)
+    here = keys.replace("/etc/", f"{room}/etc/")
+
+    def told():
+        return run(["sh", "-c", here], check=True).stdout.decode().split()
+    assert [] == told()
+    for it in ("first", "second"):
+        (room / f"etc/vethlumi/station/{it}.office").touch()
+    (room / "etc/vethlumi/station/cas.pub").touch()
+    assert ["first", "second"] == told()
+    # The unit is in a package, and the machine of this test may have none.
+    wants = room / "etc/systemd/system/multi-user.target.wants"
+    for it in ("office-station@second", "office-station@third", "office"):
+        (wants / f"{it}.service").symlink_to("/nowhere")
+    assert ["+second", "+third", "first", "second"] == told()
+
+
+def test_a_client_is_installed_on_another_machine(installing):
+    status, told, said = installing("client", "ana@c", *CLIENT_OF, "--hosts", "*.org", "--yes")
+    assert 0 == status, told
+    assert [(f"{installing.room}/vethlumi-client_1.0.0_all.deb", "ana@c:")] == [it for it in said if it[-1] == "ana@c:"]
+    assert ("ana@c", "sudo", "-n", "vethlumi-client-setup", "--hosts", "*.org", "--yes", "--ca") == said[-1][:8]
+    assert f"{CA} first\n[office]\nhttps://office:8443\n" == said[-1][-1]
 
 
 NOT_THERE = r".* test -e \S+/{} && echo yes \|\| true"
@@ -814,8 +1269,17 @@ NOT_THERE = r".* test -e \S+/{} && echo yes \|\| true"
 
 @pytest.mark.parametrize("words, answers, why", [
     # A machine that isn't set up yet.
-    (["office", "o", "--station", "s", "--yes"], {NOT_THERE.format("first.office"): ""},
-     "s has no /etc/vethlumi/station/first.office: first type vethlumi-install station s"),
+    (["office", "o", "--station", "s", "--yes"], {NOT_THERE.format("cas.pub"): ""},
+     "s has no /etc/vethlumi/station/cas.pub: first type vethlumi-install station s"),
+    (["office", "o", "--station", "s", "--yes"], {KEYS_OF: ""},
+     "s has no /etc/vethlumi/station/NAME.office: first type vethlumi-install station s"),
+    # Several keys, none of which signs, or one that isn't there. The new one after a lost CA, which has no part yet.
+    (["office", "o", "--station", "s", "--yes"], {KEYS_OF: "+second\nfirst\n"},
+     "s has no /etc/vethlumi/station/second.office: first type vethlumi-install station s --name second"),
+    (["office", "o", "--station", "s", "--yes"], {KEYS_OF: "first\nsecond\n"},
+     "s has several keys, and the unit of none is enabled: name one by --name: first, second"),
+    (["office", "o", "--station", "s", "--name", "third", "--yes"], {KEYS_OF: "+first\nfirst\n"},
+     "s has no /etc/vethlumi/station/third.office: first type vethlumi-install station s --name third"),
     (["server", "c", *CLIENT[1:], "--yes"], {NOT_THERE.format("station.bundle"): ""},
      "first type vethlumi-install office o"),
     # A station's machine that gives something else, or an office's that brings a CA of its own.
@@ -834,6 +1298,7 @@ def test_what_is_not_installed(installing, words, answers, why):
 # ---- machines
 
 # What ours depend on, and the folder in which apt has it.
+ARCHIVES = "var/cache/apt/archives"
 NEEDED = "python3-click python3-rich nginx curl sqlite3 openssl logrotate openssh-client python3-requests".split()
 FETCH = """set -e
 mount --make-rprivate /
@@ -883,37 +1348,59 @@ def base(tmp_path_factory):
         left_out(reason)
 
 
+def index(layer):
+    """What apt reads of the packages in a folder, as in a mirror of Debian's: each with its file."""
+    made = run(["dpkg-scanpackages", "--multiversion", "."], cwd=layer / ARCHIVES)
+    if made.returncode:
+        left_out("dpkg-dev isn't installed")
+    return made.stdout
+
+
 class Fleet(boxes.Rack):
-    """Machines into which the commands of the page are typed, one shell for each."""
+    """Machines into which the commands of the page are typed, one shell for each. They are bare: apt has no lists of
+    packages, and gets them by `apt-get update` alone, from a folder that stands for a mirror."""
 
     def __init__(self, room, base, packages, kept=None):
         super().__init__(room, base, kept)
-        self.packages, self.shells = packages, {}
+        self.packages, self.shells, self.typed = packages, {}, []
+        self.index = None if kept else index(pathlib.Path(base.split(":")[0]))
 
     def furnish(self, box):
         box.write("etc/systemd/system/office-list.timer.d/often.conf", OFTEN)
-        if box.name == "client":
-            self.furnish_client(box)
+        if not self.kept:
+            box.write(f"{ARCHIVES}/Packages", self.index)
+            box.write("etc/apt/sources.list", f"deb [trusted=yes] file:/{ARCHIVES} ./\n")
+            for it in (box.files / "var/lib/apt/lists").iterdir():
+                shutil.rmtree(it) if it.is_dir() else it.unlink()
+        if box.name == ADMIN:
+            self.furnish_admin(box)
 
-    def furnish_client(self, box):
-        """What the page says of the machine from which the others are administered: it has the packages, may log in to
-        the others, and knows their keys."""
+    def furnish_admin(self, box):
+        """What the page says of the machine from which the others are administered: a clone in which the packages are
+        made, and root's key to the others, whose keys it knows. It is no machine of Vethlumi's."""
+        clone = box.files / "root/vethlumi"
+        (clone / "out").mkdir(parents=True, exist_ok=True)
         for name in NAMES:
-            shutil.copy(of(self.packages, name), box.files / "root")
+            shutil.copy(of(self.packages, name), clone / "out")
+        shutil.copytree(TOP / "setup", clone / "setup", dirs_exist_ok=True)
         box.write("root/.ssh/id_ed25519", self.key, 0o600)
         box.write("root/.ssh/config", "StrictHostKeyChecking yes\n", 0o600)
-        if not self.kept:
-            key = (box.files / "etc/ssh/ssh_host_ed25519_key.pub").read_text()
-            others = ",".join(f"{it}.{boxes.DOMAIN}" for it in MACHINES if it != box.name)
-            box.write("root/.ssh/known_hosts", f"{others} {key}", 0o600)
+        key = (box.files / "etc/ssh/ssh_host_ed25519_key.pub").read_text()
+        box.write("root/.ssh/known_hosts", f"{','.join(f'{it}.{boxes.DOMAIN}' for it in MACHINES)} {key}", 0o600)
 
-    def type(self, text):
-        """Types the blocks of a text, each on its machine, and returns the lines that were printed."""
+    def shell(self, name):
+        if name not in self.shells:
+            self.shells[name] = boxes.Shell(self.boxes[name])
+            if name == ADMIN:
+                self.shells[name].run("cd vethlumi")
+        return self.shells[name]
+
+    def type(self, blocks):
+        """Types the blocks of a page, each on its machine, and returns the lines that were printed."""
         printed = []
-        for block in pages.blocks(text):
-            if block.machine not in self.shells:
-                self.shells[block.machine] = boxes.Shell(self.boxes[block.machine])
-            printed += self.shells[block.machine].run(block.commands).splitlines()
+        for it in blocks:
+            self.typed += commands_of(it)
+            printed += self.shell(it.machine).run(it.commands).splitlines()
         return printed
 
     def end_shells(self):
@@ -926,34 +1413,57 @@ class Fleet(boxes.Rack):
         self.end()
 
 
+def commands_of(block):
+    """The commands of a block, each with its machine."""
+    return [(block.machine, it) for it in block.commands.replace("\\\n", " ").splitlines()]
+
+
 def typed(text):
     """The commands of the page: the machine and the command, in order."""
-    return [(block.machine, line) for block in pages.blocks(text)
-            for line in block.commands.replace("\\\n", " ").replace("|\n", "| ").splitlines()]
+    return [it for block in pages.blocks(text) for it in commands_of(block)]
+
+
+# What would make one line of several commands, or hide one in another.
+COMPOUND = re.compile(r"[;|&<>`$(){}]|^(for|until|while|if|case|cd|sudo|sh|bash|eval|exec) ")
+# The words in backticks that the page may have before the last command, though they are a command's: those that make
+# the packages, and the one that the machines are set up by.
+NAMED = {"./build", "./package", "vethlumi-install"}
+TYPED = re.compile(r"(apt|apt-get|scp|cp|cd|ssh|ssh-\w+|useradd|adduser|systemctl|dpkg|sudo|vethlumi.*|\./.*)( |$)")
 
 
 def test_the_page_has_at_most_twelve_commands():
-    """Alice's among them, and the copy of the packages to the machine on which all are typed. None is made of several
-    but the last, which waits. Up to the refused login the page is one screen: at most 66 lines."""
+    """All that a person types from four empty machines to the refused login: each line, and a login to each machine on
+    which something is typed. None is made of several, and the words between the blocks ask for none. Up to the refused
+    login the page is one screen: at most 66 lines."""
     text = PAGE.read_text()
     commands_ = typed(text)
-    assert {"client"} == {machine for machine, _ in commands_}
-    assert 12 >= len(commands_) + 1
-    assert [] == [it for _, it in commands_[:-1] if re.search(r"[;|&<>]|^(for|until|while) ", it)]
-    assert "ssh -i alice" in commands_[-1][1]
-    assert 66 >= text[:text.index(commands_[-1][1])].count("\n")
+    logins = [machine for machine in dict.fromkeys(it for it, _ in commands_) if machine != ADMIN]
+    assert [] == [it for it in logins if (ADMIN, f"ssh root@{it}.example.org") not in commands_]
+    assert 12 >= len(commands_)
+    assert [] == [it for _, it in commands_ if COMPOUND.search(it)]
+    granted, refused = [at for at, (_, it) in enumerate(commands_) if it.startswith("ssh -i alice")]
+    assert len(commands_) - 1 == refused > granted
+    before = text[:text.index(commands_[-1][1])]
+    assert 66 >= before.count("\n")
+    words = re.findall("`([^`]+)`", re.sub("^```.*?^```$", "", before, flags=re.M | re.S))
+    assert NAMED == {it for it in words if TYPED.match(it)}
+    assert "ten commands" in before and 10 == len(commands_)
 
 
 def recording():
-    """What the page shows of what is printed, without the commands and what was cut: lines in their order."""
+    """What the page shows of what is printed: the commands, with the machine and what is typed next, and the other
+    lines in their order, without what was cut."""
     shown, = re.findall(r"^```text\n(.*?)^```$", PAGE.read_text(), re.M | re.S)
-    return [it for it in shown.splitlines() if not it.startswith("root@client# ") and it.strip() != "..."]
+    lines = shown.replace("\\\n> ", " ").splitlines()
+    prompts = [re.fullmatch(r"(admin)\$ (.*)|(client)# (.*)", it) for it in lines]
+    commands_ = [(it[1] or it[3], it[2] or it[4]) for it in prompts if it]
+    return commands_, [it for it, prompt in zip(lines, prompts) if not prompt and it.strip() != "..."]
 
 
 def test_the_recording_has_the_commands_of_the_page():
-    shown = re.findall(r"^root@client# (.*)$", PAGE.read_text(), re.M)
-    assert [it for _, it in typed(PAGE.read_text())] == shown
-    assert 20 <= len(shown) + len(recording()) <= 25
+    commands_, lines = recording()
+    assert typed(PAGE.read_text()) == commands_
+    assert 20 <= len(commands_) + len(lines) <= 25
 
 
 def is_as_shown(shown, printed):
@@ -964,29 +1474,45 @@ def is_as_shown(shown, printed):
 
 # The private keys that each machine then has, but for those of SSH itself, and for those of the office.
 PRIVATE = {"station": ["/etc/vethlumi/station/first.key", "/etc/vethlumi/station/station.pem"],
-           "server": ["/etc/vethlumi/host.pem"], "client": ["/root/.config/vethlumi/admin.pem", "/root/alice"]}
-FIND_KEYS = "grep -rlE '^-----BEGIN .*PRIVATE KEY' /etc/vethlumi /home /root /srv /tmp /var --exclude-dir=.ssh || true"
+           "server": ["/etc/vethlumi/host.pem"], "client": ["/root/.config/vethlumi/admin.pem", "/root/alice"],
+           "admin": []}
+# What a machine has that isn't bare: a file of ours, an account, or lists of packages.
+FIND_OURS = ("find /etc/vethlumi /usr/share/vethlumi* /root/*.deb /home/* /var/lib/apt/lists/* -maxdepth 0 2>/dev/null "
+             "|| true")
+FIND_KEYS = ("grep -rlE '^-----BEGIN .*PRIVATE KEY' /etc/vethlumi /home /root /srv /tmp /var --exclude-dir=.ssh "
+             "2>/dev/null || true")
 
 
 def install(room, base, packages, kept):
     """Types the page into empty machines, and keeps them."""
     fleet = Fleet(room, base, packages)
     with contextlib.closing(fleet):
-        fleet.add(*MACHINES)
-        # The page says that alice has an account.
-        fleet.boxes["server"].run("useradd --create-home --shell /bin/bash alice")
+        fleet.add(ADMIN, *MACHINES)
+        assert {it: "" for it in MACHINES} == {it: fleet.boxes[it].says(FIND_OURS) for it in MACHINES}
         begun = time.monotonic()
-        printed = fleet.type(PAGE.read_text())
+        *blocks, last = pages.blocks(PAGE.read_text())
+        printed = fleet.type(blocks)
+        # The page says how long this takes. Here servers fetch the list more often.
+        boxes.wait_until(lambda: is_revoked(fleet), "the server has the revocation", 240)
+        refused = fleet.boxes[last.machine].run(last.commands, False)
+        fleet.typed += commands_of(last)
+        assert 12 >= len(fleet.typed), "everything that a person types counts"
         seconds = time.monotonic() - begun
-        seen = [it for it in printed if it in ("granted", "refused")]
-        assert ("granted", "refused", 1) == (seen[0], seen[-1], seen.count("refused")), "\n".join(printed)
-        assert is_as_shown(recording(), printed), "\n".join(printed)
+        printed += refused.stdout.splitlines()
+        assert (255, 1) == (refused.returncode, printed.count("granted")), "\n".join(printed)
+        assert is_as_shown(recording()[1], printed), "\n".join(printed)
         assert 600 > seconds
-        found = {name: sorted(fleet.boxes[name].says(f"{FIND_KEYS} 2>/dev/null").split()) for name in PRIVATE}
+        found = {name: sorted(fleet.boxes[name].says(FIND_KEYS).split()) for name in PRIVATE}
         assert PRIVATE == found, "no machine has a key that it doesn't need"
         print(f"figure: from made packages and booted boxes to a refused login in {seconds:.0f} s")
         fleet.end_shells()
         fleet.keep(kept)
+
+
+def is_revoked(fleet):
+    """Whether the server has a list with a revocation."""
+    told = fleet.boxes["server"].says("ssh-keygen -Q -l -f /var/lib/office-list/revoked.krl")
+    return any(it and it[0] != "#" for it in told.splitlines())
 
 
 @pytest.fixture(scope="session")
@@ -1027,7 +1553,7 @@ def login(fleet, name):
 
 @marked(*on_boxes)
 def test_the_page_leads_to_a_login_that_is_granted_and_refused(installed):
-    assert {*MACHINES} == {it.name for it in installed.iterdir()}
+    assert {ADMIN, *MACHINES} == {it.name for it in installed.iterdir()}
 
 
 def ask(fleet, name):
@@ -1089,10 +1615,69 @@ def test_a_host_renews_its_certificate_by_its_timer(fleet):
     told = server.run("vethlumi-host --reload", False)
     assert 1 == told.returncode and "the old one is back" in told.stdout
     assert "active" == server.says("systemctl is-active ssh")
-    # Another name than the host's own is refused.
+    # Another name than the host's own is refused. Root may type it, and leaves no file that the timer can't replace.
     told = server.run("sed -i 's/^PRINCIPALS=.*/PRINCIPALS=office.example.org/' /etc/vethlumi/host.env; "
-                      "env HOME=/var/lib/office-host runuser -u office-host -- vethlumi-host --now", False)
+                      "vethlumi-host --now", False)
     assert 1 == told.returncode and "refused 14 NotPermitted" in told.stdout
+    assert "office-host" == server.says("find /var/lib/office-host -printf '%u\\n' | sort -u")
+
+
+@marked(*on_boxes)
+def test_with_a_machine_down_nothing_is_done_and_the_same_command_goes_on_later(fleet):
+    """A server is set up again while the office's machine is off, and then the front."""
+    fleet.add(ADMIN)
+    office, server, admin = fleet.boxes["office"], fleet.boxes["server"], fleet.shell(ADMIN)
+    install = ("setup/vethlumi-install server server.example.org --office office.example.org "
+               "--station station.example.org --account bob --yes")
+    office.pull_the_plug()
+    told = admin.run(f"{install} || echo status $?\n").splitlines()
+    assert told[0].startswith("vethlumi-install: no connection to root@office.example.org, so run this again when ")
+    assert "status 1" in told and "" == server.says("getent passwd bob || true")
+    office.start()
+    office.wait_until_up()
+    boxes.wait_until(lambda: is_up(fleet), "the office answers")
+    # The front's port is closed for the server alone: the set-up says what it couldn't fetch.
+    server.run("ip route add unreachable $(getent hosts office.example.org | cut -d ' ' -f 1)")
+    told = admin.run(f"{install} || echo status $?\n")
+    assert "office-ca-keys.service failed: fetch-ca-keys: " in told and "status 1" in told.splitlines()
+    server.run("ip route del unreachable $(getent hosts office.example.org | cut -d ' ' -f 1)")
+    admin.run(f"{install}\n")
+    assert server.says("getent passwd bob").endswith(":/home/bob:/bin/bash")
+    assert "bob:*:" in server.says("grep ^bob: /etc/shadow"), "nobody logs in by a password"
+
+
+@marked(*on_boxes)
+def test_a_lost_ca_is_not_passed_on(fleet):
+    """Its key's unit is off, as the drill leaves it, and the front offers the new CA's key alone. The new one's station
+    publishes the list instead."""
+    fleet.add(ADMIN)
+    station, office, admin = fleet.boxes["station"], fleet.boxes["office"], fleet.shell(ADMIN)
+    station.run("systemctl disable -q --now office-station@first")
+    install = "setup/vethlumi-install {} {}.example.org {} --yes\n".format
+    told = admin.run(install("station", "station", "--name second --principals alice --first 1000"))
+    second = station.says("cat /etc/vethlumi/station/second.pub")
+    assert f"CA {station.says('ssh-keygen -l -f /etc/vethlumi/station/second.pub').split()[1]}" in told.splitlines()
+    office.write("etc/vethlumi/front/ca-keys", f"{second}\n")
+    of_office = "--station station.example.org "
+    # While no unit is enabled, somebody has to say which key it is.
+    told = admin.run(f"{install('office', 'office', of_office).strip()} || true\n")
+    assert "has several keys, and the unit of none is enabled: name one by --name: first, second" in told
+    for more in ("--name second", ""):
+        told = admin.run(install("office", "office", of_office + more))
+        assert "second.office)" in told and "first.office" not in told
+        assert second == office.says("cat /etc/vethlumi/front/ca-keys")
+        assert ["disabled", "enabled"] == station.run(
+            "systemctl is-enabled office-station@first office-station@second", False).stdout.split()
+        assert ["inactive", "active"] == station.run(
+            "systemctl is-active office-station@first office-station@second", False).stdout.split()
+        assert station.says("grep -c STATION_LISTS=--lists /etc/vethlumi/station/second.env") == "1"
+    # The key that signs is meant from then on, also if it was made by hand and has no part for the office yet.
+    assert "second.office" not in admin.run(install("station", "station", "")), "nothing has changed"
+    station.run("rm /etc/vethlumi/station/second.office")
+    told = admin.run(f"{install('office', 'office', of_office).strip()} || true\n")
+    assert "has no /etc/vethlumi/station/second.office: first type vethlumi-install station" in told
+    assert "write /etc/vethlumi/station/second.office" in admin.run(install("station", "station", ""))
+    assert second == office.says("cat /etc/vethlumi/front/ca-keys")
 
 
 @marked(*on_boxes)
@@ -1130,6 +1715,7 @@ def files_of(folder):
 
 
 SET_UP = """set -e
+apt-get update -qq
 apt-get install -y -qq {debs} >/dev/null
 vethlumi-front-setup --port 80 --yes solo.example.org || true
 vethlumi-front-setup --port 22 --yes solo.example.org || true
