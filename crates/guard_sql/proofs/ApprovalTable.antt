@@ -56,7 +56,7 @@ puts = record {
 pub put : (x : ApprovalRow) → Write INSERT_APPROVED.now (approval_cells x) (with_approval x)
 put = insert puts
 
--- ---- SELECT of one
+-- ---- SELECT of one row
 
 abbrev columns : List Term
 columns = col 1 0 ∷ col 1 2 ∷ col 1 3 ∷ []
@@ -91,7 +91,7 @@ serial_apart trees c h x y here there equal =
     let same : r.0 ≡ s.0 = tied_same (trees 1) r.0 s.0 h.approved.apart r.1 s.1 tie in
     approval_apart x y (sym r.2 ∙ ap (at_places approval_places) same ∙ s.2)
 
--- ---- SELECT of the first one from a serial on
+-- ---- SELECT of the first row from a serial on
 
 abbrev from_test : List Term
 from_test = op2 (Compare Ge Binary) (col 1 0) (col 0 0) ∷ []

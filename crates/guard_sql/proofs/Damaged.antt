@@ -70,7 +70,7 @@ says_row serial rows old new has (Err e) (Ok found) read shows cause = absurd re
 says_row serial rows old new has (Err e) (Err f) read shows cause =
     of_cause rows serial old new f (subst (HasCause old new) (sym read) (cause rows has))
 
--- whatever the table holds, the first row that is found says it
+-- whatever the table holds, the answer is what the first row found says
 pub says : (serial : ℕ) (old new : State) (answer : Result (Vec Row Global) Error)
     → (HasCleanDisk new → IfOk answer (λ rows. Shown FIND_APPROVED.now (Int (pos serial) ∷ []) old new rows.items))
     → (HasCleanDisk new → IfErr answer (FailsToQuery FIND_APPROVED.now (Int (pos serial) ∷ []) old new))

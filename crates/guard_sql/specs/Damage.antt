@@ -1,4 +1,4 @@
--- What is answered of a table of approved bodies whose rows may be others than a guard writes.
+-- What is answered from a table of approved bodies (unsigned certificates) whose rows no guard may have written.
 use Rattle.std.specs.Prelude.{◌≡◌, ◌≢◌, ◌<◌, ◌^◌, ◌==◌, ℕ, pos, List, [], ◌∷◌, filter, map, IsPermutation, Option, Some, None}
 use Rattle.std.specs.Prelude.{Result, Ok, Err}
 use Rattle.sqlite.specs.Effect.{Database}
@@ -26,26 +26,26 @@ pub record AnyRow : Type 0 where
 abbrev pub any_cells : AnyRow → Row
 any_cells a = Int (pos a.serial) ∷ a.moment ∷ a.body ∷ []
 
--- the database has just a guard's tables, and that of approved bodies holds these rows, whatever the other holds
+-- the database has exactly a guard's tables, and that of approved bodies holds these rows, whatever the other holds
 pub record HasRows (rows : List AnyRow) (db : Database) : Type 0 where
   pub schema : db.schema ≡ whole
   pub holds : Lists any_cells approval_places (db.trees 1) rows
 
--- the rows of this serial
+-- the rows under this serial
 abbrev pub rows_under : ℕ → List AnyRow → List AnyRow
 rows_under serial rows = filter (λ a. a.serial == serial) rows
 
--- one of the rows of the serial is that of this body
+-- one of the rows under the serial is this one
 abbrev pub IsAmong : ApprovalRow → ℕ → List AnyRow → Type 0
 IsAmong a serial rows =
     (others : List Row) × IsPermutation (map any_cells (rows_under serial rows)) (approval_cells a ∷ others)
 
--- the rows of the serial aren't such as a guard writes
+-- the rows under the serial aren't rows that a guard writes
 abbrev pub AreDamaged : ℕ → List AnyRow → Type 0
 AreDamaged serial rows = (xs : List ApprovalRow) → map any_cells (rows_under serial rows) ≢ map approval_cells xs
 
--- Of these rows one of the serial is found, or none if there is none. They are damaged, or memory is refused, or this
--- failed.
+-- Among these rows one under the serial is found, or none if there is none. Or they are damaged, or memory is refused,
+-- or there was this failure.
 abbrev pub SaysRow : List AnyRow → ℕ → (failed : Type 0) → Result (Option ApprovalRow) Fault → Type 0
 SaysRow rows serial failed (Ok None) = rows_under serial rows ≡ []
 SaysRow rows serial failed (Ok (Some a)) = IsAmong a serial rows
@@ -53,11 +53,11 @@ SaysRow rows serial failed (Err fault.Damaged) = AreDamaged serial rows
 SaysRow rows serial failed (Err fault.Device) = failed
 SaysRow rows serial failed (Err fault.NoMemory) = Unit {0}
 
--- so it is of each database with a guard's tables
+-- the same for every database with a guard's tables
 abbrev pub SaysRowUnless : ℕ → State → State → Result (Option ApprovalRow) Fault → Type 0
 SaysRowUnless serial old new r = (rows : List AnyRow) → HasRows rows old.now → SaysRow rows serial (HasFailed old new) r
 
--- the same of the body alone
+-- the same for the body alone
 abbrev pub SaysBody : List AnyRow → ℕ → (failed : Type 0) → Result (Option (List ℕ)) RegisterFault → Type 0
 SaysBody rows serial failed (Ok None) = rows_under serial rows ≡ []
 SaysBody rows serial failed (Ok (Some body)) = (a : ApprovalRow) × (a.body ≡ body) × IsAmong a serial rows

@@ -45,8 +45,8 @@ impl<S: Alter> Register for GuardStore<S> {
             → (self.old.scope ≡ s.scope) × Keeps (state S.Store self.old.conn) s
             → IfErr result (λ e. HasCause e (HasFailed (state S.Store self.new.conn))) }
 
-        // Whatever rows the table of bodies holds, what is answered is what they say. Other rows than a guard writes are
-        // told damaged.
+        // Whatever rows the table of bodies holds, the answer is what they say. Rows that no guard writes are reported
+        // as `Damaged`.
         ensures says { On S.Store (SaysBodyUnless serial) self.old.conn self.new.conn result }
     {
         body_of(alloc, &mut self.conn, serial)

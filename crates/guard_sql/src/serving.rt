@@ -73,7 +73,7 @@ pub(crate) fn row_from<S: Alter>(
     }
 }
 
-/// Keeps a body under a serial that has none.
+/// Stores a body under a serial that has none.
 pub(crate) fn keep<S: Alter>(conn: &mut Connection<S>, row: Approved) -> Result<(), RegisterFault>
     ensures { LeadsOf S.Store (λ s. body_of s row.serial ≡ None) (IsKeepable row) (λ s. with_approved s row)
         conn.old conn.new result }
