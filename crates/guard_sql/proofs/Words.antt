@@ -122,7 +122,8 @@ pub use Rattle.guard_sql.specs.Calls.{Finds, FindsIn, FindsOne, FindsSuch, Grown
 pub use Rattle.guard_sql.specs.Calls.{OnlyReads, Stays, Steps, WaitsAt}
 pub use Rattle.guard_sql.specs.Cells.{approval_cells, guard_cells}
 pub use Rattle.guard_sql.specs.Changes.{approved_under, ending_at, has_serial, with_approval, with_guard, with_last}
-pub use Rattle.guard_sql.specs.Contents.{Contents, Holds, IsFirstFrom, Kept, Means, approval_places, guard_places}
+pub use Rattle.guard_sql.specs.Contents.{Contents, Holds, IsFirstFrom, IsLeastFrom, Kept, Means, approval_places}
+pub use Rattle.guard_sql.specs.Contents.{guard_places}
 pub use Rattle.guard_sql.specs.Contents.{HasGuards, no_contents}
 pub use Rattle.guard_sql.specs.Kinds.{blob_in, number_in}
 pub use Rattle.guard_sql.specs.Refusals.{HasCauseOr, HasOne, IsTooLong, RefusedFor, RefusesApproval, RefusesGuard}

@@ -41,11 +41,15 @@ pub record Means (db : Database) (c : Contents) : Type 0 where
   pub schema : db.schema ≡ whole
   pub kept : Kept db.trees c
 
--- the row with this serial, or else with the next higher one; or no row has such a serial
+-- the one with this serial, or else with the next higher one; or none has such a serial
+abbrev pub IsLeastFrom : {X : Type 0} → (serial : X → ℕ) → ℕ → List X → Option X → Type 0
+IsLeastFrom serial from rows (Some a) = Has rows a × (from ≤ serial a)
+    × AllByRecursion (λ b. from ≤ serial b → serial a ≤ serial b) rows
+IsLeastFrom serial from rows None = AllByRecursion (λ b. serial b < from) rows
+
+-- the same for the rows of a guard
 abbrev pub IsFirstFrom : ℕ → List ApprovalRow → Option ApprovalRow → Type 0
-IsFirstFrom from rows (Some a) = Has rows a × (from ≤ a.serial)
-    × AllByRecursion (λ b. from ≤ b.serial → a.serial ≤ b.serial) rows
-IsFirstFrom from rows None = AllByRecursion (λ b. b.serial < from) rows
+IsFirstFrom from rows found = IsLeastFrom (λ (a : ApprovalRow). a.serial) from rows found
 
 -- the database has exactly a guard's tables, and the guard's own holds these rows, whatever the other holds
 pub record HasGuards (rows : List GuardRow) (db : Database) : Type 0 where

@@ -4,7 +4,7 @@ ghost use Rattle.store_sql.specs.Honest.{On};
 ghost use Rattle.guard_sql.specs.Calls.{FindsOne, FindsSuch};
 ghost use Rattle.guard_sql.specs.Changes.{approved_under, with_approval};
 ghost use Rattle.guard_sql.specs.Contents.{IsFirstFrom};
-ghost use Rattle.guard_sql.specs.Damage.{SaysRowUnless};
+ghost use Rattle.guard_sql.specs.Damage.{SaysFirstUnless, SaysRowUnless};
 ghost use Rattle.guard_sql.specs.Refusals.{RefusesApproval};
 ghost use Rattle.guard_sql.specs.Statements.{Reads, Writes};
 
@@ -101,7 +101,10 @@ pub(crate) fn first_approval_from<S: Alter>(
     conn: &mut Connection<S>,
     serial: Number,
 ) -> Result<Option<ApprovalRow>, Fault>
-    ensures { Reads S.Store (FindsSuch (λ c. IsFirstFrom serial c.approved)) conn.old conn.new result }
+    ensures reads { Reads S.Store (FindsSuch (λ c. IsFirstFrom serial c.approved)) conn.old conn.new result }
+
+    // Whatever rows the table holds, the answer is what the first one from there on says.
+    ensures says { On S.Store (SaysFirstUnless serial) conn.old conn.new result }
 {
     found_first(alloc, conn.query_all(FROM_APPROVED, &[value_of(serial)]))
 }
