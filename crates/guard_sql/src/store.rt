@@ -2,7 +2,8 @@
 
 ghost use Rattle.std.specs.Prelude.{◌≡◌, false, Err, IfErr, IfOk, IsTrue, Ok};
 ghost use Rattle.std.specs.List.{list_any};
-ghost use Rattle.store_sql.specs.Honest.{Between, IsOutside, IsUnlimited, On, OutlivesBy, StaysClean, tables_of};
+ghost use Rattle.store_sql.specs.Honest.{Between, IsOutside, IsUnlimited, On, Outlives, OutlivesBy, StaysClean, tables_of};
+ghost use Rattle.guard_sql.specs.Calls.{Never};
 ghost use Rattle.guard_sql.specs.Keeping.{IsScope};
 ghost use Rattle.guard_sql.specs.Look.{is_guard_name, is_guard_table};
 ghost use Rattle.guard_sql.specs.Opening.{Finds, Founds, FoundsNone, LeavesNew, Misses, SaysUnless};
@@ -96,6 +97,9 @@ impl<S: Alter> GuardStore<S> {
         // If the disk has been faithful when the call ends, it had been when the call began.
         ensures honest { IfOk result (λ g. StaysClean S.Store conn g.conn) }
         ensures honest_back { IfErr result (λ e. StaysClean S.Store conn e.1) }
+
+        // After a fault a crash leaves only what it could have left before.
+        ensures crash_back { IfErr result (λ e. Outlives S.Store Never conn e.1) }
     {
         let mut conn = conn;
         match find_scope(alloc, &mut conn) {
