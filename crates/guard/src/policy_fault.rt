@@ -1,17 +1,17 @@
-//! Why a policy could not be read.
+//! Why a policy couldn't be read.
 
 ghost use Rattle.std.specs.Prelude.{◌≡◌};
 ghost use Rattle.guard.specs.declared.policy_fault.PolicyFault.TheVariants.{NoMemory};
 
-/// Why a policy could not be read.
+/// Why a policy couldn't be read.
 #[derive(Clone, Copy, Debug, PartialEq, Eq)]
 pub enum PolicyFault {
     /// More than 1048576 bytes.
     TooLong,
-    /// The file's line, from 1, that doesn't fit in the text of a department, or with which a text begins that is none,
-    /// or that names a department for the second time.
+    /// The file's line, from 1, that is invalid in the text of a department, begins a text that isn't a department's,
+    /// or names a department for the second time.
     BadPolicy(u64),
-    /// A growth was refused.
+    /// An allocation was refused.
     NoMemory,
 }
 
