@@ -24,7 +24,7 @@ use Rattle.restart.specs.Ending.{AreEnded}
 use Rattle.guard_restart.specs.Images.{HoldsOneOf}
 use Rattle.guard_restart.specs.Runs.{EndsWell, LeavesOneOf, LeavesWhatIsKept, RunKeepsGuard}
 
--- after a good close each outcome of a crash holds the last commit
+-- after a successful close each outcome of a crash holds the last commit
 pub leaves_what_is_kept : {D : Type 0} {g : Ghosts D} (c : Held (FileStore D g)) (files : Files D) → IsCopied c files
     → LeavesWhatIsKept g (file_state c) files
 leaves_what_is_kept c files copied s keeps image may = record {
@@ -33,7 +33,7 @@ leaves_what_is_kept c files copied s keeps image may = record {
   kept = (keeps.rows copied.was_open).committed.kept;
 }
 
--- files that hold what a crash may leave hold one of the two guards
+-- files with trees that a crash may leave hold one of the two guards
 holds_left : (s t : State) (image : Image) (db : Trees) → HoldsDatabase image db
     → Kept db (guard_contents s) ⊎ Kept db (guard_contents t) → HoldsOneOf image s t
 holds_left s t image db holds (inl kept) = ∣ inl (record { trees = db; holds = ∣ holds ∣₁; kept = kept }) ∣₁
@@ -47,7 +47,7 @@ leaves_one_of c it numbered sound fewer s t left image may =
     ∥∥₁_elim (opens_again it numbered sound image may) squash₁
     (λ db. holds_left s t image db.0 db.2 (left db.0 (fewer db.0 db.1)))
 
--- how a connection ended says what its files hold
+-- what its files hold follows from how a connection ended
 pub ends_well : {D : Type 0} {g : Ghosts D} → SeenMayStay g → (c : Held (FileStore D g)) (r : Result Unit EndFault)
     (files : Files D) → AreEnded c r files → EndsWell c r files
 ends_well {D} {g} stays c (Ok done) files ended = λ clean.
@@ -63,7 +63,7 @@ ends_well {D} {g} stays c (Err (GivenUp error)) files ended = λ clean.
     )
 ends_well stays c (Err (Uncopied error)) files ended = tt
 
--- what was had at the open is kept at the end, perhaps with more bodies, and the close leaves that
+-- the guard at the open is kept at the end, perhaps with more bodies, and the close leaves it
 pub run_keeps_guard : {D : Type 0} {g : Ghosts D} (files : Files D) → RunKeepsGuard g files
 run_keeps_guard files image opened last had did copied s guard held =
     let honest = did copied.was_clean in

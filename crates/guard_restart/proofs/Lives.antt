@@ -1,4 +1,4 @@
--- Lives of the files of a guard, run after run.
+-- The lifetime of a guard's files, run after run.
 use Rattle.std.proofs.Common.{◌≡◌, ◌++◌, ◌∷◌, ◌∙◌, [], ℕ, All, Bool, List, Option, Some, None, ap, append_assoc, cond}
 use Rattle.std.proofs.Common.{false, inl, refl, subst, sym, true}
 use Rattle.std.specs.Prelude.{find, ◌==◌}
@@ -16,7 +16,7 @@ use Rattle.guard_restart.specs.Lives.{Answered, AreBacked, Backs, BacksAll, Foll
 use Rattle.guard_restart.specs.Lives.{RunsGoOn, Said, Stays, body_in}
 use Rattle.guard_restart.specs.Runs.{AreRuns, RunsOn}
 
--- ---- what is approved stays approved
+-- ---- an approved body stays approved
 
 found_still : (p : Approved → Bool) (xs ys : List Approved) (b : List ℕ)
     → option_map (λ (a : Approved). a.body) (find p xs) ≡ Some b
@@ -51,7 +51,7 @@ backed_still p q stays (answer.Refuse r) b is = tt
 
 -- ---- runs
 
--- what was said of bodies stays so
+-- what was printed of bodies stays true
 abbrev Keeps : Standing → Standing → Type 0
 Keeps p q = (a : Answer) (b : List ℕ) → IsBacked p a b → IsBacked q a b
 
@@ -82,7 +82,7 @@ one_more before next run runs last stays said rest = record {
   holds = rest.holds;
 }
 
--- what the files hold after runs, from where the guard stood
+-- what the files hold after runs, from the guard that they held before
 runs_keep : (runs : List Run) (first last : Image) → Follow first runs last → (before : Standing) → Holds first before
     → ∥ Kept before runs last ∥₁
 runs_keep [] first last same before holds = ∣ record {
@@ -102,7 +102,7 @@ lives_keep runs last life =
     let all : (after : Standing) × All (λ run. Backs after run.said) runs × Holds last after =
     (kept.after, kept.backs, kept.holds) in all)
 
--- a run after others
+-- one run after a sequence of runs
 follow_then : (runs : List Run) (run : Run) (first : Image) → Follow first runs run.found → IsRun run
     → Follow first (runs ++ run ∷ []) run.left
 follow_then [] run first same is = (is, same, refl)
@@ -116,7 +116,7 @@ runs_go_on run is runs life =
       follow = follow_then runs run life.first life.follow is;
     } in (longer, lives_keep (runs ++ run ∷ []) run.left longer)
 
--- a run of the program goes on with each life
+-- a run of the program extends each lifetime
 pub runs_on : (image : Image) (said : Said) (may_leave : Image → Type 0) → AreRuns image said may_leave
     → RunsOn image said may_leave
 runs_on image said may_leave runs = record {

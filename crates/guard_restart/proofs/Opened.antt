@@ -20,7 +20,7 @@ use Rattle.restart.proofs.HalfMade.{found_nothing}
 use Rattle.restart.proofs.OneSchema.{one_schema}
 use Rattle.guard_restart.specs.Runs.{FoundIsHad, HasWhatIsHeld, IsBlankIfNone}
 
--- where no transaction is open, the schema is that of a guard
+-- if the trees hold a guard's rows, the schema is that of a guard, and no transaction is open
 pub found_is_had : (c : Connection) → FoundIsHad c
 found_is_had c opens live s kept =
     let schema = one_schema whole c.committed.schema c.committed.trees refl kept.sound (live opens.is_open).1 in
@@ -38,7 +38,7 @@ has_what_is_held image c opens live found had s held =
     let same : c.committed.trees ≡ held.trees = ∥∥₁_elim held.holds (Trees-set _ _) (found.holds held.trees) in
     had opens live s (subst (λ (t : Trees). Kept t (guard_contents s)) (sym same) held.kept)
 
--- of files that hold no row no table is read
+-- from files that hold no row no table is read
 no_tables : (image : Image) (c : Connection) → FindsIn image c → HoldsNone image → IsSound no_schema c.committed.trees
 no_tables image c found (inl nothing) =
     empty_is_sound c.committed.trees (found_nothing image c.committed.trees nothing found.reads).1

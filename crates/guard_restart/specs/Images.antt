@@ -1,4 +1,4 @@
--- What the two files of a guard hold: the database and its log.
+-- What the two files of a guard hold, the database and its log.
 use Rattle.std.specs.Prelude.{◌⊎◌, Option, None, Some}
 use Rattle.sqlite_wal.specs.Recovery.{Image}
 use Rattle.sqlite_trees.specs.Tree.{Trees}
@@ -9,13 +9,13 @@ use Rattle.guard_sql.specs.Keeping.{IsGuard}
 use Rattle.guard_sql.specs.Rows.{guard_contents}
 use Rattle.restart.specs.Images.{HoldsNone}
 
--- a database with the rows of the guard of this state
+-- a database with the rows of this state of a guard
 pub record HoldsGuard (image : Image) (s : State) : Type 0 where
   pub trees : Trees
   pub holds : ∥ HoldsDatabase image trees ∥₁
   pub kept : Kept trees (guard_contents s)
 
--- the guard of this state, which tables may keep
+-- a guard of this state, which tables may keep
 abbrev pub HoldsKept : Image → State → Type 0
 HoldsKept image s = IsGuard s × HoldsGuard image s
 
@@ -27,7 +27,7 @@ HoldsOneOf image s t = ∥ HoldsGuard image s ⊎ HoldsGuard image t ∥₁
 abbrev pub Standing : Type 0
 Standing = Option State
 
--- the files hold that
+-- the files hold no guard, or this one
 abbrev pub Holds : Image → Standing → Type 0
 Holds image None = HoldsNone image
 Holds image (Some s) = HoldsKept image s

@@ -1,4 +1,4 @@
--- Whole lives of the two files of a guard: runs of a program, one after the other, from no file on.
+-- The whole lifetime of a guard's two files: runs of a program in sequence, from no file on.
 use Rattle.std.specs.Prelude.{◌≡◌, ◌++◌, ◌∷◌, [], ℕ, List, All, length, take, Option, Some, None}
 use Rattle.std.specs.List.{flat_map}
 use Rattle.std.specs.Io.KnownBytes.{Appends}
@@ -13,25 +13,26 @@ use Rattle.guard_restart.specs.Images.{Holds, Standing}
 
 -- ---- a run
 
--- What a run says of bodies: it judged some, and its output held this before and holds that after it. Or it judged none.
+-- What a run printed of bodies (unsigned certificates): it judged some, and its output held this before and that after
+-- it. Or it judged none.
 pub data Said : Type 0 where
   judging : (held holds : Option (List ℕ)) → Said
   none : Said
 
--- One run: what the files held as it opened them, what it said, and what was left in them, perhaps by a crash.
+-- One run: what the files held when it opened them, what it printed, and what was left in them, perhaps by a crash.
 pub record Run : Type 0 where
   pub found : Image
   pub said : Said
   pub left : Image
 
--- ---- what is said
+-- ---- the printed answers
 
--- an answer, and the body that it was given to
+-- an answer, and the body that it is for
 abbrev pub Answered : Type 0
 Answered = Answer × List ℕ
 
--- The lines of these answers were printed, in their order. After a fault the last lines may be missing, and one may be
--- cut off.
+-- The lines of these answers were printed, in order. After a fault the last lines may be missing, and one may be cut
+-- off.
 abbrev pub AreSaid : List Answered → Said → Type 0
 AreSaid answers (Said.judging held holds) =
     (count : ℕ) × Appends held holds (take count (flat_map (λ (a : Answered). answer_line a.0) answers))
@@ -42,7 +43,7 @@ abbrev pub body_in : Standing → ℕ → Option (List ℕ)
 body_in None serial = None
 body_in (Some s) serial = body_of s serial
 
--- a body that was answered as signed is approved under the serial of the answer, which says the digest of this body
+-- a body with the answer `Sign` is approved under the serial of the answer, whose digest is that of this body
 abbrev pub IsBacked : Standing → Answer → List ℕ → Type 0
 IsBacked p (answer.Sign serial digest) body = (body_in p serial ≡ Some body) × (digest ≡ digest_text body)
 IsBacked p (answer.NotABody e) body = Unit {0}
@@ -51,52 +52,52 @@ IsBacked p (answer.Refuse r) body = Unit {0}
 abbrev pub AreBacked : Standing → List Answered → Type 0
 AreBacked p answers = All (λ (a : Answered). IsBacked p a.0 a.1) answers
 
--- what a run said is so
+-- what a run printed is true
 abbrev pub Backs : Standing → Said → Type 0
 Backs p said = (answers : List Answered) × AreSaid answers said × AreBacked p answers
 
--- ---- what is kept
+-- ---- the state of the files
 
--- Each body that is approved stays, and so does the guard. One that is made has approved nothing yet.
+-- Each approved body stays, and so does the guard. A new guard has approved nothing yet.
 abbrev pub Stays : Standing → Standing → Type 0
 Stays None None = Unit {0}
 Stays None (Some t) = t.approved ≡ []
 Stays (Some s) None = ⊥
 Stays (Some s) (Some t) = IsStill s t
 
--- A run of a program that keeps a guard, by what its contract says: wherever the guard stood in the files, each body
--- stays, and what the run said is so of the files that are left.
+-- A run of a program that keeps a guard, by its contract: whichever guard the files held, each body stays, and what the
+-- run printed is true of the files that are left.
 abbrev pub IsRun : Run → Type 0
 IsRun run = (before : Standing) → Holds run.found before
     → ∥ ((after : Standing) × Stays before after × Backs after run.said × Holds run.left after) ∥₁
 
--- runs of the program, each of which found what the one before had left
+-- runs of the program, each of which found what the previous one had left
 abbrev pub Follow : Image → List Run → Image → Type 0
 Follow first [] last = last ≡ first
 Follow first (run ∷ runs) last = IsRun run × (run.found ≡ first) × Follow run.left runs last
 
--- ---- a life
+-- ---- a lifetime
 
--- Files that were empty, or weren't there, and what the runs of the program have made of them.
+-- Files that were empty or missing at first, and what runs of the program have made of them.
 pub record Life (runs : List Run) (last : Image) : Type 0 where
   pub first : Image
   pub empty : length first.db ≡ 0
   pub follow : Follow first runs last
 
--- what any of the runs said is so where the guard stands in these files
+-- what each of the runs printed is true of the guard that these files hold
 abbrev pub BacksAll : List Run → Image → Type 0
 BacksAll runs last = ∥ ((after : Standing) × All (λ run. Backs after run.said) runs × Holds last after) ∥₁
 
--- After each life the files hold every body that any of its runs said may be signed, under its serial: so no serial
--- names two.
+-- After every such lifetime the files hold each body for which a run printed that it may be signed, under its serial.
+-- So no serial names two bodies.
 abbrev pub LivesKeep : Type 0
 LivesKeep = (runs : List Run) (last : Image) → Life runs last → BacksAll runs last
 
--- A run after any life is one of it, and what it leaves is such a life's again.
+-- A run after any such lifetime extends it, and what it leaves is left by such a lifetime.
 abbrev pub GoesOn : Run → Type 0
 GoesOn run = (runs : List Run) → Life runs run.found
     → Life (runs ++ run ∷ []) run.left × BacksAll (runs ++ run ∷ []) run.left
 
--- so it is of each run of the program
+-- so does each run of the program
 abbrev pub RunsGoOn : Type 0
 RunsGoOn = (run : Run) → IsRun run → GoesOn run

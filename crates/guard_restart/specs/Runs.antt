@@ -27,11 +27,11 @@ use Rattle.guard_restart.specs.Lives.{GoesOn, IsRun, Said}
 abbrev pub FoundIsHad : Connection → Type 0
 FoundIsHad c = Opens c → IsLive c → (s : State) → Kept c.committed.trees (guard_contents s) → HasGuard s c
 
--- it has each guard that the files held
+-- the connection has each guard that the files held
 abbrev pub HasWhatIsHeld : Image → Connection → Type 0
 HasWhatIsHeld image c = (s : State) → HoldsGuard image s → HasGuard s c
 
--- it is blank if the files held no row
+-- the connection is blank if the files held no row
 abbrev pub IsBlankIfNone : Image → Connection → Type 0
 IsBlankIfNone image c = HoldsNone image → IsBlank c
 
@@ -42,7 +42,7 @@ abbrev pub LeavesWhatIsKept : {D : Type 0} → Ghosts D → Connection → Files
 LeavesWhatIsKept g c files =
     (s : State) → Keeps c s → (image : Image) → outcomes g files.log files.db image → HoldsGuard image s
 
--- so they do if their disk has returned what was written
+-- so they do if their disk has been faithful
 abbrev pub ClosesWell : {D : Type 0} {g : Ghosts D} → Held (FileStore D g) → Files D → Type 0
 ClosesWell {D} {g} conn files = AreClean g files.log files.db → LeavesWhatIsKept g (file_state conn) files
 
@@ -51,9 +51,9 @@ abbrev pub LeavesOneOf : Connection → (Image → Type 0) → Type 0
 LeavesOneOf c may_leave =
     (s t : State) → Leaves c s t → (image : Image) → may_leave image → HoldsOneOf image s t
 
--- How the connection ended, if its disk has returned what was written: it was closed, and whatever a crash makes of
--- the files, they hold the guard that was kept. Or it was given up, and they hold one of the two guards that a crash
--- left. Of a log that couldn't be copied nothing is said.
+-- How the connection ended, if its disk has been faithful: it was closed, and whatever a crash makes of the files, they
+-- hold the guard that was kept. Or it was abandoned, and they hold one of the two guards that a crash left. If its log
+-- couldn't be copied, nothing is promised.
 abbrev pub EndsWell : {D : Type 0} {g : Ghosts D} → Held (FileStore D g) → Result (Unit {0}) EndFault → Files D
     → Type 0
 EndsWell {D} {g} conn (Ok done) files =
@@ -65,42 +65,42 @@ EndsWell {D} {g} conn (Err (Uncopied error)) files = Unit {0}
 
 -- ---- the whole run
 
--- If the files held a guard, all that may be left holds a guard that still has each body which was approved.
+-- If the files held a guard, everything that may be left holds a guard that still has each approved body.
 abbrev pub KeepsGuard : Image → (Image → Type 0) → Type 0
 KeepsGuard image may_leave =
     (s : State) → IsGuard s → HoldsGuard image s
     → (t : State) × IsGuard t × IsStill s t × ((after : Image) → may_leave after → HoldsGuard after t)
 
--- What was done between the open and the close: a disk that is clean was clean, and a connection that is open keeps each
--- guard that was kept, perhaps with more bodies.
+-- What was done between the open and the close: a disk that is clean at the end was clean, and a connection that is
+-- still open keeps each guard that it had, perhaps with more bodies.
 abbrev pub Extends : {D : Type 0} {g : Ghosts D} → (opened last : Held (FileStore D g)) → Type 0
 Extends opened last =
     HasCleanDisk (file_state last) → HasCleanDisk (file_state opened)
     × (IsTrue (file_state last).is_open → (s : State) → IsGuard s → HasGuard s (file_state opened)
     → (t : State) × IsStill s t × Keeps (file_state last) t)
 
--- a run that opened, did so and closed well keeps the guard
+-- a run that opened the files, did only that and closed well keeps the guard
 abbrev pub RunKeepsGuard : {D : Type 0} (g : Ghosts D) → Files D → Type 0
 RunKeepsGuard {D} g files =
     (image : Image) (opened last : Held (FileStore D g))
     → (HasCleanDisk (file_state opened) → HasWhatIsHeld image (file_state opened)) → Extends opened last
     → IsCopied last files → KeepsGuard image (outcomes g files.log files.db)
 
--- what came of these files is a run of a program that keeps a guard, whatever a crash makes of what is left
+-- from these files on this is a run of a program that keeps a guard, whatever a crash makes of the files that are left
 abbrev pub AreRuns : Image → Said → (Image → Type 0) → Type 0
 AreRuns image said may_leave = (left : Image) → may_leave left
     → IsRun (record { found = image; said = said; left = left })
 
--- Whatever a crash makes of what is left, it is a run of the program, and goes on with each life that has left what it
--- found.
+-- Whatever a crash makes of the files that are left, it is a run of the program, and extends each lifetime that left
+-- the files that it found.
 pub record RunsOn (image : Image) (said : Said) (may_leave : Image → Type 0) : Type 0 where
   pub runs : AreRuns image said may_leave
   pub goes_on : (left : Image) → may_leave left → GoesOn (record { found = image; said = said; left = left })
 
 -- ---- the next run
 
--- The files that the next run finds are among those that the last one may have left. It has the guard that all of these
--- hold.
+-- If the files that the next run finds are among those that the last one may have left, its connection has the guard
+-- that all of these hold.
 abbrev pub HasAfter : (Image → Type 0) → Image → Connection → Type 0
 HasAfter may_leave image c =
     may_leave image → (s : State) → ((after : Image) → may_leave after → HoldsGuard after s) → HasGuard s c

@@ -1,4 +1,4 @@
-//! A connection to files, closed or given up.
+//! A connection to files, closed or abandoned.
 
 ghost use Rattle.std.specs.Prelude.{IfOk};
 ghost use Rattle.sqlite_wal.specs.Reads.{AreClean};
@@ -10,7 +10,7 @@ ghost use Rattle.guard_restart.specs.Runs.{ClosesWell, LeavesOneOf, LeavesWhatIs
 use sqlite::{Connection, Error, FileFrom, FileStore, Files, Start};
 use sqlite_disk::Disk;
 
-/// Closes a connection to files, and gives these back.
+/// Closes a connection to files, and returns them.
 ///
 /// # Errors
 ///
@@ -45,7 +45,7 @@ pub fn close_path<S: Start>(
     }
 }
 
-/// Gives a connection up, even one that a failed disk has shut, and gives back the store of its files.
+/// Abandons a connection, even one that a failed disk has shut, and returns the store of its files.
 pub fn store_of<D: Disk + Drop>(conn: Connection<FileStore<D>>) -> FileStore<D>
     // Whatever a crash makes of the files, they hold one of the two guards that a crash left before.
     ensures { IsClean (view result) → LeavesOneOf (file_state conn) (store_state result).may_leave }

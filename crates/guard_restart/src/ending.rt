@@ -1,4 +1,4 @@
-//! A connection to files, ended: closed or, where a failed disk has shut it, given up.
+//! A connection to files, ended: closed, or abandoned if a failed disk has shut it.
 
 ghost use Rattle.restart.specs.Ending.{AreEnded};
 ghost use Rattle.guard_restart.specs.Runs.{EndsWell};
@@ -7,12 +7,12 @@ use restart::EndFault;
 use sqlite::{Connection, FileFrom, FileStore, Files, Start};
 use sqlite_disk::Disk;
 
-/// Ends a connection to files, and gives these back. It is closed if it is open, and otherwise given up.
+/// Ends a connection to files, and returns them. It is closed if it is open, and otherwise abandoned.
 pub fn end_at<D: Disk + Drop>(conn: Connection<FileStore<D>>) -> (Result<(), EndFault>, Files<D>)
     ensures ended { AreEnded conn result.0 result.1 }
 
-    // Whatever a crash makes of the files from now on, they hold the guard that was kept. Of a connection that was
-    // given up they hold one of the two guards that a crash left before.
+    // Whatever a crash makes of the files from now on, they hold the guard that was kept. If the connection was
+    // abandoned, they hold one of the two guards that a crash left before.
     ensures well { EndsWell conn result.0 result.1 }
 {
     restart::end_at(conn)

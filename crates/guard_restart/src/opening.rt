@@ -11,7 +11,7 @@ use crate::laws::what_is_found_is_had;
 use sqlite::{Connection, Error, FileFrom, FileStore, Files, Start};
 use sqlite_disk::Disk;
 
-/// Opens the files at a path, or makes them. `start` stands for what they hold.
+/// Opens the files at a path, or makes them. `start` represents what they hold.
 ///
 /// # Errors
 ///
@@ -52,7 +52,7 @@ pub fn open_again<D: Disk + Drop, T: Start>(
     last: &Files<D>,
     start: T,
 ) -> Result<Connection<FileStore<FileFrom<T>>>, Error>
-    // If what they hold is what the last run may have left, the connection has the guard that the last run left.
+    // If the files hold what the last run may have left, the connection has the guard that the last run left.
     ensures { IfOk result (λ c. HasCleanDisk (file_state c)
         → HasAfter (outcomes D.Disk last.now.log last.now.db) (image_at T.Start) (file_state c)) }
 {

@@ -1,4 +1,4 @@
--- What the calls of a register do over tables that keep a guard.
+-- What a register's calls do over tables that keep a guard.
 use Rattle.std.proofs.Common.{◌≡◌, ℕ, true, false, Ok, Err, Option, None, Result, IsTrue}
 use Rattle.std.proofs.Common.{inl, inr, ap, sym, subst, refl, ◌∙◌, arith}
 use Rattle.std.specs.Prelude.{is_some}
@@ -24,7 +24,7 @@ use Rattle.guard_sql.proofs.Wholes.{rests_still, still_outside}
 
 -- ---- failures
 
--- where no query has a limit on its steps, only a disk fails, now or before
+-- if no query has a limit on its steps, a failure is that of a disk, now or earlier
 pub has_failed : (old new : Connection) → old.step_limit ≡ None → (IsTrue new.is_open → IsTrue old.is_open)
     → SqlFailed old new → HasFailed new
 has_failed old new unlimited was (inl more) = inl (omega (arith, more))
@@ -58,7 +58,7 @@ leaves_still old new survives clean s left trees may = elim (survives.crash clea
   | inr none ↦ absurd none
 ]
 
--- the cause of a fault, of a register that is open, and of one that is shut
+-- the cause of a fault, if the register is open and if it is shut
 caused : (old new : Connection) (f : Fault) → old.step_limit ≡ None → Fails old new × (f ≡ Damaged → IsUnchanged old new)
     → (IsTrue old.is_open → SqlCause old new f) → HasCause (register_fault f) (HasFailed new)
 caused old new NoMemory unlimited was cause = tt
@@ -90,7 +90,7 @@ shows_found Shown of so {old = old} {new = new} (Err f) found = record {
       (λ is. found.fault clean (guard_contents s) (keeps.rows is).now);
 }
 
--- an answer without a call
+-- an answer without a statement
 pub shows_at_once : {Y : Type 0} (Shown : State → Y → Type 0) (y : Y) (conn : Connection)
     → ((s : State) → IsGuard s → Shown s y) → Shows Shown conn conn (Ok y)
 shows_at_once Shown y conn so = record {
@@ -103,7 +103,7 @@ shows_at_once Shown y conn so = record {
 
 -- ---- writes
 
--- one of those of the one state is one of those of either
+-- the tables of the one state are those of one of the two
 pub widened : (c : Connection) (s t : State) → Leaves c s s → Leaves c s t
 widened c s t left trees may = elim (left trees may) [ inl is ↦ inl is | inr is ↦ inl is ]
 
@@ -115,7 +115,7 @@ caused_or old new refused Damaged unlimited was never cause = absurd cause
 caused_or old new refused Device unlimited was never (inl failed) = has_failed old new unlimited was failed
 caused_or old new refused Device unlimited was never (inr why) = absurd (never why)
 
--- what a whole write leads to
+-- the state after a whole write
 module _ (May : State → Type 0) (Room : Type 0) (next : State → State) (after : Contents → Contents)
     (refused : Contents → Type 0) (lawful : (s : State) → IsGuard s → May s → IsGuard (next s))
     (same : (s : State) → after (guard_contents s) ≡ guard_contents (next s))
@@ -169,7 +169,7 @@ module _ (May : State → Type 0) (Room : Type 0) (next : State → State) (afte
         (whole.cause clean keeps.autocommit (guard_contents s) keeps.rows);
   }
 
--- a fault without a call, where there is no room
+-- a fault without a statement, for lack of room
 pub leads_nowhere : {May : State → Type 0} {Room : Type 0} {next : State → State} (conn : Connection)
     → ((s : State) → IsGuard s → May s → Room → ⊥) → Leads May Room next conn conn (Err register.Device)
 leads_nowhere {next = next} conn never = record {

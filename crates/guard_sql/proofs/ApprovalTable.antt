@@ -9,7 +9,7 @@ use Rattle.guard_sql.proofs.Words.{equal, everything, filter, has_serial, inl, i
 use Rattle.guard_sql.proofs.Words.{op2, overlay, pos, refl, rowid, subst, sym, take, tied_itself, tied_same}
 use Rattle.guard_sql.proofs.Words.{true, value_cmp, value_cmp_total, whole, with_approval, ℕ, ◌&&◌, ◌<◌, ◌^◌, ◌∙◌}
 use Rattle.guard_sql.proofs.Words.{◌∷◌, ◌≡◌}
-use Rattle.store_sql.proofs.CallLemmas.{IsSelect}
+use Rattle.store_sql.proofs.CallLemmas.{FindIn, IsSelect}
 use Rattle.store_sql.proofs.Edits.{of_row}
 use Rattle.store_sql.proofs.FaultLemmas.{none_overflows}
 use Rattle.store_sql.proofs.FoundLemmas.{unmapped}
@@ -56,7 +56,7 @@ puts = record {
 pub put : (x : ApprovalRow) → Write INSERT_APPROVED.now (approval_cells x) (with_approval x)
 put = insert puts
 
--- ---- SELECT of one
+-- ---- SELECT of one row
 
 abbrev columns : List Term
 columns = col 1 0 ∷ col 1 2 ∷ col 1 3 ∷ []
@@ -78,20 +78,7 @@ find serial = select tree find_is (has_serial serial)
     shown_row (λ x. and-true _ ∙ int_test (pos x.serial) (pos serial) ∙ same_number x.serial serial) (λ x. refl) (λ r. refl)
     (λ r. refl) refl (λ c. refl)
 
--- no two have the same serial
-pub serial_apart : (trees : Trees) (c : Contents) → Holds trees c → (x y : ApprovalRow) → Has c.approved x
-    → Has c.approved y → x.serial ≡ y.serial → x ≡ y
-serial_apart trees c h x y here there equal =
-    let r = of_row approval_cells approval_places (trees 1) c.approved x h.approved here in
-    let s = of_row approval_cells approval_places (trees 1) c.approved y h.approved there in
-    let first : rowid r.0 ≡ Int (pos x.serial) = ap (λ v. column v 0) r.2 in
-    let second : rowid s.0 ≡ Int (pos x.serial) = ap (λ v. column v 0) s.2 ∙ ap (λ n. Int (pos n)) (sym equal) in
-    let tie : value_cmp (rowid r.0) (rowid s.0) ≡ Equal =
-    ap₂ value_cmp first second ∙ tied_itself value_cmp_total (Int (pos x.serial)) in
-    let same : r.0 ≡ s.0 = tied_same (trees 1) r.0 s.0 h.approved.apart r.1 s.1 tie in
-    approval_apart x y (sym r.2 ∙ ap (at_places approval_places) same ∙ s.2)
-
--- ---- SELECT of the first one from a serial on
+-- ---- SELECT of the first row from a serial on
 
 abbrev from_test : List Term
 from_test = op2 (Compare Ge Binary) (col 1 0) (col 0 0) ∷ []
@@ -109,62 +96,94 @@ from_is : IsSelect whole FROM_APPROVED.now from_query names 1
 unfolding everything
 from_is = query whole FROM_APPROVED.now _ _ 1 refl refl
 
-high_passes : (n : ℕ) (a : ApprovalRow)
-    → (is_true (binary (Compare Ge Binary) (column (approval_cells a) 0) (Int (pos n))) && true) ≡ nat_le n a.serial
-high_passes n a = and-true _ ∙ int_ge_test (pos a.serial) (pos n) ∙ ge_number a.serial n
+-- for any structs with the cells of the table, whose first column is a serial
+module _ {A X : Type 0} {Held : Trees → A → Type 0} {cells : X → Row} {of : A → List X}
+    (t : IsTreeOf Held cells approval_places 1 of) (serial : X → ℕ)
+    (numbered : (x : X) → column (cells x) 0 ≡ Int (pos (serial x)))
+    (showed : (x : X) → shown_row (cells x) ≡ cells x) where
+  -- no two have the same serial
+  pub apart_by_serial : (trees : Trees) (c : A) → Held trees c → (x y : X) → Has (of c) x → Has (of c) y
+      → serial x ≡ serial y → x ≡ y
+  apart_by_serial trees c h x y here there equal =
+      let held = t.held trees c h in
+      let r = of_row cells approval_places (trees 1) (of c) x held here in
+      let s = of_row cells approval_places (trees 1) (of c) y held there in
+      let first : rowid r.0 ≡ Int (pos (serial x)) = ap (λ v. column v 0) r.2 ∙ numbered x in
+      let second : rowid s.0 ≡ Int (pos (serial x)) =
+      ap (λ v. column v 0) s.2 ∙ (numbered y ∙ ap (λ n. Int (pos n)) (sym equal)) in
+      let tie : value_cmp (rowid r.0) (rowid s.0) ≡ Equal =
+      ap₂ value_cmp first second ∙ tied_itself value_cmp_total (Int (pos (serial x))) in
+      let same : r.0 ≡ s.0 = tied_same (trees 1) r.0 s.0 held.apart r.1 s.1 tie in
+      t.apart x y (sym r.2 ∙ ap (at_places approval_places) same ∙ s.2)
 
--- all from there on, the least of them first
-module _ (n : ℕ) (trees : Trees) (rows : List Row) (c : Contents) (h : Holds trees c)
-    (answer : IsAnswer from_query (overlay trees []) (Int (pos n) ∷ []) rows) where
-  abbrev all : List Row
-  all = map (λ (o : Output). o.1) answer.ordered
+  high_passes : (n : ℕ) (a : X)
+      → (is_true (binary (Compare Ge Binary) (column (cells a) 0) (Int (pos n))) && true) ≡ nat_le n (serial a)
+  high_passes n a =
+      and-true _ ∙ (ap (λ v. is_true (binary (Compare Ge Binary) v (Int (pos n)))) (numbered a)
+      ∙ (int_ge_test (pos (serial a)) (pos n) ∙ ge_number (serial a) n))
 
-  high_answer : IsAnswer high_query (overlay trees []) (Int (pos n) ∷ []) all
-  high_answer = record {
-    staged = answer.staged;
-    grouped = answer.grouped;
-    kept = answer.kept;
-    distinct = answer.distinct;
-    ordered = answer.ordered;
-    same = answer.same;
-    sorted = answer.sorted;
-    shown = refl;
+  -- all rows from there on, the one with the least serial first
+  module _ (n : ℕ) (trees : Trees) (rows : List Row) (c : A) (h : Held trees c)
+      (answer : IsAnswer from_query (overlay trees []) (Int (pos n) ∷ []) rows) where
+    abbrev all : List Row
+    all = map (λ (o : Output). o.1) answer.ordered
+
+    high_answer : IsAnswer high_query (overlay trees []) (Int (pos n) ∷ []) all
+    high_answer = record {
+      staged = answer.staged;
+      grouped = answer.grouped;
+      kept = answer.kept;
+      distinct = answer.distinct;
+      ordered = answer.ordered;
+      same = answer.same;
+      sorted = answer.sorted;
+      shown = refl;
+    }
+
+    high_are : IsPermutation (map cells (filter (λ a. nat_le n (serial a)) (of c))) all
+    high_are = chosen cells cells (λ a. nat_le n (serial a)) approval_places
+        (λ v. is_true (binary (Compare Ge Binary) (column v 0) (Int (pos n))) && true) shown_row
+        (λ x. high_passes n x) (λ x. showed x) (trees 1) all (of c) (t.held trees c h)
+        (selected 1 from_test columns upwards trees (Int (pos n) ∷ []) all refl high_answer)
+
+    high_rise : AscendBy 0 all
+    high_rise = in_order 1 from_test columns upwards trees (Int (pos n) ∷ []) all (λ v. column v 0 ∷ []) (λ r. refl)
+        refl high_answer
+
+    from_answers : IsPermutation (map cells (first_from serial n (of c))) rows
+    from_answers =
+        let found = unmapped cells (filter (λ a. nat_le n (serial a)) (of c)) all high_are in
+        let up : IsSorted (rises serial) found.0 =
+        rising serial cells numbered found.0 (subst (AscendBy 0) found.2 high_rise) in
+        let one : take 1 found.0 ≡ first_from serial n (of c) =
+        first_is_least serial n (of c) found.0 (apart_by_serial trees c h) found.1 up in
+        let shown : rows ≡ map cells (take 1 found.0) = answer.shown ∙ ap (take 1) found.2 ∙ taken found.0 in
+        subst (IsPermutation (map cells (first_from serial n (of c)))) (sym (shown ∙ ap (map cells) one))
+        (IsPermutation-refl _)
+      where
+        taken : (zs : List X) → take 1 (map cells zs) ≡ map cells (take 1 zs)
+        taken [] = refl
+        taken (z ∷ zs) = refl
+
+  pub from_of : (n : ℕ) → FindIn whole Held FROM_APPROVED.now (Int (pos n) ∷ []) cells (λ c. first_from serial n (of c))
+  from_of n = record {
+    query = from_query;
+    names = names;
+    is = from_is;
+    typed = refl;
+    sure = λ trees h. elim h [ inl over ↦ over | inr fold ↦ none_overflows _ fold ];
+    apart = t.apart;
+    answers = λ trees rows c h answer. from_answers n trees rows c h answer;
   }
 
-  high_are : IsPermutation (map approval_cells (filter (λ a. nat_le n a.serial) c.approved)) all
-  high_are = chosen approval_cells approval_cells (λ a. nat_le n a.serial) approval_places
-      (λ v. is_true (binary (Compare Ge Binary) (column v 0) (Int (pos n))) && true) shown_row
-      (λ x. high_passes n x) (λ x. refl) (trees 1) all c.approved h.approved
-      (selected 1 from_test columns upwards trees (Int (pos n) ∷ []) all refl high_answer)
+-- no two rows of a guard have the same serial
+pub serial_apart : (trees : Trees) (c : Contents) → Holds trees c → (x y : ApprovalRow) → Has c.approved x
+    → Has c.approved y → x.serial ≡ y.serial → x ≡ y
+serial_apart = apart_by_serial tree (λ (a : ApprovalRow). a.serial) (λ x. refl) (λ x. refl)
 
-  high_rise : AscendBy 0 all
-  high_rise = in_order 1 from_test columns upwards trees (Int (pos n) ∷ []) all (λ v. column v 0 ∷ []) (λ r. refl)
-      refl high_answer
-
-  from_answers : IsPermutation (map approval_cells (first_from n c.approved)) rows
-  from_answers =
-      let found = unmapped approval_cells (filter (λ a. nat_le n a.serial) c.approved) all high_are in
-      let up : IsSorted rises found.0 = rising found.0 (subst (AscendBy 0) found.2 high_rise) in
-      let one : take 1 found.0 ≡ first_from n c.approved =
-      first_is_least n c.approved found.0 (serial_apart trees c h) found.1 up in
-      let shown : rows ≡ map approval_cells (take 1 found.0) = answer.shown ∙ ap (take 1) found.2 ∙ taken found.0 in
-      subst (IsPermutation (map approval_cells (first_from n c.approved))) (sym (shown ∙ ap (map approval_cells) one))
-      (IsPermutation-refl _)
-    where
-      taken : (zs : List ApprovalRow) → take 1 (map approval_cells zs) ≡ map approval_cells (take 1 zs)
-      taken [] = refl
-      taken (z ∷ zs) = refl
-
-pub from : (n : ℕ) → Find FROM_APPROVED.now (Int (pos n) ∷ []) approval_cells (λ c. first_from n c.approved)
-from n = record {
-  query = from_query;
-  names = names;
-  is = from_is;
-  typed = refl;
-  sure = λ trees h. elim h [ inl over ↦ over | inr fold ↦ none_overflows _ fold ];
-  apart = approval_apart;
-  answers = λ trees rows c h answer. from_answers n trees rows c h answer;
-}
+pub from : (n : ℕ) → Find FROM_APPROVED.now (Int (pos n) ∷ []) approval_cells
+    (λ c. first_from (λ (a : ApprovalRow). a.serial) n c.approved)
+from = from_of tree (λ (a : ApprovalRow). a.serial) (λ x. refl) (λ x. refl)
 
 -- ---- why a body is refused
 

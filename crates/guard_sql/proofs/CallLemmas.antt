@@ -1,4 +1,4 @@
--- What the calls do, from what their texts mean.
+-- What the calls do, from the meaning of their SQL texts.
 use Rattle.guard_sql.proofs.Words.{Begin, Changes, Command, Commit, CommitsBy, CommitsShowing, Compiled, Contents}
 use Rattle.guard_sql.proofs.Words.{Database, Delete, Does, Error, Executes, FailsBy, FailsToQuery, Fault, Finds}
 use Rattle.guard_sql.proofs.Words.{FindsOne, FindsSuch, Found, FoundIn, Global, HasCause, HasCleanDisk, Holds, IfErr}
@@ -27,7 +27,7 @@ IsOnRows (Update at q) = Unit {0}
 IsOnRows (Delete at q) = Unit {0}
 IsOnRows _ = ⊥
 
--- a text that makes this of the contents
+-- a text that changes the contents to `after`
 pub record Write (sql : List ℕ) (params : Row) (after : Contents → Contents) : Type 0 where
   pub command : Command
   pub is : IsStatement sql command (length params)
@@ -75,7 +75,7 @@ closes_none (Update at q) on = refl
 closes_none (Delete at q) on = refl
 closes_none _ on = absurd on
 
--- all that a call of such a text does, which fails for these causes
+-- everything that a call of such a text does, with the causes of its failure
 pub wrote : {X : Type 0} {sql : List ℕ} {params : Row} {after : Contents → Contents}
     {Causes : State → State → Result X Fault → Type 0} {old new : State} (w : Write sql params after)
     → ((old new : State) (r : Result X Fault) → FailsBy (HasWriteCause sql params) old new r → Causes old new r)
@@ -109,7 +109,7 @@ Find sql params cells of = FindIn whole Holds sql params cells of
 in_tables : (c : Contents) (db : Database) → Means db c → (db.schema ≡ whole) × Holds db.trees c
 in_tables c db means = (means.schema, means.kept.holds)
 
--- such a text shows no rows of a write, whatever the tables are
+-- such a text doesn't run as a write, whatever the tables are
 silent : {A X : Type 0} {Held : Trees → A → Type 0} {sql : List ℕ} {params : Row} {cells : X → Row} {of : A → List X}
     (f : FindIn whole Held sql params cells of) (s : State) (c : Compiled) → understood s.now.schema sql ≡ Ok c
     → c.returning ≡ None
@@ -148,7 +148,7 @@ module _ {X : Type 0} {sql : List ℕ} {params : Row} {cells : X → Row} {of : 
     causes_first Has cells of f.apart old new answer r read rows_shown (causes f Has in_tables old new answer ok err),
   )
 
--- all that a call of such a text does
+-- everything that a call of such a text does
 module _ {X : Type 0} {sql : List ℕ} {params : Row} {cells : X → Row} {of : Contents → List X}
     (f : Find sql params cells of) {old new : State} (answer : Result (Vec Row Global) Error)
     (ok : HasCleanDisk new → IfOk answer (λ rows. Shown sql params old new rows.items))
@@ -175,7 +175,7 @@ module _ {X : Type 0} {sql : List ℕ} {params : Row} {cells : X → Row} {of : 
   pub found_one : (r : Result (Option X) Fault) → IsFirstRead cells answer r → Found (FindsOne of) old new r
   found_one r read = found_such (λ c. IsOneOf (of c)) (λ c trees h found is. is) r read
 
--- the same of a query over tables of which less is known
+-- the same for a query over tables of which less is known
 pub found_in : {A X : Type 0} {Held : Trees → A → Type 0} {sql : List ℕ} {params : Row} {cells : X → Row} {of : A → List X}
     (f : FindIn whole Held sql params cells of) (Has : A → Database → Type 0)
     → ((a : A) (db : Database) → Has a db → (db.schema ≡ whole) × Held db.trees a) → {old new : State}

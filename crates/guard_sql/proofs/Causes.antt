@@ -1,4 +1,4 @@
--- Why a part of a transaction fails, and so the whole.
+-- Why a part of a transaction fails, and therefore the whole.
 use Rattle.std.proofs.Common.{◌≡◌, inl, inr, ◌≤◌, true, Ok, Err, Result, sym, subst, ◌∙◌, arith}
 use Rattle.std.specs.Prelude.{IfErr, IsSome}
 use Rattle.std.proofs.lemmas.Bool.{both_ways, cases_Bool}
@@ -16,12 +16,12 @@ use Rattle.guard_sql.proofs.Steps.{Leads}
 
 -- ---- failures of the database
 
--- a failure of a beginning
+-- a failure in the first of two steps
 pub failed_early : (a b c : State) → HasFailed a b → b.faults ≤ c.faults → HasFailed a c
 failed_early a b c (inl more) le = inl (omega (arith, more, le))
 failed_early a b c (inr other) le = inr other
 
--- a failure of what comes after it
+-- a failure in the second step
 pub failed_late : (P : Trees → Type 0) (a b c : State) → Survives a b P → HasCleanDisk b → b.faults ≤ c.faults
     → HasFailed b c
     → HasFailed a c
@@ -42,7 +42,7 @@ cause_of refused a b NoMemory h = tt
 cause_of refused a b Device h = inl h
 cause_of refused a b Damaged h = h
 
--- a cause is one beside another state before or after, where a failure and a refusal are
+-- a cause stays one between other states, if a failure and a refusal do
 cause_so : (less refused : Type 0) (a b c d : State) (f : Fault) → (HasFailed a b → HasFailed c d) → (less → refused)
     → HasCauseOr less a b f → HasCauseOr refused c d f
 cause_so less refused a b c d NoMemory late so h = tt
@@ -52,7 +52,7 @@ cause_so less refused a b c d Device late so (inr why) = inr (so why)
 
 -- ---- calls
 
--- a part that is done, and then one that fails
+-- a part that succeeds, and then one that fails
 pub fails_then : {A B X : Type 0} (Before : A → Database → Type 0) (Later : B → Database → Type 0) (late : B → Type 0)
     (refused : A → Type 0) (next : A → B) (P : Trees → Type 0) (a b c : State) (r : Result X Fault)
     → Leads Before Later next a b → ((x : A) → Before x a.now → late (next x) → refused x) → Survives a b P
@@ -63,7 +63,7 @@ fails_then Before Later late refused next P a b c (Err f) leads so one clean le 
     cause_so (late (next x)) (refused x) b c a c f (failed_late P a b c one clean le) (so x before)
     (h (next x) (leads x before).2)
 
--- a call whose database is known better, or whose refusal is told in other words
+-- a call of whose database more is known, or whose refusal is stated differently
 pub fails_weaker : {A B X : Type 0} (Before : A → Database → Type 0) (Later : B → Database → Type 0) (late : B → Type 0)
     (refused : A → Type 0) (next : A → B) (a b : State) (r : Result X Fault)
     → ((x : A) → Before x a.now → Later (next x) a.now) → ((x : A) → Before x a.now → late (next x) → refused x)
@@ -84,7 +84,7 @@ module _ {A X : Type 0} (Before : A → Database → Type 0) (Due : A → X → 
       cause_so (Refused x) (Refused x) first new old new f
       (failed_late (λ _. ⊥) old first new one early (omega (arith, two.counts, le))) (λ why. why)
 
-  -- a transaction that is begun, and then concluded
+  -- a transaction that is begun and then concluded
   pub stops_for : (r q : Result X Fault) → Begins {X = Unit {0}} {E = Fault} old first (Ok tt)
       → Answers Before Due after first last r → FailsFor Before Refused first last r → Concludes r last new q
       → EndsFor r last new q → IfErr q (StopsFor Before Refused old new)

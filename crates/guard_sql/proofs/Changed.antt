@@ -1,4 +1,4 @@
--- What a write leads to: the state is lawful, its rows are those of the tables, and the tables have room.
+-- The state after a write: it is valid, its rows are those of the tables, and the tables have room.
 use Rattle.std.proofs.Common.{◌≡◌, ℕ, ◌<◌, ◌≤◌, ◌^◌, [], ◌∷◌, None, Result, IsTrue, inl, inr, ap, sym, ◌∙◌}
 use Rattle.std.proofs.Common.{refl, arith}
 use Rattle.std.specs.Prelude.{length}
@@ -25,7 +25,7 @@ use Rattle.store_sql.specs.declared.table_fault.Fault.{Fault}
 use Rattle.guard_sql.proofs.Answering.{leads_whole}
 use Rattle.guard_sql.proofs.Newest.{body_has, free, one_more}
 
--- ---- one body more
+-- ---- one more body
 
 pub more_lawful : (row : Approved) → row.serial < 2 ^ 63 → (s : State) → IsGuard s → IsGuard (with_approved s row)
 more_lawful row low s guard = record {

@@ -1,13 +1,13 @@
--- A statement on one table leaves what the other holds; and structs with the same columns are the same.
+-- A statement on one table leaves the rows of the other. Structs with the same columns are the same.
 use Rattle.guard_sql.proofs.Words.{AllByRecursion, ApprovalRow, Contents, GuardRow, Holds, List, Lists, Row, Trees}
 use Rattle.guard_sql.proofs.Words.{ap, approval_cells, approval_places, blob_in, column, guard_cells}
 use Rattle.guard_sql.proofs.Words.{guard_places, number_in, subst, sym, whole, ℕ, ◌≡◌, ◌≢◌}
 
--- the trees of the tables, but for this one, are as they were
+-- the trees of the tables, except this one, are unchanged
 abbrev pub Spares : ℕ → Trees → Trees → Type 0
 Spares tree db after = AllByRecursion (λ t. t.tree ≢ tree → after t.tree ≡ db t.tree) whole.tables
 
--- what the tables hold where one has changed
+-- the contents of the tables after one of them has changed
 module _ (db after : Trees) (c : Contents) (h : Holds db c) where
   pub in_guard : (xs : List GuardRow) → Spares 0 db after → Lists guard_cells guard_places (after 0) xs
       → Holds after (record c { guards = xs })

@@ -72,7 +72,7 @@ module _ {X : Type 0} (cells : X → Row) (apart : (x y : X) → cells x ≡ cel
       first_of [] e = absurd cc
       first_of (y ∷ ys) e = (ys, let head : cells y ≡ cells x = cc in ap (λ z. z ∷ ys) (apart y x head))
 
--- one that is such, by the first of the rows of those that are
+-- a struct that satisfies `Such`, by the first row found
 pub finds_such : {X : Type 0} (cells : X → Row) (of : Contents → List X) (Such : Contents → Option X → Type 0)
     → (apart : (x y : X) → cells x ≡ cells y → x ≡ y)
     → ((c : Contents) (trees : Trees) → Holds trees c → (found : Option X) → IsOneOf (of c) found → Such c found)

@@ -1,4 +1,4 @@
--- One table after the other.
+-- The tables are made one after the other.
 use Rattle.guard_sql.proofs.Words.{Bool, Completes, Creates, Err, Fault, HasCleanDisk, IsBare, IsPermutation-refl}
 use Rattle.guard_sql.proofs.Words.{IsSound, List, Lists, Ok, Result, Row, State, Stays, Survives, WaitsAt, []}
 use Rattle.guard_sql.proofs.Words.{approval_cells, approval_places, approved, arith, false, guard, guard_cells}
@@ -19,7 +19,7 @@ joined : (t : Bool) {X : Type 0} (last mid now first second : X) → first ≡ (
 joined true last mid now first second one two = two ∙ one
 joined false last mid now first second one two = two
 
--- both tables, where the first is made
+-- both tables, if the first is made
 module _ (a b d : State) (r : Result (Unit {0}) Fault)
     (one : HasCleanDisk b → Creates {X = Unit {0}} {E = Fault} no_schema guard a b (Ok tt))
     (first : Survives a b (WaitsAt no_schema a)) (second : Survives b d (WaitsAt through_guard b)) where

@@ -1,4 +1,4 @@
--- INSERT of the columns of one struct, and why it is refused.
+-- INSERT of one struct's columns, and why it is refused.
 use Rattle.guard_sql.proofs.Words.{All, Applies, Chosen, Contents, Database, Does, Edit, Enforced, FailsBy, Fault}
 use Rattle.guard_sql.proofs.Words.{Has, Holds, Insert, IsPermutation, List, Lists, Means, None, Ok, Option, Refers}
 use Rattle.guard_sql.proofs.Words.{RefusedFor, Result, Row, Some, State, Table, Tally, Term, Trees, Unique, Values}
@@ -19,11 +19,11 @@ use Rattle.store_sql.proofs.Rows.{inserted}
 use Rattle.store_sql.proofs.Selects.{IsTreeOf}
 use Rattle.store_sql.proofs.Stops.{IsHalted, insert_halts}
 
--- no foreign key of the tables sets anything off
+-- no foreign key of the tables triggers an action
 pub no_works : (tree : ℕ) (olds news : List Row) → works whole Enforced 0 tree olds news ≡ []
 no_works tree olds news = refl
 
--- The text that puts the row of a struct in. `row` is that row, beside the rows that are there.
+-- The text that inserts the row of a struct. `row` is that row, given the rows of the table.
 pub record IsInsert {X : Type 0} (sql : List ℕ) (cells : X → Row) (places : List ℕ) (at : ℕ) (table : Table)
     (terms : List Term)
     (width : ℕ) (with_x : X → Contents → Contents) (of : Contents → List X) (row : X → List Row → Row) : Type 0 where
@@ -68,7 +68,7 @@ module _ {X : Type 0} {sql : List ℕ} {cells : X → Row} {places : List ℕ} {
 
 -- ---- foreign keys
 
--- there are none, so all hold
+-- the tables have none, so all are satisfied
 pub all_refer : (trees : Trees) → Refers All whole trees
 all_refer trees = refers_from All whole trees (λ t ref row listed known is there.
     all_has (λ (u : Table). Has u.references ref → Has (trees u.tree) row
@@ -90,14 +90,14 @@ module _ {X : Type 0} {sql : List ℕ} {cells : X → Row} {places : List ℕ} {
       (it.sourced x).0 halts in
       subst (λ r. IsHalted whole trees (one trees (uncounted table) [] r)) (it.made x (trees table.tree)).0 given
 
-  -- the edit of the row, and the row
+  -- the edit that adds the row, and the row
   abbrev pub adds : State → Edit
   adds s = one s.now.trees (uncounted table) [] (row x (s.now.trees table.tree))
 
   abbrev pub new_row : State → Row
   new_row s = row x (s.now.trees table.tree)
 
-  -- why the call fails: the number is out of range or taken, or the key is, or the row is too long
+  -- why the call fails: the number is out of range or taken, or the key is taken, or the row is too long
   pub insert_fails : (Refuses : Contents → Type 0) → ((s : State) → IsPut (uncounted table) (new_row s))
       → ((s : State) (c : Contents) → Means s.now c → fits_i64 (id_in (rowid (new_row s))) ≡ false → Refuses c)
       → ((s : State) (c : Contents) → Means s.now c → is_taken (s.now.trees table.tree) (new_row s) ≡ true → Refuses c)

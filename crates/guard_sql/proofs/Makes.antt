@@ -1,4 +1,4 @@
--- The tables of a guard, as they are made.
+-- The CREATE statements of a guard's tables.
 use Rattle.guard_sql.proofs.Words.{CREATE_APPROVED, CREATE_GUARD, CreateTable, Ok, ap, approved, everything, guard}
 use Rattle.guard_sql.proofs.Words.{no_schema, refl, same_name, statement_of, table_defined_by, through_guard}
 use Rattle.guard_sql.proofs.Words.{value_cmp, ◌≡◌}

@@ -1,4 +1,4 @@
--- The bodies that are kept, and the rows of them.
+-- The stored bodies, and their rows.
 use Rattle.std.proofs.Common.{◌≡◌, ℕ, ◌<◌, ◌≤◌, ◌^◌, List, [], ◌∷◌, ◌++◌, Bool, true, false, Option, Some, None, inl, inr}
 use Rattle.std.proofs.Common.{◌⊎◌, ap, sym, subst, refl, ◌∙◌, arith}
 use Rattle.std.specs.Prelude.{Contains, filter, find, fold, ◌==◌}
@@ -24,11 +24,11 @@ use Rattle.guard_sql.proofs.ApprovalTable.{serial_apart}
 abbrev onto : List ApprovalRow → List Approved → List ApprovalRow
 onto rows l = fold (λ rs a. approval_row a ∷ rs) rows l
 
--- the row of one more body stands first
+-- the row of one more body comes first
 pub one_more : (l : List Approved) (a : Approved) → newest_first (l ++ a ∷ []) ≡ approval_row a ∷ newest_first l
 one_more l a = fold-append (λ rs b. approval_row b ∷ rs) [] l (a ∷ [])
 
--- ---- each body has its row, and each row is that of a body
+-- ---- each body has its row, and each row its body
 
 stays : (l : List Approved) (rows : List ApprovalRow) (r : ApprovalRow) → Has rows r → Has (onto rows l) r
 stays [] rows r here = here
@@ -60,7 +60,7 @@ body_has l r here = elim (taken l [] r here) [ inl none ↦ absurd none | inr it
 
 -- ---- the body of a serial
 
--- the first that passes a test, or none does
+-- the first that passes a test, if any does
 pub found_in : {X : Type 0} (p : X → Bool) (xs : List X)
     → ((x : X) × Has xs x × (p x ≡ true) × (find p xs ≡ Some x))
     ⊎ ((find p xs ≡ None) × AllByRecursion (λ x. p x ≡ false) xs)
@@ -76,7 +76,7 @@ found_in p (x ∷ xs) = elim (cases_Bool (p x)) [
 own : (n : ℕ) → (n == n) ≡ true
 own n = eq-eqb n n refl
 
--- no body is kept under the serial of none
+-- if `body_of` finds none under a serial, none is stored under it
 pub free : (s : State) (serial : ℕ) → body_of s serial ≡ None → (a : Approved) → Has s.approved a → a.serial ≡ serial → ⊥
 free s serial none a here is = elim (found_in (λ b. b.serial == serial) s.approved) [
   | inl it ↦ (let wrong : None ≡ Some it.0.body = sym none ∙ ap (option_map (λ (b : Approved). b.body)) it.3 in cc)
@@ -86,7 +86,7 @@ free s serial none a here is = elim (found_in (λ b. b.serial == serial) s.appro
       absurd (both_ways _ miss hit)
 ]
 
--- a serial that no column holds has none
+-- a serial that no column can hold has no body
 pub none_under : (s : State) (serial : ℕ) → AllByRecursion (λ a. a.serial < 2 ^ 63) s.approved → 2 ^ 63 ≤ serial
     → body_of s serial ≡ None
 none_under s serial low high = elim (found_in (λ b. b.serial == serial) s.approved) [
@@ -100,7 +100,7 @@ none_under s serial low high = elim (found_in (λ b. b.serial == serial) s.appro
 abbrev passing : State → ℕ → List ApprovalRow
 passing s serial = filter (has_serial serial) (newest_first s.approved)
 
--- what is found has its body, and passes
+-- a row that is found has its body, and passes
 passes : (s : State) (serial : ℕ) (x : ApprovalRow) → IsOneOf (passing s serial) (Some x)
     → Has (newest_first s.approved) x × (has_serial serial x ≡ true)
 passes s serial x one = has_filtered (has_serial serial) (newest_first s.approved) x
@@ -158,13 +158,13 @@ first s from (Some x) it =
           (approval_row b) it.2 (row_has s.approved b here))),
     )
 
--- of serials that a column holds none is from this one on
+-- no serial that a column can hold is this one or higher
 pub none_from : (s : State) (from : ℕ) → AllByRecursion (λ a. a.serial < 2 ^ 63) s.approved → 2 ^ 63 ≤ from
     → IsRowOf from s.approved None
 none_from s from low high = All-from_recursion (λ b. b.serial < from) s.approved (all_from _ s.approved
     (λ b here. let lt = all_has (λ (c : Approved). c.serial < 2 ^ 63) s.approved b low here in omega (arith, lt, high)))
 
--- ---- one body a serial
+-- ---- one body for each serial
 
 contains_has : (l : List Approved) (a : Approved) → Contains l a → Has l a
 contains_has l a here =

@@ -1,4 +1,4 @@
--- UPDATE of the struct of one number, whatever its table is: what it makes of the contents, and why it is refused.
+-- UPDATE of the struct with one number, in any table: the contents after it, and why it is refused.
 use Rattle.guard_sql.proofs.Words.{All, AllByRecursion, Applies, BadReference, Binary, Bool, Check, Command, Compare}
 use Rattle.guard_sql.proofs.Words.{Contents, Database, Datatype, Does, Edit, Enforced, Eq, FailsBy, Fault, ForeignKey}
 use Rattle.guard_sql.proofs.Words.{Given, Has, HasOne, Holds, Int, IsPermutation, IsTooLong, Keeps, List, Lists}
@@ -36,7 +36,7 @@ same_trees db tree t = elim (cases_Bool (t == tree)) [
   | inr apart ↦ rw apart refl
 ]
 
--- an edit that only takes rows out is made, where keys and references stay
+-- an edit that only removes rows is made, if keys and references stay
 pub removal_halts : (db : Trees) (table : Table) (gone : List ℤ)
     → let edit : Edit = record { table = table; gone = gone; news = [] } in
     Has whole.tables table → Keeps Unique whole (with_tree db table.tree (edited db edit))
@@ -66,7 +66,7 @@ nothing_halts db table obeys listed = removal_halts db table [] listed
 
 -- ---- UPDATE
 
--- the text that changes the struct of this number so
+-- the text that changes the struct with this number in this way
 pub record IsUpdate {X : Type 0} (sql : List ℕ) (params : Row) (cells : X → Row) (places : List ℕ) (at : ℕ)
     (table : Table)
     (tests project : List Term) (of : Contents → List X) (after : Contents → Contents) (number : X → ℕ) (n : ℕ)
@@ -76,7 +76,7 @@ pub record IsUpdate {X : Type 0} (sql : List ℕ) (params : Row) (cells : X → 
   pub is : IsStatement sql (Update at (record { lets = []; body = on_table table.tree tests project [] }))
       (length params)
   pub typed : accepts_program whole [] (on_table table.tree tests project []) params ≡ true
-  -- the new row of a row's columns, and their new columns
+  -- the new row from a row's columns, and its columns
   pub next : Row → Row
   pub change : Row → Row
   pub on_row : (r : Row) → (column (at_places places r) 0 ≡ rowid r) × (list_all (holds (params ∷ r ∷ [])) tests
@@ -145,7 +145,7 @@ module _ {X : Type 0} {sql : List ℕ} {params : Row} {cells : X → Row} {place
   pub update : Write sql params after
   update = record { command = Update at program; is = it.is; on_rows = tt; does = does }
 
-  -- it is refused where the struct is then too long: its number stays
+  -- it is refused if the struct is then too long: its number stays
   module _ (listed : Has whole.tables (uncounted table)) (fits : fits_i64 (pos n) ≡ true)
       (same : (x : X) → number (u x) ≡ number x) (row_number : (x : X) → rowid (row x) ≡ Int (pos (number x)))
       (long : (x : X) → 10 ^ 9 < size (row x) → IsTooLong (cells x))

@@ -29,11 +29,11 @@ use Rattle.guard_sql.specs.Told.{opening_fault}
 use Rattle.guard_sql.specs.Transactions.{Has}
 use Rattle.guard_sql.proofs.Answering.{has_failed}
 
--- a lawful scope is read again
+-- a valid scope is read back
 scope_again : (scope : Scope) → IsScope scope → scope_in (guard_row scope ∷ []) ≡ Ok scope
 scope_again scope is = rw (key_of_again scope.ca is.ca, is.serials) refl
 
--- so the rows of a guard say its scope
+-- so the scope in a guard's rows is its own
 said : (scope : Scope) (rows : List GuardRow) (r : Result Scope OpeningFault) → IsScope scope
     → IsPermutation (guard_row scope ∷ []) rows → r ≡ scope_in rows → r ≡ Ok scope
 said scope rows r is same told =
@@ -65,7 +65,7 @@ not_found old new Device fails cause = λ s guard means.
     (fails (guard_contents s) means, cause (guard_contents s) means)
 not_found old new Damaged fails cause = λ s guard means. cause (guard_contents s) means
 
--- what is open, at rest and has the rows stores them
+-- a connection that is open, at rest and has the rows durably represents the state
 pub made_stores : (c : Connection) (s : State)
     → ((trees : Trees) → IsTrue c.is_open → c.may_leave trees → trees ≡ c.committed.trees) → IsTrue c.is_open
     → IsGuard s → c.step_limit ≡ None → HasGuard s c → Stores c s
@@ -75,7 +75,7 @@ made_stores c s settled is_open guard unlimited rests = record {
   crash = λ trees may. inl (subst (λ (t : Trees). Kept t (guard_contents s)) (sym (settled trees is_open may)) rests.committed.kept);
 }
 
--- what is unchanged stores what it had
+-- an unchanged connection durably represents the state that it had
 pub opened_stores : (old new : Connection) (s : State)
     → ((trees : Trees) → IsTrue new.is_open → new.may_leave trees → trees ≡ new.committed.trees) → IsUnchanged old new
     → Survives old new Never → old.step_limit ≡ None → IsGuard s → HasGuard s old → Stores new s
@@ -96,14 +96,14 @@ excused old new refused Damaged unlimited was never cause = cause
 excused old new refused Device unlimited was never (inl failed) = has_failed old new unlimited was failed
 excused old new refused Device unlimited was never (inr why) = absurd (never why)
 
--- ---- what rows say, whatever they are
+-- ---- rows of any content
 
 abbrev scope_if : GuardRow → Option (List ℕ) → Bool → Result Scope OpeningFault
 scope_if row None b = Err fault.Damaged
 scope_if row (Some key) b =
     if b then Ok (record { ca = key; first = row.first; last = row.last }) else Err fault.Damaged
 
--- nothing that rows say is want of memory or a failure
+-- an answer from the rows is neither a lack of memory nor a failure
 abbrev IsOfRows : Result Scope OpeningFault → Type 0
 IsOfRows (Ok scope) = Unit {0}
 IsOfRows (Err fault.NoMemory) = ⊥
@@ -139,7 +139,7 @@ says_of rows failed (Err fault.AlreadyAGuard) of is = is
 says_of rows failed (Err fault.NotAGuard) of is = is
 says_of rows failed (Err fault.WrongSchema) of is = is
 
--- the order of the rows is nothing
+-- the order of the rows doesn't matter
 in_order : (xs ys : List GuardRow) → IsPermutation xs ys → scope_in xs ≡ scope_in ys
 in_order [] ys same = ap scope_in (sym (void ys same))
 in_order (x ∷ []) ys same = ap scope_in (sym (sole x ys same))

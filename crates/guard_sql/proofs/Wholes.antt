@@ -12,7 +12,7 @@ use Rattle.guard_sql.proofs.Causes.{cause_of, stops_for}
 use Rattle.guard_sql.proofs.Steps.{ends, left}
 use Rattle.guard_sql.proofs.TransactionParts.{written}
 
--- what is concluded leaves no transaction open
+-- a concluded transaction isn't open any more
 concluded : (r q : Result (Unit {0}) Fault) (c d : State) → Concludes r c d q → d.in_transaction ≡ false
 concluded (Ok x) (Ok y) c d told = told.1.mode
 concluded (Ok x) (Err e) c d told = told.autocommit

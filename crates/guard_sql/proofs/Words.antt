@@ -1,4 +1,4 @@
--- The words of the libraries and of the definitions that several proof files speak.
+-- Names from the libraries and the definitions, for several proof files.
 pub use Rattle.sqlite.proofs.Callers.{IsPlain, command_of, one_step, reads_as, runs_as, statement_of, unchanged_then}
 pub use Rattle.sqlite.proofs.StateLemmas.{survives_then}
 pub use Rattle.sqlite.specs.Calls.{IsWrite}
@@ -122,7 +122,8 @@ pub use Rattle.guard_sql.specs.Calls.{Finds, FindsIn, FindsOne, FindsSuch, Grown
 pub use Rattle.guard_sql.specs.Calls.{OnlyReads, Stays, Steps, WaitsAt}
 pub use Rattle.guard_sql.specs.Cells.{approval_cells, guard_cells}
 pub use Rattle.guard_sql.specs.Changes.{approved_under, ending_at, has_serial, with_approval, with_guard, with_last}
-pub use Rattle.guard_sql.specs.Contents.{Contents, Holds, IsFirstFrom, Kept, Means, approval_places, guard_places}
+pub use Rattle.guard_sql.specs.Contents.{Contents, Holds, IsFirstFrom, IsLeastFrom, Kept, Means, approval_places}
+pub use Rattle.guard_sql.specs.Contents.{guard_places}
 pub use Rattle.guard_sql.specs.Contents.{HasGuards, no_contents}
 pub use Rattle.guard_sql.specs.Kinds.{blob_in, number_in}
 pub use Rattle.guard_sql.specs.Refusals.{HasCauseOr, HasOne, IsTooLong, RefusedFor, RefusesApproval, RefusesGuard}

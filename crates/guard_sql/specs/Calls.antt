@@ -9,7 +9,7 @@ pub use Rattle.store_sql.specs.Calls.{Begins, Commits, Creates, Fails, FailsIn, 
 pub use Rattle.store_sql.specs.Calls.{IsOneOf, Never, OnlyReads, Stays, Undoes, WaitsAt}
 use Rattle.guard_sql.specs.Contents.{Contents, Kept, Means, no_contents}
 
--- the connection shows these contents; a transaction goes on, and outside one they are committed
+-- the connection shows these contents; an open transaction stays open, and outside of one they are committed
 pub record Steps (old new : State) (c : Contents) : Type 0 where
   pub was_open : IsTrue old.is_open
   pub is_open : IsTrue new.is_open
@@ -23,16 +23,16 @@ abbrev pub Changes : {X E : Type 0} → (Contents → Contents) → State → St
 Changes after old new (Ok x) = (c : Contents) → Means old.now c → Steps old new (after c)
 Changes after old new (Err e) = Fails old new
 
--- what is found is what the tables have, in some order, and nothing has changed; or the call fails
+-- the call finds what the tables have, in some order, and nothing has changed; or it fails
 abbrev pub Finds : {X E : Type 0} → (Contents → List X) → State → State → Result (Vec X Global) E → Type 0
 Finds of old new r = FindsIn (λ c db. Means db c) of old new r
 
--- one that is such is found, or none where that is such, and nothing has changed; or the call fails
+-- what is found, a struct or none, satisfies `Such`, and nothing has changed; or the call fails
 abbrev pub FindsSuch : {X E : Type 0} → (Contents → Option X → Type 0) → State → State → Result (Option X) E → Type 0
 FindsSuch Such old new (Ok found) = (c : Contents) → Means old.now c → IsUnchanged old new × Such c found
 FindsSuch Such old new (Err e) = (c : Contents) → Means old.now c → Fails old new
 
--- one of these is found, or none where there is none
+-- one of these is found, or none if there is none
 abbrev pub FindsOne : {X E : Type 0} → (Contents → List X) → State → State → Result (Option X) E → Type 0
 FindsOne of old new r = FindsSuch (λ c. IsOneOf (of c)) old new r
 
@@ -40,17 +40,17 @@ FindsOne of old new r = FindsSuch (λ c. IsOneOf (of c)) old new r
 abbrev pub MayLeave : (Contents → Contents) → State → Trees → Type 0
 MayLeave after old trees = (c : Contents) → Means old.now c → (old.in_transaction ≡ false) × Kept trees (after c)
 
--- on tables that mean something a fault has its cause
+-- a fault over tables with contents has its cause
 abbrev pub FailsBy : {X : Type 0} → (State → State → Fault → Type 0) → State → State → Result X Fault → Type 0
 FailsBy Cause old new r = FailsIn (λ c db. Means db c) Cause old new r
 
--- the tables are made, and no row is there; or, in a transaction, what was committed stays
+-- the tables are made, without rows; or, in a transaction, the committed database stays
 abbrev pub Completes : {X E : Type 0} → Schema → State → State → Result X E → Type 0
 Completes before old new (Ok x) = IsBare before old.now → Steps old new no_contents
 Completes before old new (Err e) = IsBare before old.now → IsTrue old.in_transaction → KeepsCommit old new
 
--- Of any tables: a look that answers changed nothing; else nothing has changed, or a transaction is undone, or the
--- connection is shut.
+-- For any tables: a look that returns an answer changed nothing. Otherwise nothing has changed, or a transaction is
+-- undone, or the connection is shut.
 abbrev pub OnlyLooks : {X E : Type 0} → State → State → Result X E → Type 0
 OnlyLooks old new (Ok x) = IsUnchanged old new
 OnlyLooks old new (Err e) = IsTrue new.is_open → Fails old new

@@ -1,4 +1,4 @@
--- What each write makes of the contents.
+-- The contents after each write.
 use Rattle.std.specs.Prelude.{ℕ, Bool, cond, ◌==◌, List, ◌∷◌, map, filter}
 use Rattle.guard_sql.specs.declared.guards.GuardRow.{GuardRow}
 use Rattle.guard_sql.specs.declared.approvals.ApprovalRow.{ApprovalRow}
@@ -12,7 +12,7 @@ with_guard g c = record c { guards = g ∷ c.guards }
 abbrev pub ending_at : ℕ → GuardRow → GuardRow
 ending_at last g = record g { last = last }
 
--- the guard of id 1 has this last serial
+-- the guard's row with id 1 has this last serial
 abbrev pub with_last : ℕ → Contents → Contents
 with_last last c = record c { guards = map (λ g. cond (g.id == 1) (ending_at last g) g) c.guards }
 

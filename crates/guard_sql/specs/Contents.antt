@@ -19,7 +19,7 @@ pub record Contents : Type 0 where
 abbrev pub no_contents : Contents
 no_contents = record { guards = []; approved = [] }
 
--- where the columns of each table are; an INTEGER PRIMARY KEY is the rowid
+-- the places of each table's columns in a row of its tree; an INTEGER PRIMARY KEY is the rowid
 abbrev pub guard_places : List ℕ
 guard_places = 0 ∷ 2 ∷ 3 ∷ 4 ∷ 5 ∷ []
 
@@ -31,23 +31,27 @@ pub record Holds (trees : Trees) (c : Contents) : Type 0 where
   pub guards : Lists guard_cells guard_places (trees 0) c.guards
   pub approved : Lists approval_cells approval_places (trees 1) c.approved
 
--- what is enough to find the contents again after an open
+-- this suffices to find the contents again after an open
 pub record Kept (trees : Trees) (c : Contents) : Type 0 where
   pub sound : IsSound whole trees
   pub holds : Holds trees c
 
--- the database has just a guard's tables, and they hold these contents
+-- the database has exactly a guard's tables, and they hold these contents
 pub record Means (db : Database) (c : Contents) : Type 0 where
   pub schema : db.schema ≡ whole
   pub kept : Kept db.trees c
 
--- the row is the one with this serial or the next higher one, or there is none
-abbrev pub IsFirstFrom : ℕ → List ApprovalRow → Option ApprovalRow → Type 0
-IsFirstFrom from rows (Some a) = Has rows a × (from ≤ a.serial)
-    × AllByRecursion (λ b. from ≤ b.serial → a.serial ≤ b.serial) rows
-IsFirstFrom from rows None = AllByRecursion (λ b. b.serial < from) rows
+-- the one with this serial, or else with the next higher one; or none has such a serial
+abbrev pub IsLeastFrom : {X : Type 0} → (serial : X → ℕ) → ℕ → List X → Option X → Type 0
+IsLeastFrom serial from rows (Some a) = Has rows a × (from ≤ serial a)
+    × AllByRecursion (λ b. from ≤ serial b → serial a ≤ serial b) rows
+IsLeastFrom serial from rows None = AllByRecursion (λ b. serial b < from) rows
 
--- the database has just a guard's tables, and that of the guard holds these rows, whatever the other holds
+-- the same for the rows of a guard
+abbrev pub IsFirstFrom : ℕ → List ApprovalRow → Option ApprovalRow → Type 0
+IsFirstFrom from rows found = IsLeastFrom (λ (a : ApprovalRow). a.serial) from rows found
+
+-- the database has exactly a guard's tables, and the guard's own holds these rows, whatever the other holds
 pub record HasGuards (rows : List GuardRow) (db : Database) : Type 0 where
   pub schema : db.schema ≡ whole
   pub holds : Lists guard_cells guard_places (db.trees 0) rows

@@ -11,16 +11,16 @@ use Rattle.guard_sql.specs.Contents.{Contents}
 use Rattle.guard_sql.specs.Refusals.{HasCauseOr}
 use Rattle.guard_sql.specs.Transactions.{DoesIn, Ends, Leaves, Rests}
 
--- a fault of the whole has its cause, or is this refusal
+-- a fault of the whole transaction has its cause, or comes from this refusal
 abbrev pub FailsOnBlank : Type 0 → State → State → Result (Unit {0}) Fault → Type 0
 FailsOnBlank refused old new r = Rests (IsBare no_schema) old → IfErr r (HasCauseOr refused old new)
 
--- the tables are made there, and hold these contents; or it fails, perhaps because this is refused
+-- in a database without tables they are made, and hold these contents; or the call fails, perhaps by this refusal
 abbrev pub DoesOnBlank : {S : Type 0} → Ghosts S → Contents → Type 0 → Held S → Held S → Result (Unit {0}) Fault
     → Type 0
 DoesOnBlank g c refused old new r = DoesIn g (λ (_ : Unit {0}). IsBare no_schema) (λ _. c) (λ _. refused) old new r
 
--- in a transaction of its own they are made, or all is as before
+-- in a transaction of its own the tables are made, or everything is as before
 abbrev pub EndsOnBlank : Contents → State → State → Result (Unit {0}) Fault → Type 0
 EndsOnBlank c old new r = Ends (λ _. IsBare no_schema) (λ _ _. Unit {0}) (λ (_ : Unit {0}). c) old new r
 

@@ -13,12 +13,12 @@ use Rattle.guard_sql.specs.Contents.{Kept}
 use Rattle.guard_sql.specs.Rows.{guard_contents}
 use Rattle.guard_sql.specs.Transactions.{Has, Rests}
 
--- a CA's key of 32 bytes, and serials from 1 to 9223372036854775806, in order
+-- a CA's key of 32 bytes, and a range of serials within 1 to 9223372036854775806
 pub record IsScope (scope : Scope) : Type 0 where
   pub ca : length scope.ca ≡ 32
   pub serials : IsTrue (are_serials scope.first scope.last)
 
--- what tables may keep: a lawful scope, and serials that a column holds
+-- what tables may keep: a valid scope, and serials that a column can hold
 pub record IsGuard (s : State) : Type 0 where
   pub scope : IsScope s.scope
   pub numbers : AllByRecursion (λ a. a.serial < 2 ^ 63) s.approved
@@ -27,15 +27,15 @@ pub record IsGuard (s : State) : Type 0 where
 abbrev pub HasGuard : State → Connection → Type 0
 HasGuard s c = Rests (Has (guard_contents s)) c
 
--- The state is lawful, no query has a limit on its steps, no transaction is open, and where no failed disk has shut the
--- connection the tables hold the rows of the state.
+-- The state is valid, no query has a limit on its steps, no transaction is open, and unless a failed disk has shut the
+-- connection, the tables hold the rows of the state.
 pub record Keeps (c : Connection) (s : State) : Type 0 where
   pub guard : IsGuard s
   pub unlimited : c.step_limit ≡ None
   pub autocommit : c.in_transaction ≡ false
   pub rows : IsTrue c.is_open → HasGuard s c
 
--- what a crash leaves now are the tables of the one state or of the other
+-- a crash now leaves the tables of the one state or of the other
 abbrev pub Leaves : Connection → State → State → Type 0
 Leaves c s t = (trees : Trees) → c.may_leave trees → Kept trees (guard_contents s) ⊎ Kept trees (guard_contents t)
 
@@ -47,13 +47,13 @@ HasFailed c = (0 < c.faults) ⊎ (c.is_open ≡ false)
 abbrev pub IsBlank : Connection → Type 0
 IsBlank c = Rests (IsBare no_schema) c
 
--- what is open keeps the state, and a crash leaves it
+-- the connection is open and keeps the state, and a crash leaves it
 pub record Stores (c : Connection) (s : State) : Type 0 where
   pub keeps : Keeps c s
   pub is_open : IsTrue c.is_open
   pub crash : Leaves c s s
 
--- of what an open connection keeps two rows of one serial are the same
+-- in every state that an open connection keeps, two rows with one serial are the same
 abbrev pub HasOneBodyASerial : Connection → Type 0
 HasOneBodyASerial c =
     (s : State) → Keeps c s → IsTrue c.is_open → (a b : Approved) → Contains s.approved a → Contains s.approved b

@@ -17,33 +17,33 @@ use Rattle.guard_sql.specs.Keeping.{HasFailed, HasGuard, IsBlank, IsGuard, Store
 use Rattle.guard_sql.specs.Rows.{guard_contents}
 use Rattle.guard_sql.specs.Transactions.{Leaves as LeavesAfter}
 
--- ---- what a row says
+-- ---- the scope in a row
 
--- the scope that a row of this schema says, with this key; else it is damaged
+-- the scope in a row of this schema, with this key; else the row is damaged
 abbrev pub scope_with : GuardRow → Option (List ℕ) → Result Scope OpeningFault
 scope_with row None = Err fault.Damaged
 scope_with row (Some key) =
     if are_serials row.first row.last then Ok (record { ca = key; first = row.first; last = row.last })
     else Err fault.Damaged
 
--- of a guard's table there is one row, of schema 1
+-- a guard's table has one row, of schema 1
 abbrev pub scope_in : List GuardRow → Result Scope OpeningFault
 scope_in [] = Err fault.NotAGuard
 scope_in (row ∷ []) = if row.schema == 1 then scope_with row (key_of row.ca) else Err fault.WrongSchema
 scope_in (row ∷ other ∷ rows) = Err fault.NotAGuard
 
--- of a guard's table with these rows it is found what they say, or memory is refused, or this failed
+-- the answer is the scope or the fault in these rows; or memory is refused, or there was this failure
 abbrev pub Says : List GuardRow → Type 0 → Result Scope OpeningFault → Type 0
 Says rows failed (Ok scope) = scope_in rows ≡ Ok scope
 Says rows failed (Err fault.NoMemory) = Unit {0}
 Says rows failed (Err fault.Device) = failed
 Says rows failed (Err e) = scope_in rows ≡ Err e
 
--- so it is of each database with a guard's tables
+-- the same for every database with a guard's tables
 abbrev pub SaysUnless : Connection → Connection → Result Scope OpeningFault → Type 0
 SaysUnless old new r = (rows : List GuardRow) → HasGuards rows old.now → Says rows (SqlFailed old new) r
 
--- of tables that hold a guard its scope is found, and nothing has changed; or the call fails, for want of memory or
+-- if the tables hold a guard, its scope is found, and nothing has changed; or the call fails, for lack of memory or
 -- because the database failed
 abbrev pub FindsScope : Connection → Connection → Result Scope OpeningFault → Type 0
 FindsScope old new (Ok scope) =
@@ -55,11 +55,11 @@ FindsScope old new (Err e) = (s : State) → IsGuard s → Means old.now (guard_
 
 -- ---- an open
 
--- of tables that hold a guard: this is its scope, and they keep it
+-- if the tables hold a guard, this is its scope, and they keep the guard
 abbrev pub Finds : Scope → Connection → Connection → Type 0
 Finds scope old new = (s : State) → IsGuard s → HasGuard s old → (scope ≡ s.scope) × Stores new s
 
--- a fault is want of memory, or a failure of the database, and no other
+-- the fault is a lack of memory or a failure of the database, and no other
 abbrev pub IsExcused : Connection → OpeningFault → Type 0
 IsExcused new fault.NoMemory = Unit {0}
 IsExcused new fault.Device = HasFailed new
@@ -68,18 +68,18 @@ IsExcused new fault.AlreadyAGuard = ⊥
 IsExcused new fault.NotAGuard = ⊥
 IsExcused new fault.WrongSchema = ⊥
 
--- so it is of tables that hold a guard, which stays
+-- so it is if the tables hold a guard, and the guard stays
 abbrev pub Misses : Connection → Connection → OpeningFault → Type 0
 Misses old new e =
     (s : State) → IsGuard s → HasGuard s old → IsExcused new e × (IsTrue new.is_open → HasGuard s new)
 
 -- ---- a new guard
 
--- a database without tables keeps a guard that has approved nothing yet
+-- a database without tables then keeps a guard that has approved nothing yet
 abbrev pub Founds : Scope → Connection → Connection → Type 0
 Founds scope old new = IsBlank old → Stores new (opened scope)
 
--- one without tables still is, and the fault is want of memory, or a failure of the database
+-- a database without tables still has none, and the fault is a lack of memory or a failure of the database
 abbrev pub FoundsNone : Connection → Connection → OpeningFault → Type 0
 FoundsNone old new e = IsBlank old → IsExcused new e × (IsTrue new.is_open → IsBlank new)
 

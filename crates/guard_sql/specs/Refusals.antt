@@ -1,4 +1,4 @@
--- When the tables refuse what is to be written.
+-- When the tables refuse a write.
 use Rattle.std.specs.Prelude.{◌≡◌, ◌⊎◌, ℕ, IfErr, Result}
 use Rattle.sqlite.specs.State.{State}
 use Rattle.store_sql.specs.declared.table_fault.Fault.{Fault}
@@ -9,18 +9,18 @@ use Rattle.guard_sql.specs.Cells.{approval_cells, guard_cells}
 use Rattle.guard_sql.specs.Changes.{ending_at}
 use Rattle.guard_sql.specs.Contents.{Contents, Means}
 
--- its number is taken, or it is too long
+-- the row's id is taken, or the row is too long
 abbrev pub RefusesGuard : GuardRow → Contents → Type 0
 RefusesGuard g c = HasOne (λ h. h.id ≡ g.id) c.guards ⊎ IsTooLong (guard_cells g)
 
--- the guard is too long with this last serial
+-- the guard's row is too long with this last serial
 abbrev pub RefusesLast : ℕ → Contents → Type 0
 RefusesLast last c = HasOne (λ g. (g.id ≡ 1) × IsTooLong (guard_cells (ending_at last g))) c.guards
 
--- its serial is taken, or it is too long
+-- the row's serial is taken, or the row is too long
 abbrev pub RefusesApproval : ApprovalRow → Contents → Type 0
 RefusesApproval a c = HasOne (λ b. b.serial ≡ a.serial) c.approved ⊎ IsTooLong (approval_cells a)
 
--- on tables that mean something a fault is want of memory, or a failure of the database, or what these contents refuse
+-- over tables with contents a fault is a lack of memory, a failure of the database, or what these contents refuse
 abbrev pub RefusedFor : {X : Type 0} → (Contents → Type 0) → State → State → Result X Fault → Type 0
 RefusedFor Refuses old new r = IfErr r (λ f. (c : Contents) → Means old.now c → HasCauseOr (Refuses c) old new f)

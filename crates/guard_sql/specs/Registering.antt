@@ -8,7 +8,7 @@ use Rattle.guard.specs.Judged.{HasCause}
 use Rattle.guard.specs.State.{State}
 use Rattle.guard_sql.specs.Keeping.{HasFailed, Keeps, Leaves}
 
--- a reading call shows this of what is kept
+-- a reading call returns this of the state that is kept
 pub record Shows {X : Type 0} (Shown : State → X → Type 0) (old new : Connection) (r : Result X RegisterFault) : Type 0
   where
     pub honest : HasCleanDisk new → HasCleanDisk old
@@ -17,11 +17,11 @@ pub record Shows {X : Type 0} (Shown : State → X → Type 0) (old new : Connec
     pub crash : HasCleanDisk new → (s : State) → Keeps old s → Leaves old s s → Leaves new s s
     pub cause : HasCleanDisk new → (s : State) → Keeps old s → IfErr r (λ e. HasCause e (HasFailed new))
 
--- of a connection
+-- the same for a connection
 abbrev pub ShowsOf : {S X : Type 0} → Ghosts S → (State → X → Type 0) → Held S → Held S → Result X RegisterFault → Type 0
 ShowsOf g Shown old new r = Shows Shown (state g old) (state g new) r
 
--- a writing call leads to this, where it may; there is room for it where this holds
+-- a writing call leads to the state `after`, if `May` holds; there is room for it if `Room` holds
 pub record Leads (May : State → Type 0) (Room : Type 0) (after : State → State) (old new : Connection)
     (r : Result (Unit {0}) RegisterFault) : Type 0 where
   pub honest : HasCleanDisk new → HasCleanDisk old
@@ -32,7 +32,7 @@ pub record Leads (May : State → Type 0) (Room : Type 0) (after : State → Sta
   pub cause : HasCleanDisk new → (s : State) → Keeps old s → May s → Room
       → IfErr r (λ e. HasCause e (HasFailed new))
 
--- of a connection
+-- the same for a connection
 abbrev pub LeadsOf : {S : Type 0} → Ghosts S → (State → Type 0) → Type 0 → (State → State) → Held S → Held S
     → Result (Unit {0}) RegisterFault → Type 0
 LeadsOf g May Room after old new r = Leads May Room after (state g old) (state g new) r

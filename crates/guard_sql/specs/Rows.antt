@@ -1,4 +1,4 @@
--- The rows of a guard: what the tables hold of a state.
+-- The rows of a guard: how the tables represent a state.
 use Rattle.std.specs.Prelude.{List, [], ◌∷◌, fold}
 use Rattle.lines.specs.Keys.{key_blob}
 use Rattle.guard.specs.declared.approved.Approved.{Approved}
@@ -8,7 +8,7 @@ use Rattle.guard_sql.specs.declared.guards.GuardRow.{GuardRow}
 use Rattle.guard_sql.specs.declared.approvals.ApprovalRow.{ApprovalRow}
 use Rattle.guard_sql.specs.Contents.{Contents}
 
--- the one row of the guard, of schema 1
+-- the one row of the guard's own table, of schema 1
 abbrev pub guard_row : Scope → GuardRow
 guard_row s = record { id = 1; schema = 1; ca = key_blob s.ca; first = s.first; last = s.last }
 

@@ -22,7 +22,7 @@ through_guard = created no_schema guard
 abbrev pub whole : Schema
 whole = created through_guard approved
 
--- the tables at their trees
+-- each table with the number of its tree
 abbrev pub guard_at : Table
 guard_at = record guard { tree = 0 }
 

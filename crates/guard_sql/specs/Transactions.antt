@@ -1,4 +1,4 @@
--- What a part of a transaction does to the connection, and what the whole of one does.
+-- What a part of a transaction does to the connection, and what a whole one does.
 use Rattle.std.specs.Prelude.{◌≡◌, false, true, IfErr, IsTrue, OnErr, Result, Ok, Err}
 use Rattle.sqlite_trees.specs.declared.store.Store.{Ghosts}
 use Rattle.sqlite.specs.Tree.{Trees}
@@ -11,7 +11,7 @@ use Rattle.store_sql.specs.declared.table_fault.Fault.{Fault}
 use Rattle.store_sql.specs.Faults.{HasCause}
 use Rattle.guard_sql.specs.Refusals.{HasCauseOr}
 
--- no transaction is open, and this holds of the database
+-- no transaction is open, and the database satisfies `P`
 pub record Rests (P : Database → Type 0) (s : State) : Type 0 where
   pub autocommit : s.in_transaction ≡ false
   pub now : P s.now
@@ -31,28 +31,28 @@ pub record Goes (old new : State) (c : Contents) : Type 0 where
   pub committed : IsTrue old.in_transaction → new.committed ≡ old.committed
   pub mode : new.in_transaction ≡ old.in_transaction
 
--- Of a database that is as one of these says: what is due is answered, and the tables hold what comes after it; or it
--- fails, and nothing is committed.
+-- In a database that satisfies `Before` the specified answer is returned, and the tables hold the contents `after`; or
+-- it fails, and nothing is committed.
 abbrev pub Answers : {A X E : Type 0} → (A → Database → Type 0) → (A → X → Type 0) → (A → Contents) → State → State
     → Result X E → Type 0
 Answers {A} Before Due after old new (Ok x) = (a : A) → Before a old.now → Due a x × Goes old new (after a)
 Answers {A} Before Due after old new (Err e) =
     (a : A) → Before a old.now → IsTrue old.in_transaction → KeepsCommit old new
 
--- it answers nothing but that it is done
+-- a part that returns no value
 abbrev pub Makes : {A X E : Type 0} → (A → Database → Type 0) → (A → Contents) → State → State → Result X E → Type 0
 Makes Before after old new r = Answers Before (λ _ _. Unit {0}) after old new r
 
--- of a database that is as one of these says a fault is want of memory, or a failure of the database, or this refusal
+-- in a database that satisfies `Before` a fault is a lack of memory, a failure of the database, or this refusal
 abbrev pub FailsFor : {A X : Type 0} → (A → Database → Type 0) → (A → Type 0) → State → State → Result X Fault → Type 0
 FailsFor {A} Before Refused old new r = IfErr r (λ f. (a : A) → Before a old.now → HasCauseOr (Refused a) old new f)
 
--- a crash in its midst leaves what was committed before
+-- a crash in the middle of it leaves the database that was committed before
 abbrev pub Waits : {A : Type 0} → (A → Database → Type 0) → State → Trees → Type 0
 Waits {A} Before old trees = (a : A) → Before a old.now → old.in_transaction ≡ false
 
--- All of it, of a database that is as one of these says: the tables hold what comes after it, or it fails, perhaps
--- because this is refused.
+-- All of this in a database that satisfies `Before`: the tables hold the contents `after`, or it fails, perhaps by this
+-- refusal.
 pub record Part {A X : Type 0} (Before : A → Database → Type 0) (after : A → Contents) (refused : A → Type 0)
     (old new : State) (r : Result X Fault) : Type 0 where
   pub makes : HasCleanDisk new → Makes Before after old new r
@@ -60,55 +60,55 @@ pub record Part {A X : Type 0} (Before : A → Database → Type 0) (after : A �
   pub stays : HasCleanDisk new → Stays old new r
   pub survives : Survives old new (Waits Before old)
 
--- of a connection
+-- the same for a connection
 abbrev pub DoesIn : {S A X : Type 0} → Ghosts S → (A → Database → Type 0) → (A → Contents) → (A → Type 0) → Held S
     → Held S → Result X Fault → Type 0
 DoesIn g Before after refused old new r = Part Before after refused (state g old) (state g new) r
 
--- of a connection, and of tables with contents
+-- the same for a connection to tables with contents
 abbrev pub Does : {S X : Type 0} → Ghosts S → (Contents → Contents) → (Contents → Type 0) → Held S → Held S
     → Result X Fault → Type 0
 Does g f refused old new r = DoesIn g Has f refused old new r
 
 -- ---- its end
 
--- no transaction is open, and the database is what was committed
+-- no transaction is open, and the database is the committed one
 pub record HasEnded (old new : State) : Type 0 where
   pub autocommit : new.in_transaction ≡ false
   pub was_open : IsTrue new.is_open → IsTrue old.is_open
   pub now : IsTrue new.is_open → new.now ≡ old.committed
   pub committed : IsTrue new.is_open → new.committed ≡ old.committed
 
--- the transaction is committed, or nothing of it stays
+-- the transaction is committed, or undone
 abbrev pub Closes : {X : Type 0} → State → State → Result X Fault → Type 0
 Closes old new (Ok x) = Shows old new old.now old.now false
 Closes old new (Err e) = HasEnded old new
 
--- a commit of an open transaction that fails has its cause
+-- a failed commit of an open transaction has its cause
 abbrev pub ClosesFor : {X : Type 0} → State → State → Result X Fault → Type 0
 ClosesFor old new r = old.in_transaction ≡ true → IfErr r (HasCause old new)
 
--- what was answered is answered on, and is committed; or nothing is
+-- an answer is passed on, and its transaction committed; or nothing of it is
 abbrev pub Concludes : {X E : Type 0} → Result X E → State → State → Result X E → Type 0
 Concludes (Ok x) old new (Ok y) = (y ≡ x) × Shows old new old.now old.now false
 Concludes (Ok x) old new (Err e) = HasEnded old new
 Concludes (Err e) old new (Ok x) = ⊥
 Concludes (Err e) old new (Err f) = (f ≡ e) × HasEnded old new
 
--- so has one of what was answered
+-- the same for a commit after an answer
 abbrev pub EndsFor : {X : Type 0} → Result X Fault → State → State → Result X Fault → Type 0
 EndsFor (Ok x) old new r = ClosesFor old new r
 EndsFor (Err e) old new r = Unit {0}
 
--- what a crash may leave once it is answered: what is committed, if anything is
+-- what a crash may leave after the answer: the database that is to be committed, if there is an answer
 abbrev pub LeavesAnswered : {X E : Type 0} → Result X E → State → Trees → Type 0
 LeavesAnswered (Ok x) old trees = trees ≡ old.now.trees
 LeavesAnswered (Err e) old trees = ⊥
 
 -- ---- the whole
 
--- Of a database at rest that is as one of these says: what is due is answered, and the tables then hold what comes
--- after it; or all is as before. Only a failed disk shuts the connection, and a shut one answers nothing.
+-- In a database at rest that satisfies `Before` the specified answer is returned, and the tables then hold the contents
+-- `after`; or everything is as before. Only a failed disk shuts the connection, and a shut one returns no answer.
 abbrev pub Ends : {A X E : Type 0} → (A → Database → Type 0) → (A → X → Type 0) → (A → Contents) → State → State
     → Result X E → Type 0
 Ends {A} Before Due after old new (Ok x) =
@@ -117,34 +117,34 @@ Ends {A} Before Due after old new (Ok x) =
 Ends {A} Before Due after old new (Err e) =
     IsTrue new.is_open → IsTrue old.is_open × ((a : A) → Rests (Before a) old → Rests (Before a) new)
 
--- of a database at rest that is as one of these says, if the connection is open, a fault of the whole is want of
--- memory, or a failure of the database, or this refusal
+-- a fault of the whole is a lack of memory, a failure of the database, or this refusal, provided that the database of
+-- an open connection is at rest and satisfies `Before`
 abbrev pub StopsFor : {A : Type 0} → (A → Database → Type 0) → (A → Type 0) → State → State → Fault → Type 0
 StopsFor {A} Before Refused old new f =
     (a : A) → (IsTrue old.is_open → Rests (Before a) old) → HasCauseOr (Refused a) old new f
 
--- no transaction is open, and what the connection shows is committed
+-- no transaction is open, and the database that the connection shows is committed
 abbrev pub IsAtRest : State → Type 0
 IsAtRest s = (s.in_transaction ≡ false) × (s.now ≡ s.committed)
 
--- A database at rest is the same, whatever its tables mean, unless a failed disk has shut the connection.
+-- A database at rest is the same, whatever its tables hold, unless a failed disk has shut the connection.
 pub record IsAsBefore (old new : State) : Type 0 where
   pub was_open : IsTrue new.is_open → IsTrue old.is_open
   pub rest : IsTrue new.is_open → IsAtRest old → IsAtRest new
   pub same : IsTrue new.is_open → IsAtRest old → new.now ≡ old.now
 
--- where it fails, all is as before
+-- if it fails, everything is as before
 abbrev pub KeepsOnErr : {X E : Type 0} → State → State → Result X E → Type 0
 KeepsOnErr old new r = OnErr r (IsAsBefore old new)
 
--- what a crash in the midst of it may leave, beside what was there before: all that comes after it, where the
--- connection was open
+-- what a crash in the middle of it may leave, apart from what was there before: the contents `after`, if the connection
+-- was open
 abbrev pub Leaves : {A : Type 0} → (A → Database → Type 0) → (A → Contents) → State → Trees → Type 0
 Leaves {A} Before after old trees = IsTrue old.is_open × ((a : A) → Rests (Before a) old → Kept trees (after a))
 
 -- ---- one write in a transaction of its own
 
--- All of it, of tables with contents: they hold what comes after it, or it fails, perhaps because this is refused. No
+-- All of this for tables with contents: they hold the contents `after`, or it fails, perhaps by this refusal. No
 -- transaction is open after it.
 pub record Whole (after : Contents → Contents) (refused : Contents → Type 0) (old new : State)
     (r : Result (Unit {0}) Fault) : Type 0 where
@@ -153,7 +153,7 @@ pub record Whole (after : Contents → Contents) (refused : Contents → Type 0)
   pub cause : HasCleanDisk new → old.in_transaction ≡ false → IfErr r (StopsFor Has refused old new)
   pub survives : Survives old new (Leaves Has after old)
 
--- of a connection
+-- the same for a connection
 abbrev pub WritesWhole : {S : Type 0} → Ghosts S → (Contents → Contents) → (Contents → Type 0) → Held S → Held S
     → Result (Unit {0}) Fault → Type 0
 WritesWhole g after refused old new r = Whole after refused (state g old) (state g new) r

@@ -4,7 +4,7 @@ ghost use Rattle.store_sql.specs.Honest.{On};
 ghost use Rattle.guard_sql.specs.Calls.{FindsOne, FindsSuch};
 ghost use Rattle.guard_sql.specs.Changes.{approved_under, with_approval};
 ghost use Rattle.guard_sql.specs.Contents.{IsFirstFrom};
-ghost use Rattle.guard_sql.specs.Damage.{SaysRowUnless};
+ghost use Rattle.guard_sql.specs.Damage.{SaysFirstUnless, SaysRowUnless};
 ghost use Rattle.guard_sql.specs.Refusals.{RefusesApproval};
 ghost use Rattle.guard_sql.specs.Statements.{Reads, Writes};
 
@@ -19,13 +19,13 @@ use std::alloc::Global;
 use store_sql::{Fault, Number};
 use text::Text;
 
-/// A body that was approved.
+/// An approved body: an unsigned certificate.
 #[derive(Drop)]
 pub(crate) struct ApprovalRow {
     pub serial: Number,
     /// When it was approved, in seconds since 1970-01-01 00:00:00 UTC.
     pub moment: Number,
-    /// All that is signed.
+    /// The bytes that are signed.
     pub body: Text,
 }
 
@@ -70,7 +70,7 @@ impl Columns for ApprovalRow {
     }
 }
 
-/// Keeps an approved body. `Device` also where its serial is taken, or the row is too long.
+/// Stores an approved body. `Device` also if its serial is taken, or the row is too long.
 pub(crate) fn insert_approval<S: Alter>(
     conn: &mut Connection<S>,
     approval: &ApprovalRow,
@@ -80,7 +80,7 @@ pub(crate) fn insert_approval<S: Alter>(
     done(conn.execute(INSERT_APPROVED, &approval.values()))
 }
 
-/// The body that was approved under this serial, if there is one. `Damaged` where its row has another form.
+/// The body that was approved under this serial, if there is one. `Damaged` if its row has another form.
 pub(crate) fn find_approval<S: Alter>(
     alloc: Global,
     conn: &mut Connection<S>,
@@ -88,20 +88,23 @@ pub(crate) fn find_approval<S: Alter>(
 ) -> Result<Option<ApprovalRow>, Fault>
     ensures reads { Reads S.Store (FindsOne (approved_under serial)) conn.old conn.new result }
 
-    // Whatever rows the table holds, it is answered what those of the serial say.
+    // Whatever rows the table holds, the answer is what those with the serial say.
     ensures says { On S.Store (SaysRowUnless serial) conn.old conn.new result }
 {
     found_first(alloc, conn.query_all(FIND_APPROVED, &[value_of(serial)]))
 }
 
-/// The body that was approved under this serial, or else under the next higher one that has a body. `Damaged` where its
+/// The body that was approved under this serial, or else under the next higher one that has a body. `Damaged` if its
 /// row has another form.
 pub(crate) fn first_approval_from<S: Alter>(
     alloc: Global,
     conn: &mut Connection<S>,
     serial: Number,
 ) -> Result<Option<ApprovalRow>, Fault>
-    ensures { Reads S.Store (FindsSuch (λ c. IsFirstFrom serial c.approved)) conn.old conn.new result }
+    ensures reads { Reads S.Store (FindsSuch (λ c. IsFirstFrom serial c.approved)) conn.old conn.new result }
+
+    // Whatever rows the table holds, the answer is what the first one from there on says.
+    ensures says { On S.Store (SaysFirstUnless serial) conn.old conn.new result }
 {
     found_first(alloc, conn.query_all(FROM_APPROVED, &[value_of(serial)]))
 }

@@ -12,10 +12,10 @@ use store_sql::Fault;
 
 /// A struct of the columns of a row.
 pub(crate) trait Columns: Sized + Drop {
-    /// The row that it is.
+    /// The row of these columns.
     ghost cells: { Self → SqlRow };
 
-    /// Whether a row is one of these.
+    /// Whether a row has these columns.
     ghost is_row: { SqlRow → Bool };
 
     fn is_row(row: &Row) -> bool
@@ -76,7 +76,7 @@ pub(crate) fn read_first<T: Columns>(alloc: Global, rows: &[Row]) -> Result<Opti
     }
 }
 
-/// What a query finds, as structs.
+/// The rows that a query finds, as structs.
 pub(crate) fn found<T: Columns>(
     alloc: Global,
     answer: Result<Vec<Row>, Error>,
@@ -89,7 +89,7 @@ pub(crate) fn found<T: Columns>(
     }
 }
 
-/// The first of what a query finds, as a struct.
+/// The first row that a query finds, as a struct.
 pub(crate) fn found_first<T: Columns>(
     alloc: Global,
     answer: Result<Vec<Row>, Error>,

@@ -20,10 +20,10 @@ use std::alloc::Global;
 use store_sql::{Fault, Number, begin};
 use text::{NoMemory, Text};
 
-/// The schema that is made, and the only one that is opened.
+/// The version of the schema that is made, and the only one that is opened.
 pub(crate) const SCHEMA: u64 = 1;
 
-/// The number as a column holds it.
+/// The number, as a column can hold it.
 fn number(value: u64) -> Number
     requires { value < 2 ^ 63 }
     ensures { result ≡ value }
@@ -71,7 +71,7 @@ fn make_whole<S: Alter>(conn: &mut Connection<S>, guard: &GuardRow) -> Result<()
     }
 }
 
-/// Makes the tables of a guard of this scope in a database without tables, all of them or none.
+/// Makes the tables of a guard with this scope in a database without tables, both or none.
 pub(crate) fn create<S: Alter>(
     alloc: Global,
     conn: &mut Connection<S>,

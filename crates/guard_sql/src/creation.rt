@@ -1,4 +1,4 @@
-//! The tables themselves.
+//! The two tables, without rows.
 
 ghost use Rattle.std.specs.Prelude.{◌≡◌};
 ghost use Rattle.store_sql.specs.Schema.{no_schema};
@@ -11,7 +11,7 @@ use crate::sql::{CREATE_APPROVED, CREATE_GUARD};
 use sqlite::{Alter, Connection};
 use store_sql::Fault;
 
-/// Makes the table of the guard in a database that has none.
+/// Makes the guard's own table in a database without tables.
 fn create_guard<S: Alter>(conn: &mut Connection<S>) -> Result<(), Fault>
     ensures creates { On S.Store (Creates no_schema guard) conn.old conn.new result }
     ensures fault { On S.Store (FailsWhere (λ s. s.now.schema ≡ no_schema)) conn.old conn.new result }
@@ -21,7 +21,7 @@ fn create_guard<S: Alter>(conn: &mut Connection<S>) -> Result<(), Fault>
     done(conn.execute(CREATE_GUARD, &[]))
 }
 
-/// Makes the table of approved bodies beside that of the guard.
+/// Makes the table of approved bodies after the guard's own.
 fn create_approved<S: Alter>(conn: &mut Connection<S>) -> Result<(), Fault>
     ensures creates { On S.Store (Creates through_guard approved) conn.old conn.new result }
     ensures fault { On S.Store (FailsWhere (λ s. s.now.schema ≡ through_guard)) conn.old conn.new result }
@@ -31,7 +31,7 @@ fn create_approved<S: Alter>(conn: &mut Connection<S>) -> Result<(), Fault>
     done(conn.execute(CREATE_APPROVED, &[]))
 }
 
-/// Makes both tables of a guard in a database that has none. Where that fails in a transaction, nothing of it is
+/// Makes both tables of a guard in a database without tables. If that fails in a transaction, nothing of it is
 /// committed.
 pub(crate) fn create_tables<S: Alter>(conn: &mut Connection<S>) -> Result<(), Fault>
     ensures completes { On S.Store (Completes no_schema) conn.old conn.new result }

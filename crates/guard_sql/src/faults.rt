@@ -1,4 +1,4 @@
-//! Faults of the tables as faults of the register and of an opening.
+//! Faults of the tables, as the register and an open report them.
 
 ghost use Rattle.std.specs.Prelude.{◌≡◌};
 ghost use Rattle.guard_sql.specs.Told.{opening_fault, register_fault};
@@ -7,7 +7,7 @@ use crate::opening_fault::OpeningFault;
 use guard::RegisterFault;
 use store_sql::Fault;
 
-/// The register's fault of a fault of the tables.
+/// The register's fault for a fault of the tables.
 pub(crate) fn register_fault(fault: Fault) -> RegisterFault
     ensures { result ≡ register_fault fault }
 {
@@ -18,7 +18,7 @@ pub(crate) fn register_fault(fault: Fault) -> RegisterFault
     }
 }
 
-/// An opening's fault of a fault of the tables.
+/// The fault of an open for a fault of the tables.
 pub(crate) fn opening_fault(fault: Fault) -> OpeningFault
     ensures { result ≡ opening_fault fault }
 {

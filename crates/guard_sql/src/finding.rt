@@ -1,4 +1,4 @@
-//! A look at a database: is it a guard's, and which scope has it?
+//! A look at a database: whether it is a guard's, and the scope of that guard.
 
 ghost use Rattle.std.specs.Prelude.{◌≡◌, false, Err};
 ghost use Rattle.std.specs.List.{list_any};
@@ -26,7 +26,7 @@ fn are_serials(first: u64, last: u64) -> bool
     1 <= first && first <= last && last <= LAST_SERIAL
 }
 
-/// The scope that a row of this schema says.
+/// The scope in a row of this schema.
 fn scope_with(row: &GuardRow) -> Result<Scope, OpeningFault>
     ensures { result ≡ scope_with row.now (key_of row.now.ca) }
 {
@@ -42,7 +42,7 @@ fn scope_with(row: &GuardRow) -> Result<Scope, OpeningFault>
     }
 }
 
-/// The scope that the rows of a guard's table say.
+/// The scope in the rows of a guard's own table.
 fn scope_in(rows: &[GuardRow]) -> Result<Scope, OpeningFault>
     ensures { result ≡ scope_in rows.now }
 {
@@ -58,7 +58,7 @@ fn scope_in(rows: &[GuardRow]) -> Result<Scope, OpeningFault>
     }
 }
 
-/// The scope of the guard that a database has.
+/// The scope of the guard in a database.
 pub(crate) fn find_scope<S: Alter>(
     alloc: Global,
     conn: &mut Connection<S>,

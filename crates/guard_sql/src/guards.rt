@@ -1,4 +1,4 @@
-//! The table of the guard.
+//! The guard's own table.
 
 ghost use Rattle.guard_sql.specs.Contents.{HasGuards};
 ghost use Rattle.guard_sql.specs.Changes.{with_guard, with_last};
@@ -16,14 +16,14 @@ use std::alloc::Global;
 use store_sql::{Fault, Number};
 use text::Text;
 
-/// The one row of the guard.
+/// The row of the guard's own table.
 #[derive(Drop)]
 pub(crate) struct GuardRow {
-    /// 1 in a guard.
+    /// 1, if a guard wrote the row.
     pub id: Number,
-    /// The number of the schema.
+    /// The version of the schema.
     pub schema: Number,
-    /// The Ed25519 public key of the CA, 32 bytes.
+    /// The Ed25519 public key of the CA, as an SSH key blob.
     pub ca: Text,
     /// The first serial.
     pub first: Number,
@@ -85,7 +85,7 @@ impl Columns for GuardRow {
     }
 }
 
-/// Puts the row of a guard. `Device` also where its id is taken, or the row is too long.
+/// Stores the row of a guard. `Device` also if its id is taken, or the row is too long.
 pub(crate) fn insert_guard<S: Alter>(
     conn: &mut Connection<S>,
     guard: &GuardRow,
@@ -95,7 +95,7 @@ pub(crate) fn insert_guard<S: Alter>(
     done(conn.execute(INSERT_GUARD, &guard.values()))
 }
 
-/// Each row of the table of the guard, which has one. `Damaged` where a row has another form.
+/// Every row of the guard's own table, which has one. `Damaged` if a row has another form.
 pub(crate) fn every_guard<S: Alter>(
     alloc: Global,
     conn: &mut Connection<S>,
@@ -105,7 +105,7 @@ pub(crate) fn every_guard<S: Alter>(
     found(alloc, conn.query_all(EVERY_GUARD, &[]))
 }
 
-/// Sets the last serial of the guard, the row of id 1, if it is there. `Device` also where the row is then too long.
+/// Sets the last serial of the guard, in the row with id 1, if there is one. `Device` also if the row is then too long.
 pub(crate) fn update_last<S: Alter>(conn: &mut Connection<S>, last: Number) -> Result<(), Fault>
     ensures { Writes S.Store (with_last last) (RefusesLast last) conn.old conn.new result }
 {

@@ -10,7 +10,7 @@ use crate::transaction::conclude;
 use sqlite::{Alter, Connection};
 use store_sql::{Fault, Number, begin};
 
-/// Keeps an approved body.
+/// Stores an approved body.
 pub(crate) fn keep_approval<S: Alter>(
     conn: &mut Connection<S>,
     approval: &ApprovalRow,

@@ -1,7 +1,7 @@
 //! A guard's register in the tables of a database.
 //!
-//! A guard is made whole or not at all. Each body that is approved is one row, kept in one transaction: it outlasts a
-//! crash when the call returns, and a crash leaves what was kept, or that with the one body in hand.
+//! A guard is made whole or not at all. Each approved body is one row, written in one transaction: when the call
+//! returns, it survives a crash. A crash during the call leaves what was kept before, or that with this one body.
 #![tactic(auto)]
 
 mod approvals;

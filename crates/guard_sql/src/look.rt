@@ -1,4 +1,4 @@
-//! A look at the schema, before anything is asked of the tables.
+//! A look at the schema, before the tables are queried.
 
 ghost use Rattle.std.specs.Prelude.{◌≡◌, length};
 ghost use Rattle.std.specs.Str.{bytes_eq};
@@ -17,7 +17,7 @@ fn has_guard_name(table: &Table) -> bool
     same_name(name, b"guard") || same_name(name, b"approved")
 }
 
-/// Whether the database has a table of the name of one of a guard's.
+/// Whether the database has a table with the name of one of a guard's.
 pub(crate) fn has_any_table<S: Alter>(conn: &Connection<S>) -> bool
     ensures { result ≡ list_any is_guard_name (tables_of S.Store conn.now) }
 {
@@ -52,7 +52,7 @@ fn is_guard(table: &Table) -> bool
     same_name(table.name.as_slice(), b"guard") && has_guard_columns(table)
 }
 
-/// Whether the database has the table of the guard, with its columns.
+/// Whether the database has a guard's own table, with its columns.
 pub(crate) fn has_guard<S: Alter>(conn: &Connection<S>) -> bool
     ensures { result ≡ list_any is_guard_table (tables_of S.Store conn.now) }
 {

@@ -6,8 +6,9 @@ ghost use Rattle.sqlite.specs.Held.{state};
 ghost use Rattle.sqlite.specs.State.{HasCleanDisk};
 ghost use Rattle.store_sql.specs.Honest.{On};
 ghost use Rattle.guard.specs.Judged.{HasCause};
+ghost use Rattle.guard.specs.Retiring.{IsRowFrom};
 ghost use Rattle.guard.specs.State.{State, body_of};
-ghost use Rattle.guard_sql.specs.Damage.{SaysBodyUnless};
+ghost use Rattle.guard_sql.specs.Damage.{SaysApprovedUnless, SaysBodyUnless};
 ghost use Rattle.guard_sql.specs.Keeping.{HasFailed, Keeps, Leaves};
 
 use crate::serving::{body_of, keep, row_from, set_last};
@@ -45,14 +46,32 @@ impl<S: Alter> Register for GuardStore<S> {
             → (self.old.scope ≡ s.scope) × Keeps (state S.Store self.old.conn) s
             → IfErr result (λ e. HasCause e (HasFailed (state S.Store self.new.conn))) }
 
-        // Whatever rows the table of bodies holds, what is answered is what they say. Other rows than a guard writes are
-        // told damaged.
+        // Whatever rows the table of bodies holds, the answer is what they say. Rows that no guard writes are reported
+        // as `Damaged`.
         ensures says { On S.Store (SaysBodyUnless serial) self.old.conn self.new.conn result }
     {
         body_of(alloc, &mut self.conn, serial)
     }
 
-    fn row_from(&mut self, alloc: Global, serial: u64) -> Result<Option<Approved>, RegisterFault> {
+    fn row_from(&mut self, alloc: Global, serial: u64) -> Result<Option<Approved>, RegisterFault>
+        ensures honest { HasCleanDisk (state S.Store self.new.conn) → HasCleanDisk (state S.Store self.old.conn) }
+        ensures row { HasCleanDisk (state S.Store self.new.conn) → (s : State)
+            → (self.old.scope ≡ s.scope) × Keeps (state S.Store self.old.conn) s
+            → IfOk result (IsRowFrom s serial) }
+        ensures same { HasCleanDisk (state S.Store self.new.conn) → (s : State)
+            → (self.old.scope ≡ s.scope) × Keeps (state S.Store self.old.conn) s
+            → (self.new.scope ≡ s.scope) × Keeps (state S.Store self.new.conn) s }
+        ensures crash { HasCleanDisk (state S.Store self.new.conn) → (s : State)
+            → (self.old.scope ≡ s.scope) × Keeps (state S.Store self.old.conn) s
+            → Leaves (state S.Store self.old.conn) s s → Leaves (state S.Store self.new.conn) s s }
+        ensures cause { HasCleanDisk (state S.Store self.new.conn) → (s : State)
+            → (self.old.scope ≡ s.scope) × Keeps (state S.Store self.old.conn) s
+            → IfErr result (λ e. HasCause e (HasFailed (state S.Store self.new.conn))) }
+
+        // Whatever rows the table of bodies holds, the answer is what the first one from there on says. A row that no
+        // guard writes is reported as `Damaged`.
+        ensures says { On S.Store (SaysApprovedUnless serial) self.old.conn self.new.conn result }
+    {
         row_from(alloc, &mut self.conn, serial)
     }
 

@@ -1,4 +1,4 @@
-//! What is kept as rows, and rows as what is kept.
+//! Approved bodies as rows, and rows as approved bodies.
 
 ghost use Rattle.std.specs.Prelude.{◌≡◌, ◌<◌, ◌^◌, IfSome, IsSome};
 ghost use Rattle.guard.specs.Judged.{IsKeepable};
@@ -8,7 +8,7 @@ use crate::approvals::ApprovalRow;
 use guard::Approved;
 use store_sql::Number;
 
-/// The row of an approved body, or `None` where its serial or its moment is 2^63 or more.
+/// The row of an approved body, or `None` if its serial or its time is 2^63 or more.
 pub(crate) fn approval_row(approved: Approved) -> Option<ApprovalRow>
     ensures is { IfSome result (λ row. row ≡ approval_row approved) }
     ensures low { IfSome result (λ row. row.serial < 2 ^ 63) }
@@ -29,7 +29,7 @@ pub(crate) fn approval_row(approved: Approved) -> Option<ApprovalRow>
     }
 }
 
-/// The approved body of a row.
+/// The approved body in a row.
 pub(crate) fn approved(row: ApprovalRow) -> Approved
     ensures { result ≡ approved_in row }
 {

@@ -6,7 +6,7 @@ ghost use Rattle.guard.specs.Judged.{IsKeepable};
 ghost use Rattle.guard.specs.Machine.{body_of, with_approved};
 ghost use Rattle.guard.specs.Retiring.{IsLowered, IsRowFrom, with_last};
 ghost use Rattle.store_sql.specs.Honest.{On};
-ghost use Rattle.guard_sql.specs.Damage.{SaysBodyUnless};
+ghost use Rattle.guard_sql.specs.Damage.{SaysApprovedUnless, SaysBodyUnless};
 ghost use Rattle.guard_sql.specs.Registering.{LeadsOf, ShowsOf};
 ghost use Rattle.guard_sql.specs.Rows.{approved_in};
 
@@ -62,7 +62,8 @@ pub(crate) fn row_from<S: Alter>(
     conn: &mut Connection<S>,
     serial: u64,
 ) -> Result<Option<Approved>, RegisterFault>
-    ensures { ShowsOf S.Store (λ s row. IsRowFrom s serial row) conn.old conn.new result }
+    ensures shows { ShowsOf S.Store (λ s row. IsRowFrom s serial row) conn.old conn.new result }
+    ensures says { On S.Store (SaysApprovedUnless serial) conn.old conn.new result }
 {
     let Some(serial) = Number::new(serial) else {
         return Ok(None);
@@ -73,7 +74,7 @@ pub(crate) fn row_from<S: Alter>(
     }
 }
 
-/// Keeps a body under a serial that has none.
+/// Stores a body under a serial that has none.
 pub(crate) fn keep<S: Alter>(conn: &mut Connection<S>, row: Approved) -> Result<(), RegisterFault>
     ensures { LeadsOf S.Store (λ s. body_of s row.serial ≡ None) (IsKeepable row) (λ s. with_approved s row)
         conn.old conn.new result }

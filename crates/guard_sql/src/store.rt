@@ -2,7 +2,8 @@
 
 ghost use Rattle.std.specs.Prelude.{◌≡◌, false, Err, IfErr, IfOk, IsTrue, Ok};
 ghost use Rattle.std.specs.List.{list_any};
-ghost use Rattle.store_sql.specs.Honest.{Between, IsOutside, IsUnlimited, On, OutlivesBy, StaysClean, tables_of};
+ghost use Rattle.store_sql.specs.Honest.{Between, IsOutside, IsUnlimited, On, Outlives, OutlivesBy, StaysClean, tables_of};
+ghost use Rattle.guard_sql.specs.Calls.{Never};
 ghost use Rattle.guard_sql.specs.Keeping.{IsScope};
 ghost use Rattle.guard_sql.specs.Look.{is_guard_name, is_guard_table};
 ghost use Rattle.guard_sql.specs.Opening.{Finds, Founds, FoundsNone, LeavesNew, Misses, SaysUnless};
@@ -20,19 +21,19 @@ use std::alloc::Global;
 #[derive(Drop)]
 pub struct GuardStore<S: Alter> {
     pub(crate) conn: Connection<S>,
-    // what the row of the guard says
+    // as in the row of the guard
     pub(crate) scope: Scope,
 }
 
 impl<S: Alter> GuardStore<S> {
-    /// A guard of this scope that has approved nothing yet, in a database without tables. Both tables are made or, with
-    /// a fault, which gives the connection back, none. No transaction may be open, and the connection may have no limit
-    /// on the steps of a query, since a call that meets one fails.
+    /// A guard with this scope that has approved nothing yet, in a database without tables. Both tables are made, or
+    /// none and the fault returns the connection. No transaction may be open, and the connection may have no limit on
+    /// the steps of a query, since a call that reaches it fails.
     ///
     /// # Errors
     ///
-    /// `AlreadyAGuard` where the database has a table of a name that a guard needs, `Device` where the database fails,
-    /// and `NoMemory` for want of memory.
+    /// `AlreadyAGuard` if the database has a table with a name that a guard needs, `Device` if the database fails, and
+    /// `NoMemory` for lack of memory.
     pub fn init(
         alloc: Global,
         conn: Connection<S>,
@@ -46,10 +47,10 @@ impl<S: Alter> GuardStore<S> {
         ensures already { IsTrue (list_any is_guard_name (tables_of S.Store conn)) → result ≡ Err
             (record { 0 = OpeningFault.AlreadyAGuard; 1 = conn }) }
 
-        // Of an empty database want of memory and a failure of the database are the only faults, and it stays empty.
+        // An empty database stays empty after a fault, which is a lack of memory or a failure of the database.
         ensures none { IfErr result (λ e. On S.Store FoundsNone conn e.1 e.0) }
 
-        // A crash in its midst leaves the database without tables, or with the whole guard.
+        // A crash in the middle of it leaves the database without tables, or with the whole guard.
         ensures crash { IfOk result (λ g. OutlivesBy S.Store (LeavesNew scope.now) conn g.conn) }
         ensures crash_back { IfErr result (λ e. OutlivesBy S.Store (LeavesNew scope.now) conn e.1) }
     {
@@ -66,14 +67,14 @@ impl<S: Alter> GuardStore<S> {
         }
     }
 
-    /// The guard that a database has. A fault gives the connection back. No transaction may be open, and the connection
-    /// may have no limit on the steps of a query.
+    /// The guard in a database. A fault returns the connection. No transaction may be open, and the connection may have
+    /// no limit on the steps of a query.
     ///
     /// # Errors
     ///
-    /// `NotAGuard` where the table of the guard is missing or has not just one row, `WrongSchema` where its tables are
-    /// those of another version, `Damaged` where its row says no lawful scope, `Device` where the database failed, and
-    /// `NoMemory` for want of memory.
+    /// `NotAGuard` if the guard's own table is missing, or has no row or several, `WrongSchema` if the tables are those
+    /// of another version, `Damaged` if its row has no valid scope, `Device` if the database failed, and `NoMemory` for
+    /// lack of memory.
     pub fn open(
         alloc: Global,
         conn: Connection<S>,
@@ -81,21 +82,24 @@ impl<S: Alter> GuardStore<S> {
         requires outside { IsOutside S.Store conn }
         requires unlimited { IsUnlimited S.Store conn }
 
-        // It keeps each guard that the tables hold, and a crash leaves it.
+        // The register keeps each guard that the tables hold, and a crash leaves it.
         ensures opened { IfOk result (λ g. Between S.Store (Finds g.scope) conn g.conn) }
 
-        // It is opened just where the one row of the guard says a scope of this schema; each refusal is what the rows say.
+        // Opened exactly if there is one row, of this schema, with a scope; each refusal has its cause in the rows.
         ensures said { IfOk result (λ g. On S.Store SaysUnless conn g.conn (Ok g.scope)) }
         ensures refused { IfErr result (λ e. On S.Store SaysUnless conn e.1 (Err e.0)) }
 
-        // Where they hold one, want of memory and a failure of the database are the only faults.
+        // If the tables hold a guard, the only faults are a lack of memory and a failure of the database.
         ensures missed { IfErr result (λ e. On S.Store Misses conn e.1 e.0) }
         ensures none { list_any is_guard_table (tables_of S.Store conn) ≡ false → result ≡ Err
             (record { 0 = OpeningFault.NotAGuard; 1 = conn }) }
 
-        // A disk that has returned what was written as the call ends had done so when it began.
+        // If the disk has been faithful when the call ends, it had been when the call began.
         ensures honest { IfOk result (λ g. StaysClean S.Store conn g.conn) }
         ensures honest_back { IfErr result (λ e. StaysClean S.Store conn e.1) }
+
+        // After a fault a crash leaves only what it could have left before.
+        ensures crash_back { IfErr result (λ e. Outlives S.Store Never conn e.1) }
     {
         let mut conn = conn;
         match find_scope(alloc, &mut conn) {

@@ -1,4 +1,4 @@
-//! What only calls can show: that they answer where memory and the disk suffice.
+//! What only calls can show: that they succeed if memory and the disk suffice.
 
 use crate::GuardStore;
 use guard::{Approved, Register, RegisterFault, Scope};
@@ -20,7 +20,7 @@ fn guard_in_memory(alloc: Global) -> Option<GuardStore<MemStore>> {
     GuardStore::init(alloc, conn, &SCOPE).ok()
 }
 
-/// Whether a body is kept under a serial.
+/// Stores a body under a serial, and returns whether that succeeded.
 fn keep(alloc: Global, guard: &mut GuardStore<MemStore>, serial: u64, body: &[u8]) -> bool {
     let Ok(body) = Text::from_slice(alloc, body) else {
         return false;
@@ -41,7 +41,7 @@ fn has(alloc: Global, guard: &mut GuardStore<MemStore>, serial: u64, body: &[u8]
     }
 }
 
-/// The serial and the moment of the row that is found from a serial on.
+/// The serial and the time of the row that is found from a serial on.
 fn first_from(alloc: Global, guard: &mut GuardStore<MemStore>, serial: u64) -> Option<(u64, u64)> {
     match guard.row_from(alloc, serial) {
         Ok(Some(row)) => Some((row.serial, row.moment)),
@@ -49,7 +49,7 @@ fn first_from(alloc: Global, guard: &mut GuardStore<MemStore>, serial: u64) -> O
     }
 }
 
-/// The last serial that the guard answers for.
+/// The last serial of the guard's scope.
 fn last_of(guard: &mut GuardStore<MemStore>) -> Option<u64> {
     match guard.scope() {
         Ok(scope) => Some(scope.last),
