@@ -1,4 +1,4 @@
--- What was stated over every list of runs.
+-- The lists that are stated over every sequence of runs.
 use Rattle.std.proofs.Common.{◌≡◌, ◌++◌, ◌∷◌, ◌∙◌, [], ℕ, List, Option, Some, None, ap, append_assoc, inl, inr, refl}
 use Rattle.std.proofs.Common.{subst, sym}
 use Rattle.std.proofs.Math.Logic.{∥∥₁_elim, ∥∥₁_map}
@@ -24,9 +24,9 @@ stated_append [] b = refl
 stated_append (call ∷ a) b =
     ap (before call.told) (stated_append a b) ∙ before_append call.told (stated a) (stated b)
 
--- ---- runs over a list guard are calls on the plain one
+-- ---- runs over a list guard are calls on the reference model
 
--- calls that state these lists
+-- there are calls that state these lists
 abbrev Calls : State → List (List ℕ) → Type 0
 Calls s lists = (calls : List Call) × (t : State) × Lives s calls t × (stated calls ≡ lists)
 
@@ -48,7 +48,7 @@ over (run ∷ runs) first last s held (is, found, rest) =
     ∥∥₁_map (over runs run.left last t (subst (Holds run.left) one.1.2 one.2) rest)
     (λ later. more_calls s t run.calls (all_stated runs) one.1.1 later))
 
--- ---- and before there is one nothing is stated
+-- ---- before there is a list guard, no list is stated
 
 -- a list guard that has approved nothing states these lists
 from_none : (runs : List Run) (first last : Image) → Holds first None → Follow first runs last
