@@ -1,24 +1,24 @@
--- Texts put at the end.
+-- Texts that are appended.
 use Rattle.cert.proofs.Words.{List, Result, ap, append_assoc, length, string_text, u32_text, ℕ, ◌++◌, ◌<◌, ◌^◌, ◌∙◌}
 use Rattle.cert.proofs.Words.{◌≡◌}
 use Rattle.std.proofs.Common.{OnOk}
 use Rattle.std.proofs.lemmas.Result.{on_ok_weaker}
 
--- a text put after what stands so far
+-- a text appended to the text so far
 pub put_after : (text out old so_far : List ℕ) → out ≡ old ++ text → old ≡ so_far → out ≡ so_far ++ text
 put_after text out old so_far e f = e ∙ ap (λ x. x ++ text) f
 
--- the same, where the string is another's
+-- the same for a string that is equal to another one
 pub string_after : (meant string out old so_far : List ℕ) → out ≡ old ++ string_text string → string ≡ meant
     → old ≡ so_far → out ≡ so_far ++ string_text meant
 string_after meant string out old so_far e m f = e ∙ ap (λ x. x ++ string_text string) f
     ∙ ap (λ t. so_far ++ string_text t) m
 
--- a list that is another one is as short
+-- a list that is equal to a short one is short
 pub as_short : (xs ys : List ℕ) → xs ≡ ys → length ys < 2 ^ 32 → length xs < 2 ^ 32
 as_short xs ys e h = rw e h
 
--- ---- the same of a last step, which may fail
+-- ---- the same for a last step, which may fail
 
 module _ {E : Type 0} where
   pub put_last : (text : List ℕ) (r : Result (Unit {0}) E) (out old so_far : List ℕ) → OnOk r (out ≡ old ++ text)

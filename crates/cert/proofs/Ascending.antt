@@ -14,7 +14,7 @@ use Rattle.cert.proofs.Listing.{all_later, all_alike}
 abbrev pub names : List Pair → List (List ℕ)
 names ps = map (λ p. p.name) ps
 
--- of two names of which one comes before the other, the bytes differ
+-- if one of two names comes before the other, their bytes differ
 pub apart : (a b : List ℕ) → comes_before a b ≡ true → bytes_eq a b ≡ false
 apart a b h = sym (is_eq-slice_cmp a b) ∙ not_both (slice_cmp nat_cmp a b) h
   where
@@ -38,7 +38,7 @@ names-distinct (p ∷ ps) h =
     let parts = and_parts (list_all (λ q. comes_before p.name q.name) ps) _ h in
     (all_apart p.name ps parts.0, names-distinct ps parts.1)
 
--- the order in which two texts are compared says nothing
+-- the order of the two compared texts doesn't matter
 flipped : (name : List ℕ) (known : List (List ℕ)) → list_any (λ t. bytes_eq t name) known ≡ true
     → list_any (bytes_eq name) known ≡ true
 flipped name [] h = absurd cc
@@ -47,7 +47,7 @@ flipped name (t ∷ known) h = elim (or_cases (bytes_eq t name) _ h) [
   | inr other ↦ or_right (bytes_eq name t) _ (flipped name known other)
 ]
 
--- what is among the names is known
+-- each of the names is known
 all_known : (field : OptionField) (ps : List Pair) → list_all (is_option field) ps ≡ true → (name : List ℕ)
     → list_any (bytes_eq name) (names ps) ≡ true
     → list_any (bytes_eq name) (known_names field) ≡ true
@@ -93,7 +93,7 @@ not_itself name = by (slice_cmp nat_cmp name name) (is_eq-slice_cmp name name �
     by Equal h = refl
     by Greater h = absurd cc
 
--- what comes after all of the names is none of them
+-- a pair whose name comes before all of the names is none of the pairs
 none_there : (p : Pair) (qs : List Pair) → list_all (λ q. comes_before p.name q.name) qs ≡ true
     → list_any (is_pair p) qs ≡ false
 none_there p [] h = refl
@@ -102,7 +102,7 @@ none_there p (q ∷ qs) h =
     let other : bytes_eq q.name p.name ≡ false = nat_list_eq_equiv.symm q.name p.name ∙ apart p.name q.name parts.0 in
     or_from (is_pair p q) _ (and_left (bytes_eq q.name p.name) _ other) (none_there p qs parts.1)
 
--- the first of two ascending lists of the same pairs doesn't begin later
+-- of two ascending lists of the same pairs, the first doesn't begin with an earlier name
 not_earlier : (p q : Pair) (ps qs : List Pair) → is_ascending (q ∷ qs) ≡ true → ((t : Pair → Bool)
     → list_any t (p ∷ ps) ≡ list_any t (q ∷ qs))
     → slice_cmp nat_cmp p.name q.name ≡ Less → ⊥

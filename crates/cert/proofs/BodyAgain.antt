@@ -1,4 +1,4 @@
--- The text of lawful fields is read.
+-- The text of valid fields is read back.
 use Rattle.cert.proofs.Words.{Bool, CertFault, CertFields, CriticalOptions, Extensions, IsCertFields, List, Ok, Option}
 use Rattle.cert.proofs.Words.{Result, Some, [], ap, append-nil, append_assoc, arith, body_text, bytes_eq-Decides}
 use Rattle.cert.proofs.Words.{cert_type, check, eq-eqb, front, is_validity, key_blob, key_of_again, kind_number, length}
@@ -27,7 +27,7 @@ both_again a b rest h =
     ∙ Tails.both_again (u64_text a ++ (u64_text b ++ rest)) (a, u64_text b ++ rest) (b, rest)
     (number_again w64 (2 ^ 64) wide64 a (u64_text b ++ rest) small.0) (number_again w64 (2 ^ 64) wide64 b rest small.1)
 
--- One more field is read of a body whose front is read.
+-- One more field is read from a body whose front has been read.
 reads : {S A : Type 0} (at : List ℕ → Option (S × List ℕ)) (f : S × List ℕ → Result (A × List ℕ) CertFault)
     (next : A × List ℕ → Result CertFields CertFault) (before text rest : List ℕ) (s : S) (x : A)
     → ((r : List ℕ) → body_at (before ++ r) ≡ ((or_fault fault.Truncated (at r) >>= f) >>= next))
@@ -37,7 +37,7 @@ reads at f next before text rest s x so_far here is =
     ap body_at (append_assoc before text rest) ∙ so_far (text ++ rest)
     ∙ ap (λ o. (or_fault fault.Truncated o >>= f) >>= next) here ∙ ap (λ r. r >>= next) is
 
--- The same of a string.
+-- The same for a string.
 reads_string : {A : Type 0} (f : List ℕ × List ℕ → Result (A × List ℕ) CertFault)
     (next : A × List ℕ → Result CertFields CertFault) (before text rest : List ℕ) (x : A)
     → ((r : List ℕ) → body_at (before ++ r) ≡ ((or_fault fault.Truncated (string_at r) >>= f) >>= next))
@@ -55,7 +55,7 @@ is_text {X} bad o x rest e = ap (λ o. ◌>>=◌ {B = X × List ℕ} (or_fault b
 
 -- ---- the front of a body is read, up to a field
 
--- The first n of lawful fields are read, and this is how the rest is read.
+-- The first n valid fields are read, and this is how the rest is read.
 abbrev pub Reads : ℕ → (CertFields → List ℕ → Result CertFields CertFault) → Type 0
 Reads n next = (c : CertFields) → IsCertFields c → (rest : List ℕ) → body_at (front n c ++ rest) ≡ next c rest
 
@@ -123,6 +123,6 @@ reads_ca c l rest =
     reads_string _ _ (front 11 c) (key_blob c.ca) rest c.ca (reads_reserved c l)
     (omega (arith, length-key_blob c.ca, l.ca)) (is_text fault.BadCa _ _ _ (key_of_again c.ca l.ca))
 
--- lawful fields are read from their text
+-- valid fields are read back from their text
 pub body_at-again : (c : CertFields) → IsCertFields c → body_at (body_text c) ≡ Ok c
 body_at-again c l = ap body_at (sym (append-nil (body_text c))) ∙ reads_ca c l []

@@ -1,4 +1,4 @@
--- A fault that is there is found; what reading gives is what was answered.
+-- A fault of the bytes is found; what reading gives is what was returned.
 use Rattle.cert.proofs.Words.{Bool, CertFault, CertFields, CriticalOptions, Err, Extensions, Gives, IsBytes}
 use Rattle.cert.proofs.Words.{IsCertFields, IsFault, Leaves, List, None, Ok, Option, Result, Some, [], ap, arith}
 use Rattle.cert.proofs.Words.{body_text, bytes_eq-Decides, cert_type, check, ends_at, eqb, eqb-true, false, front}
@@ -18,7 +18,7 @@ use Rattle.cert.proofs.BodyAgain.{Reads, reads_type, reads_nonce, reads_key, rea
 use Rattle.cert.proofs.BodyAgain.{reads_principals, reads_validity, reads_options, reads_extensions, reads_reserved}
 use Rattle.cert.proofs.BodyAgain.{reads_ca, body_at-again}
 
--- what a string of the rest holds is bytes
+-- the bytes of a string in the rest are bytes
 inside : (bytes before rest : List ℕ) (s : List ℕ × List ℕ) → bytes ≡ before ++ rest → string_at rest ≡ Some s
     → IsBytes bytes → IsBytes s.0
 inside bytes before rest s text is fits =
@@ -32,7 +32,7 @@ more c rest some = by (eqb (length rest) 0) refl
     by true e = absurd (some (empty rest e))
     by false e = refl
 
--- a field is cut, fails its test, or is the text of no value
+-- a field is cut short, fails its test, or isn't the text of a value
 
 cut_at : {S A B : Type 0} (o : Option S) (f : S → Result A CertFault) (next : A → Result B CertFault)
     → is_some o ≡ false → ((or_fault fault.Truncated o >>= f) >>= next) ≡ Err fault.Truncated
@@ -50,7 +50,7 @@ no_text : {X A : Type 0} (bad : CertFault) (o : Option X) (f : X → Result A Ce
     → (or_fault bad o >>= f) ≡ Err bad
 no_text bad o f none = rw none refl
 
--- reading what begins with lawful fields
+-- reading bytes that begin with valid fields
 begun : (next : CertFields → List ℕ → Result CertFields CertFault) {bytes rest : List ℕ} {n : ℕ} {c : CertFields}
     → Leaves bytes n c rest → Reads n next → body_at bytes ≡ next c rest
 begun next {rest = rest} {c = c} h reads = ap body_at h.text ∙ reads c h.lawful rest
@@ -77,7 +77,7 @@ cut (suc (suc (suc (suc (suc (suc (suc (suc (suc (suc (suc zero))))))))))) lt c 
     reads_reserved c l rest ∙ cut_at _ _ _ e
 cut (suc (suc (suc (suc (suc (suc (suc (suc (suc (suc (suc (suc n)))))))))))) lt c rest l e = absurd (omega arith)
 
--- a fault that is there is found
+-- a fault of the bytes is found
 pub body_at-fault : (bytes : List ℕ) (e : CertFault) → IsBytes bytes → e ≢ fault.NoMemory → IsFault bytes e
     → body_at bytes ≡ Err e
 body_at-fault bytes fault.WrongType fits other (c, rest, h, w) = begun _ h reads_none
@@ -113,22 +113,22 @@ body_at-fault bytes fault.Truncated fits other (n, lt, c, rest, h, part) =
     ap body_at h.text ∙ cut n lt c rest h.lawful part
 body_at-fault bytes fault.NoMemory fits other f = absurd (other refl)
 
--- ---- from what reading gives to what was answered
+-- ---- from what reading gives to what was returned
 
--- What was read is lawful, and the bytes are its text.
+-- What was read is valid, and the bytes are its text.
 pub found_from : (bytes : List ℕ) (r : Result CertFields CertFault) → IsBytes bytes → Gives r (body_at bytes)
     → IfOk r (λ c. IsCertFields c × (bytes ≡ body_text c))
 found_from bytes (Ok c) fits gives = subst (λ (q : Result CertFields CertFault). Says bytes q) gives
     (body_at-says bytes fits)
 found_from bytes (Err e) fits gives = tt
 
--- The text of lawful fields was read, unless memory was refused.
+-- The text of valid fields was read, unless memory was refused.
 pub only_from : (bytes : List ℕ) (r : Result CertFields CertFault) (c : CertFields) → IsCertFields c
     → bytes ≡ body_text c → Gives r (body_at bytes) → Gives r (Ok c)
 only_from bytes r c l text gives = subst (λ (read : Result CertFields CertFault). Gives r read) (ap body_at text
     ∙ body_at-again c l) gives
 
--- The fault that was answered is there.
+-- The returned fault is a fault of the bytes.
 pub fault_from : (bytes : List ℕ) (r : Result CertFields CertFault) → IsBytes bytes → Gives r (body_at bytes)
     → IfErr r (IsFault bytes)
 fault_from bytes (Ok c) fits gives = tt
@@ -154,7 +154,7 @@ fault_from bytes (Err e) fits gives = at e gives
     at fault.TrailingBytes gives = there fault.TrailingBytes gives
     at fault.NoMemory gives = tt
 
--- The fault that is there was answered, unless memory was refused.
+-- A fault of the bytes was returned, unless memory was refused.
 pub answered_from : (bytes : List ℕ) (r : Result CertFields CertFault) (e : CertFault) → IsBytes bytes
     → e ≢ fault.NoMemory → IsFault bytes e → Gives r (body_at bytes) → Gives r (Err e)
 answered_from bytes r e fits other there gives = subst (λ (read : Result CertFields CertFault). Gives r read)

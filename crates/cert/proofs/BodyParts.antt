@@ -1,4 +1,4 @@
--- Lawful fields, and the steps of reading them.
+-- Valid fields, and the steps of reading them.
 use Rattle.cert.proofs.Words.{CertFields, CriticalOptions, Extensions, Host, IsCertFields, Kind, List, None, Option}
 use Rattle.cert.proofs.Words.{OptionField, Pair, Some, User, [], ap, append_assoc, are_principals, arith, both_ways}
 use Rattle.cert.proofs.Words.{codes, eq-eqb, eqb, false, is_key_id, is_options, is_serial, is_some, is_validity}
@@ -10,7 +10,7 @@ pub option_cases : {A : Type 0} (o : Option A) (P : Type 0) → (o ≡ None → 
 option_cases None P none some = none refl
 option_cases (Some x) P none some = some x refl
 
--- a text of no lawful value is read as none
+-- a text that isn't that of a valid value is read as none
 pub no_value : {S X : Type 0} (of : S → Option X) (value_text : X → S) (IsLawful : X → Type 0) (s : S)
     → ((x : X) → of s ≡ Some x → (s ≡ value_text x) × IsLawful x)
     → ¬ ((x : X) × IsLawful x × (s ≡ value_text x)) → of s ≡ None
@@ -24,12 +24,12 @@ none_of (Some x) e = absurd cc
 pub not_empty : (t : List ℕ) → eqb (length t) 0 ≡ false → t ≢ []
 not_empty t e none = both_ways _ e (eq-eqb _ _ (ap length none))
 
--- the bytes, with one more field in front of the rest
+-- the bytes, with one more field before the rest
 pub advance : (bytes before rest text after : List ℕ) → bytes ≡ before ++ rest → rest ≡ text ++ after
     → bytes ≡ before ++ text ++ after
 advance bytes before rest text after e f = e ∙ ap (λ r. before ++ r) f ∙ sym (append_assoc before text after)
 
--- the kind of a number is the one that it writes
+-- the kind that was read from a number writes this number
 pub kind_found : (n : ℕ) (kind : Kind) → kind_of n ≡ Some kind → n ≡ kind_number kind
 kind_found n User e = grind (arith, nat_tests)
 kind_found n Host e = grind (arith, nat_tests)
@@ -42,7 +42,7 @@ pub kind_small : (kind : Kind) → kind_number kind < 2 ^ 32
 kind_small User = omega arith
 kind_small Host = omega arith
 
--- ---- lawful fields
+-- ---- valid fields
 
 -- a certificate without options
 pub sample : CertFields
@@ -75,7 +75,7 @@ sample_is_lawful = record {
   ca = refl;
 }
 
--- no options of either field
+-- no options in either field
 abbrev pub IsBare : CertFields → Type 0
 IsBare c = (c.options ≡ []) × (c.extensions ≡ [])
 
@@ -83,7 +83,7 @@ pub sample_is_bare : IsBare sample
 unfolding sample
 sample_is_bare = (refl, refl)
 
--- ---- lawful fields c, one of which is another
+-- ---- valid fields c with one field replaced
 
 module _ (c : CertFields) (l : IsCertFields c) where
   pub with_nonce : (x : List ℕ) → length x ≡ 32 → IsCertFields (record c { nonce = x })
@@ -119,7 +119,7 @@ no_options : (field : OptionField) (kind : Kind) (ps : List Pair) → ps ≡ [] 
 no_options field User ps e = ap (is_options field User) e
 no_options field Host ps e = ap (is_options field Host) e
 
--- lawful fields without options, with another kind
+-- valid fields without options, with another kind
 pub with_kind : (c : CertFields) → IsCertFields c → IsBare c → (kind : Kind) → IsCertFields (record c { kind = kind })
 with_kind c l bare kind =
     assumption (no_options CriticalOptions kind c.options bare.0, no_options Extensions kind c.extensions bare.1, l)

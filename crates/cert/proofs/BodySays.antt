@@ -1,4 +1,4 @@
--- What reading a body gives says what the bytes are.
+-- What reading a body gives is true of the bytes.
 use Rattle.cert.proofs.Words.{Bool, CertFault, CertFields, CriticalOptions, Err, Extensions, IsBytes, IsCertFields}
 use Rattle.cert.proofs.Words.{IsFault, Leaves, List, None, Ok, Option, Result, Some, ap, append-nil, append_assoc}
 use Rattle.cert.proofs.Words.{are_principals, arith, body_text, both_ways, bytes_eq, bytes_eq-Decides, cases_Bool}
@@ -18,7 +18,7 @@ use Rattle.cert.proofs.BodyParts.{option_cases, not_empty, advance, kind_found, 
 use Rattle.cert.proofs.BodyParts.{with_principals, with_options, with_extensions, with_ca, with_ends, with_kind}
 use Rattle.cert.proofs.BodyParts.{with_serial, with_key, with_nonce, sample, sample_is_lawful, sample_is_bare}
 
--- fields that were read are lawful, and the bytes are their text; a fault that was found is there
+-- fields that were read are valid, and the bytes are their text; a fault that was found is a fault of the bytes
 abbrev pub Says : List ℕ → Result CertFields CertFault → Type 0
 Says bytes (Ok c) = IsCertFields c × (bytes ≡ body_text c)
 Says bytes (Err e) = IsFault bytes e
@@ -36,7 +36,7 @@ says_end c l bytes rest text = by (eqb (length rest) 0) refl
 
 -- ---- how one field is read
 
--- The bytes begin with the first n of these lawful fields, and the next one is read from the rest.
+-- The bytes begin with the first n of these valid fields, and the next one is read from the rest.
 module _ (n : ℕ) (small : n < 12) (c : CertFields) (l : IsCertFields c) (bytes rest : List ℕ) (fits : IsBytes rest)
     (text : bytes ≡ front n c ++ rest) {S A : Type 0} (at : List ℕ → Option (S × List ℕ)) (source : S → List ℕ)
     (takes : (s : S) (left : List ℕ) → at rest ≡ Some (s, left) → rest ≡ source s ++ left)
@@ -45,7 +45,7 @@ module _ (n : ℕ) (small : n < 12) (c : CertFields) (l : IsCertFields c) (bytes
   here_left : Leaves bytes n c rest
   here_left = record { lawful = l; text = text }
 
-  -- the field is cut, or what it holds is judged
+  -- the field is cut short, or its value is judged
   says_judged : (f : S × List ℕ → Result (A × List ℕ) CertFault)
       → ((s : S × List ℕ) → at rest ≡ Some s → rest ≡ source s.0 ++ s.1 → Says bytes (f s >>= next))
       → Says bytes ((or_fault fault.Truncated (at rest) >>= f) >>= next)
@@ -56,7 +56,7 @@ module _ (n : ℕ) (small : n < 12) (c : CertFields) (l : IsCertFields c) (bytes
       (n, small, c, rest, here_left, whole ∙ ap is_some none))
       (λ s is. becomes bytes _ (f s >>= next) (ap read is) (judged s is (takes s.0 s.1 is)))
 
-  -- it passes a test, or is bad
+  -- its value passes a test, or is bad
   pub says_tested : (test : S → Bool) (value : S → A)
       → (Leaves bytes n c rest → (s : S × List ℕ) → at rest ≡ Some s → test s.0 ≡ false → IsFault bytes bad)
       → ((s : S) (left : List ℕ) → test s ≡ true → IsBytes left → bytes ≡ front n c ++ source s ++ left
@@ -92,18 +92,18 @@ module _ (n : ℕ) (small : n < 12) (c : CertFields) (l : IsCertFields c) (bytes
       (on x s.1 lawful.1 (IsBytes_left rest (source (written x)) s.1 same fits)
       (advance bytes (front n c) rest (source (written x)) s.1 text same))))
 
--- ---- field before field: the bytes begin with lawful fields, and are read from the next one on
+-- ---- field by field: the bytes begin with valid fields, and are read from the next one on
 
--- The first n fields of lawful ones stand in front, and what is read of the rest says what the bytes are.
+-- If the bytes begin with the first n valid fields, then what reading the rest gives is true of the bytes.
 abbrev SaysFrom : (CertFields → Type 0) → ℕ → (CertFields → List ℕ → Result CertFields CertFault) → Type 0
 SaysFrom Is n from = (c : CertFields) → Is c → (bytes rest : List ℕ) → IsBytes rest → bytes ≡ front n c ++ rest
     → Says bytes (from c rest)
 
--- lawful fields without options
+-- valid fields without options
 abbrev IsStart : CertFields → Type 0
 IsStart c = IsCertFields c × IsBare c
 
--- the string, or both ends, in front of the rest
+-- the string, or both ends, at the front of the rest
 string_here : (rest : List ℕ) → IsBytes rest → (s left : List ℕ) → string_at rest ≡ Some (s, left)
     → rest ≡ string_text s ++ left
 string_here rest fits s left is = string_takes rest s left fits is
@@ -212,7 +212,7 @@ says_type c (l, bare) bytes rest fits text =
     (λ s left passes fits text. says_nonce c (l, bare) bytes left fits
     (text ∙ ap (λ t. front 0 c ++ string_text t ++ left) ((bytes_eq-Decides s cert_type).0 passes)))
 
--- what reading gives says what the bytes are
+-- what reading gives is true of the bytes
 pub body_at-says : (bytes : List ℕ) → IsBytes bytes → Says bytes (body_at bytes)
 body_at-says bytes fits =
     becomes bytes (body_at bytes) (Tails.from_type sample bytes) (Tails.body_at-from_type sample bytes)

@@ -1,9 +1,9 @@
--- Lists read one element after another.
+-- Reading lists element by element.
 use Rattle.cert.proofs.Words.{Bool, List, None, Option, OptionField, Pair, Some, [], ap, append_assoc, arith}
 use Rattle.cert.proofs.Words.{comes_next, false, option_map, options_within, pair_at, refl, string_at, strings_within}
 use Rattle.cert.proofs.Words.{suc, sym, true, ℕ, ◌++◌, ◌+◌, ◌-◌, ◌<◌, ◌∙◌, ◌∷◌, ◌≡◌, ◌≤◌}
 
--- what was read so far, before what is read of the rest
+-- what was read so far, followed by the result of reading the rest
 abbrev pub with_front : {X : Type 0} → List X → Option (List X) → Option (List X)
 with_front front read = option_map (λ xs. front ++ xs) read
 
@@ -32,7 +32,7 @@ string_goes_on test front i bytes name after total lt h t so_far =
     sym (one_string test front (16 - (i + 1)) bytes name after h t)
     ∙ ap (λ (n : ℕ). with_front front (strings_within n test bytes)) (sym k) ∙ so_far
 
--- what is left begins with no string
+-- the rest doesn't begin with a string
 pub string_cut : (test : List ℕ → Bool) (front : List (List ℕ)) (i : ℕ) (bytes : List ℕ)
     (total : Option (List (List ℕ))) → i < 16 → ¬ (bytes ≡ []) → string_at bytes ≡ None
     → with_front front (strings_within (16 - i) test bytes) ≡ total → total ≡ None
@@ -41,7 +41,7 @@ string_cut test front i (b ∷ bytes) total lt some h so_far =
     let k : 16 - i ≡ suc (16 - (i + 1)) = omega arith in
     sym so_far ∙ ap (λ (n : ℕ). with_front front (strings_within n test (b ∷ bytes))) k ∙ rw h refl
 
--- what is left begins with a string that fails the test
+-- the rest begins with a string that fails the test
 pub string_fails : (test : List ℕ → Bool) (front : List (List ℕ)) (i : ℕ) (bytes name after : List ℕ)
     (total : Option (List (List ℕ))) → i < 16 → string_at bytes ≡ Some (name, after) → test name ≡ false
     → with_front front (strings_within (16 - i) test bytes) ≡ total → total ≡ None
@@ -50,7 +50,7 @@ string_fails test front i (b ∷ bytes) name after total lt h t so_far =
     let k : 16 - i ≡ suc (16 - (i + 1)) = omega arith in
     sym so_far ∙ ap (λ (n : ℕ). with_front front (strings_within n test (b ∷ bytes))) k ∙ rw (h, t) refl
 
--- more is left than so many strings
+-- bytes remain after 16 strings
 pub strings_left : (test : List ℕ → Bool) (front : List (List ℕ)) (i : ℕ) (bytes : List ℕ)
     (total : Option (List (List ℕ))) → 16 ≤ i → ¬ (bytes ≡ [])
     → with_front front (strings_within (16 - i) test bytes) ≡ total → total ≡ None
@@ -82,7 +82,7 @@ option_goes_on field previous front i bytes p after total lt h t so_far =
     sym (one_option field previous front (6 - (i + 1)) bytes p after h t)
     ∙ ap (λ (n : ℕ). with_front front (options_within n field previous bytes)) (sym k) ∙ so_far
 
--- what is left begins with no pair
+-- the rest doesn't begin with a pair
 pub option_cut : (field : OptionField) (previous : List ℕ) (front : List Pair) (i : ℕ) (bytes : List ℕ)
     (total : Option (List Pair)) → i < 6 → ¬ (bytes ≡ []) → pair_at bytes ≡ None
     → with_front front (options_within (6 - i) field previous bytes) ≡ total → total ≡ None
@@ -91,7 +91,7 @@ option_cut field previous front i (b ∷ bytes) total lt some h so_far =
     let k : 6 - i ≡ suc (6 - (i + 1)) = omega arith in
     sym so_far ∙ ap (λ (n : ℕ). with_front front (options_within n field previous (b ∷ bytes))) k ∙ rw h refl
 
--- what is left begins with a pair that can't come next
+-- the rest begins with a pair that can't come next
 pub option_fails : (field : OptionField) (previous : List ℕ) (front : List Pair) (i : ℕ) (bytes : List ℕ)
     (p : Pair) (after : List ℕ) (total : Option (List Pair)) → i < 6
     → pair_at bytes ≡ Some (p, after) → comes_next field previous p ≡ false
@@ -101,7 +101,7 @@ option_fails field previous front i (b ∷ bytes) p after total lt h t so_far =
     let k : 6 - i ≡ suc (6 - (i + 1)) = omega arith in
     sym so_far ∙ ap (λ (n : ℕ). with_front front (options_within n field previous (b ∷ bytes))) k ∙ rw (h, t) refl
 
--- more is left than so many options
+-- bytes remain after six options
 pub options_left : (field : OptionField) (previous : List ℕ) (front : List Pair) (i : ℕ) (bytes : List ℕ)
     (total : Option (List Pair)) → 6 ≤ i → ¬ (bytes ≡ [])
     → with_front front (options_within (6 - i) field previous bytes) ≡ total → total ≡ None

@@ -1,4 +1,4 @@
--- Pairs listed one after another.
+-- Pairs listed one by one.
 use Rattle.cert.proofs.Words.{BadValue, Bool, Equal, Err, Greater, Host, Kind, Less, List, None, Option, OptionFault}
 use Rattle.cert.proofs.Words.{OptionField, Ordering, Pair, Some, Twice, Unknown, User, [], and_from, and_parts, ap}
 use Rattle.cert.proofs.Words.{are_for_kind, arith, bytes_eq, comes_before, cond, drop, false, first_fault, insert}
@@ -36,7 +36,7 @@ insert_by Less p q qs k h e = refl
 insert_by Equal p q qs k h e = absurd cc
 insert_by Greater p q qs k h e = let one : 1 + k ≡ suc k = omega arith in rw one (ap (λ ps. q ∷ ps) e)
 
--- a pair of a new name is inserted before the first that comes after it
+-- a pair with a new name is inserted before the first that comes after it
 pub with_pair-insert : (p : Pair) (qs : List Pair) → Lacks qs p.name
     → with_pair qs p ≡ insert qs (position_or_len (λ q. comes_before p.name q.name) qs) p
 with_pair-insert p [] h = refl
@@ -51,7 +51,7 @@ any_by Less t p q qs h e = refl
 any_by Equal t p q qs h e = absurd cc
 any_by Greater t p q qs h e = ap (λ b. t q || b) e ∙ or_order (t q) (t p) (list_any t qs)
 
--- the pairs are the new one and those that were there
+-- the pairs are the new one and the earlier ones
 pub list_any-with_pair : (t : Pair → Bool) (p : Pair) (qs : List Pair) → Lacks qs p.name
     → list_any t (with_pair qs p) ≡ (t p || list_any t qs)
 list_any-with_pair t p [] h = refl
@@ -70,7 +70,7 @@ no_fault true true lawful e = absurd cc
 no_fault true false false e = absurd cc
 no_fault true false true e = (refl, refl, refl)
 
--- a pair without fault, after these
+-- a pair without a fault, after these
 pub record IsSound (field : OptionField) (earlier : List Pair) (p : Pair) : Type 0 where
   pub option : is_option field p ≡ true
   pub new : Lacks earlier p.name
@@ -82,7 +82,7 @@ sound field earlier p e =
     (is_option_value p.name p.value) e in
     record { option = and_from (is_known field p.name) _ tests.0 tests.2; new = tests.1 }
 
--- what is listed of the pairs so far, and those that are left
+-- the listing of the pairs so far, and the remaining pairs
 pub record IsListedSoFar (field : OptionField) (listed earlier rest : List Pair) : Type 0 where
   pub is_listing : listed ≡ listing earlier
   pub alike : (t : Pair → Bool) → list_any t listed ≡ list_any t earlier
@@ -112,7 +112,7 @@ goes_on field listed earlier p rest so_far =
       left = faults.1;
     }
 
--- ---- the listing is strictly ascending, and its pairs are lawful
+-- ---- the listing is strictly ascending, and its pairs are valid
 
 later : (a b c : List ℕ) → comes_before a b ≡ true → comes_before b c ≡ true → comes_before a c ≡ true
 later a b c p q = ap is_lt (nat_list_cmp_total.trans a b c (is_less _ p) (is_less _ q))
@@ -122,7 +122,7 @@ later a b c p q = ap is_lt (nat_list_cmp_total.trans a b c (is_less _ p) (is_les
     is_less Equal h = absurd cc
     is_less Greater h = absurd cc
 
--- what comes after a name comes after those before it
+-- a name that comes before another also comes before those after it
 pub all_later : (a b : List ℕ) (ps : List Pair) → comes_before a b ≡ true
     → list_all (λ q. comes_before b q.name) ps ≡ true → list_all (λ q. comes_before a q.name) ps ≡ true
 all_later a b [] p h = refl
@@ -138,7 +138,7 @@ all_alike a b (q ∷ qs) p h =
     and_from (comes_before a q.name) _ (ap is_lt (nat_list_cmp_total.congr a b q.name p)
     ∙ parts.0) (all_alike a b qs p parts.1)
 
--- what each pair passes, each passes with one more
+-- if the pairs and one more pass a test, then so do the pairs with this one
 pub list_all-with_pair : (t : Pair → Bool) (p : Pair) (qs : List Pair) → t p ≡ true → list_all t qs ≡ true
     → list_all t (with_pair qs p) ≡ true
 list_all-with_pair t p [] h all = and_from (t p) true h refl
@@ -152,7 +152,7 @@ list_all-with_pair t p (q ∷ qs) h all =
     by Equal at_q rest more = and_from (t p) _ h rest
     by Greater at_q rest more = and_from (t q) _ at_q more
 
--- one more pair at its place leaves the names ascending
+-- one more pair in its place leaves the names ascending
 pub is_ascending-with_pair : (p : Pair) (qs : List Pair) → is_ascending qs ≡ true → is_ascending (with_pair qs p) ≡ true
 is_ascending-with_pair p [] h = refl
 is_ascending-with_pair p (q ∷ qs) h =
@@ -175,7 +175,7 @@ is_ascending-with_pair p (q ∷ qs) h =
         and_from (list_all (λ r. comes_before q.name r.name) (with_pair qs p)) _
         (list_all-with_pair (λ r. comes_before q.name r.name) p qs before after) more
 
--- what stands of a listing stays ascending as pairs are put in
+-- a listing stays ascending as pairs are inserted
 fold_ascending : (ps qs : List Pair) → is_ascending qs ≡ true → is_ascending (fold with_pair qs ps) ≡ true
 fold_ascending [] qs h = h
 fold_ascending (p ∷ ps) qs h = fold_ascending ps (with_pair qs p) (is_ascending-with_pair p qs h)
@@ -190,7 +190,7 @@ fold_all t [] qs h g = g
 fold_all t (p ∷ ps) qs h g = let parts = and_parts (t p) _ h in fold_all t ps (with_pair qs p) parts.1
     (list_all-with_pair t p qs parts.0 g)
 
--- what each pair passes, each pair of the listing passes
+-- if the pairs pass a test, then so do the pairs of the listing
 pub list_all-listing : (t : Pair → Bool) (ps : List Pair) → list_all t ps ≡ true → list_all t (listing ps) ≡ true
 list_all-listing t ps h = fold_all t ps [] h refl
 
@@ -224,7 +224,7 @@ for_kind User ps h = refl
 for_kind Host [] h = refl
 for_kind Host (p ∷ ps) h = absurd cc
 
--- where there is no fault, there is none of the kind and none of a pair
+-- if there is no fault, the kind may have options and no pair has a fault
 pub no_faults : (field : OptionField) (kind : Kind) (ps : List Pair) → options_fault field kind ps ≡ None
     → (are_for_kind kind ps ≡ true) × (first_fault field [] ps ≡ None)
 no_faults field kind ps e = by (are_for_kind kind ps) e
@@ -234,7 +234,7 @@ no_faults field kind ps e = by (are_for_kind kind ps) e
     by true e = (refl, e)
     by false e = absurd cc
 
--- the listing of pairs without a fault is what a field of a certificate holds
+-- the listing of pairs without a fault is valid in a field of a certificate
 pub is_options-listing : (field : OptionField) (kind : Kind) (ps : List Pair)
     → options_fault field kind ps ≡ None → is_options field kind (listing ps) ≡ true
 is_options-listing field kind ps e =
@@ -243,7 +243,7 @@ is_options-listing field kind ps e =
     (and_from (is_ascending (listing ps)) _ (is_ascending-listing ps) (list_all-listing (is_option field) ps
     (all_options field [] ps none.1)))
 
--- a fault of pairs, which no want of memory is
+-- a fault of pairs, which is never a refused allocation
 abbrev IsOfPairs : Option OptionFault → Type 0
 IsOfPairs o = IfSome o (λ e. ¬ (e ≡ NoMemory))
 
@@ -279,7 +279,7 @@ answered X Twice h = refl
 answered X BadValue h = refl
 answered X NoMemory h = absurd (h refl)
 
--- a fault of the pairs, answered
+-- the fault of the pairs was returned
 pub fault_answered-Err : (X : Type 0) (field : OptionField) (kind : Kind) (ps : List Pair) (e : OptionFault)
     → options_fault field kind ps ≡ Some e
     → fault_answered {X = X} (Err e) ≡ options_fault field kind ps

@@ -1,4 +1,4 @@
--- What the lists inside a field say is their text, and their text is read.
+-- The text of the lists read from inside a field is the field's text, and their text is read back.
 use Rattle.cert.proofs.Words.{Bool, IsBytes, List, None, Option, Pair, Some, [], and_from, and_parts, ap, append-nil}
 use Rattle.cert.proofs.Words.{append_assoc, are_networks, are_principals, arith, bytes_eq, bytes_eq-Decides, cases_lt}
 use Rattle.cert.proofs.Words.{codes, cond, eqb, eqb-true, false, flat_map, inl, inr, is_command, is_flag}
@@ -16,11 +16,11 @@ use Rattle.cert.proofs.Sizes.{principal-le}
 
 -- ---- steps
 
--- what follows bytes is bytes
+-- the rest of a list of bytes is a list of bytes
 pub IsBytes_after : (front rest : List ℕ) → IsBytes (front ++ rest) → IsBytes rest
 IsBytes_after front rest h i = subst (λ (n : ℕ). n < 256) (get_or-append-add front rest i 0) (h (length front + i))
 
--- what is left behind a string is bytes
+-- the rest after a front of bytes is a list of bytes
 pub IsBytes_left : (bytes front rest : List ℕ) → bytes ≡ front ++ rest → IsBytes bytes → IsBytes rest
 IsBytes_left bytes front rest e h = IsBytes_after front rest (subst (λ (b : List ℕ). IsBytes b) e h)
 
@@ -30,18 +30,18 @@ IsBytes_front front rest h i = elim (cases_lt i (length front)) [
   | inr ge ↦ rw (get_or_past front i 0 ge) (omega arith)
 ]
 
--- a string at the front of bytes is bytes
+-- a string at the front of bytes is a list of bytes
 pub IsBytes_string : (bytes s rest : List ℕ) → bytes ≡ string_text s ++ rest → IsBytes bytes → IsBytes s
 IsBytes_string bytes s rest e h =
     IsBytes_front s rest (IsBytes_left bytes (u32_text (length s)) (s ++ rest) (e
     ∙ append_assoc (u32_text (length s)) s rest) h)
 
--- a test that let a result through
+-- a result that passed a test
 pub cond_is : {A : Type 0} (b : Bool) (o : Option A) (y : A) → cond b o None ≡ Some y → (b ≡ true) × (o ≡ Some y)
 cond_is true o y e = (refl, e)
 cond_is false o y e = absurd cc
 
--- what was put in front
+-- an element that was put in front of a list
 pub map_is : {X : Type 0} (x : X) (o : Option (List X)) (ys : List X) → option_map (λ xs. x ∷ xs) o ≡ Some ys
     → (xs : List X) × (o ≡ Some xs) × (ys ≡ x ∷ xs)
 map_is x (Some xs) ys e = (xs, refl, sym (same_Some _ _ e))
@@ -54,7 +54,7 @@ strings_step : (k : ℕ) (test : List ℕ → Bool) (bytes s rest : List ℕ) �
 strings_step k test [] s rest h t = absurd cc
 strings_step k test (b ∷ bytes) s rest h t = rw (h, t) refl
 
--- what the strings that were read are
+-- what holds for the strings that were read
 pub record AreStrings (k : ℕ) (test : List ℕ → Bool) (bytes : List ℕ) (ss : List (List ℕ)) : Type 0 where
   pub text : bytes ≡ flat_map string_text ss
   pub pass : list_all test ss ≡ true
@@ -96,7 +96,7 @@ strings_again (suc k) test short (s ∷ ss) pass few =
 
 -- ---- principals
 
--- the principals that were read are lawful, and the text is theirs
+-- the principals that were read are valid, and the text is theirs
 pub principals_found : (text : List ℕ) (ps : List (List ℕ)) → IsBytes text → principals_of text ≡ Some ps
     → (text ≡ principals_text ps) × (are_principals ps ≡ true)
 principals_found text ps h e =
@@ -112,7 +112,7 @@ principals_found text ps h e =
           (le-leb _ _ strings.few)) strings.pass) parts.1,
     ))
 
--- lawful principals are read from their text
+-- valid principals are read back from their text
 pub principals_again : (ps : List (List ℕ)) → are_principals ps ≡ true → principals_of (principals_text ps) ≡ Some ps
 principals_again ps h =
     let parts = and_parts (leb 1 (length ps) && leb (length ps) 16 && list_all is_principal ps) _ h in
@@ -148,12 +148,12 @@ flag_value name value flag h =
         (codes "source-address")).0 f))
     by false false last e f h g = g h
 
--- a text of no bytes
+-- a text of length 0 is empty
 pub empty : (t : List ℕ) → eqb (length t) 0 ≡ true → t ≡ []
 empty [] e = refl
 empty (b ∷ t) e = absurd (omega (arith, eqb-true _ _ e))
 
--- the data of an option, from which its value was read
+-- the data of an option is that of the value that was read from it
 value_found : (name inner value : List ℕ) → IsBytes inner → value_of name inner ≡ Some value
     → inner ≡ option_data (pair_of name value)
 value_found name inner value h e = by (is_flag name) e
@@ -226,7 +226,7 @@ pair_found bytes p rest h e =
         ∙ sym (append_assoc (string_text name) (string_text (option_data (pair_of name value))) after)
         ∙ ap (λ (q : Pair). option_text q ++ after) is ∙ ap (λ (t : List ℕ). option_text p ++ t) ends
 
--- an option is read from its text
+-- an option is read back from its text
 pub pair_again : (p : Pair) (rest : List ℕ) → (is_flag p.name ≡ true → p.value ≡ []) → length p.name < 2 ^ 32
     → length p.value + 4 < 2 ^ 32
     → pair_at (option_text p ++ rest) ≡ Some (p, rest)

@@ -1,4 +1,4 @@
--- What the options inside a field say is their text, and their text is read.
+-- The text of the options read from inside a field is the field's text, and their text is read back.
 use Rattle.cert.proofs.Words.{Bool, CriticalOptions, Extensions, Host, IsBytes, Kind, List, None, OptionField, Pair}
 use Rattle.cert.proofs.Words.{Some, User, [], and_from, and_parts, ap, arith, comes_before, comes_next, cond, eqb}
 use Rattle.cert.proofs.Words.{is_ascending, is_known, is_option, is_options, length, list_all, option_and_then_some}
@@ -15,7 +15,7 @@ abbrev pub ascends : List ℕ → List Pair → Bool
 ascends previous [] = true
 ascends previous (p ∷ ps) = comes_before previous p.name && ascends p.name ps
 
--- what the options that were read are
+-- what holds for the options that were read
 pub record AreOptions (k : ℕ) (field : OptionField) (previous bytes : List ℕ) (ps : List Pair) : Type 0 where
   pub text : bytes ≡ options_text ps
   pub lawful : list_all (is_option field) ps ≡ true
@@ -71,7 +71,7 @@ options_again (suc k) field previous (p ∷ ps) lawful rising few =
     (and_from (is_option field p) _ parts.0 order.0)
     ∙ ap (option_map (λ others. p ∷ others)) (options_again k field p.name ps parts.1 order.1 (omega arith))
 
--- names that ascend, one from the other, ascend
+-- names that ascend one by one are ascending
 pub is_ascending-ascends : (previous : List ℕ) (ps : List Pair) → ascends previous ps ≡ true
     → (list_all (λ q. comes_before previous q.name) ps ≡ true) × (is_ascending ps ≡ true)
 is_ascending-ascends previous [] h = (refl, refl)
@@ -90,7 +90,7 @@ ascends_from previous (p ∷ ps) all h =
     let parts = and_parts (list_all (λ q. comes_before p.name q.name) ps) _ h in
     and_from (comes_before previous p.name) _ first.0 (ascends_from p.name ps parts.0 parts.1)
 
--- each name that is known comes after no byte
+-- each known name comes after the empty one
 named : (field : OptionField) (ps : List Pair) → list_all (is_option field) ps ≡ true
     → list_all (λ q. comes_before [] q.name) ps ≡ true
 named field [] h = refl
@@ -104,7 +104,7 @@ named field (p ∷ ps) h =
     some Extensions [] e = absurd cc
     some field (b ∷ name) e = refl
 
--- the options that were read are lawful, and the text is theirs
+-- the options that were read are valid, and the text is theirs
 pub options_of_found : (field : OptionField) (kind : Kind) (text : List ℕ) (ps : List Pair) → IsBytes text
     → options_of field kind text ≡ Some ps → (text ≡ options_text ps) × (is_options field kind ps ≡ true)
 options_of_found field User text ps h e =
@@ -116,7 +116,7 @@ options_of_found field Host text ps h e =
     let is = same_Some _ _ none.1 in
     (empty text none.0 ∙ ap options_text is, subst (λ (l : List Pair). is_options field Host l ≡ true) is refl)
 
--- lawful options are read from their text
+-- valid options are read back from their text
 pub options_of_again : (field : OptionField) (kind : Kind) (ps : List Pair) → is_options field kind ps ≡ true
     → options_of field kind (options_text ps) ≡ Some ps
 options_of_again field User ps h =

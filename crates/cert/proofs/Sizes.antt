@@ -1,4 +1,4 @@
--- What a certificate holds is short.
+-- The fields of a certificate are short.
 use Rattle.cert.proofs.Words.{AllByRecursion, Bool, CriticalOptions, Extensions, Kind, List, None, Option, OptionField}
 use Rattle.cert.proofs.Words.{Pair, Some, [], and_parts, ap, are_for_kind, are_networks, are_principals, arith}
 use Rattle.cert.proofs.Words.{bytes_eq, bytes_eq-Decides, cases_Bool, codes, cond, drop, eqb, eqb-true, false, flat_map}
@@ -30,7 +30,7 @@ number-le limit k t some wide fits h =
     subst (λ (s : List ℕ). length s ≤ k) (decimal_below limit t fits h) (length-decimal-le k
     (digits_value 10 t) some (omega arith) (omega arith))
 
--- pieces of at most k bytes, joined
+-- joined pieces of at most k bytes
 joined-le : (c k : ℕ) (p : List ℕ → Bool) → ((t : List ℕ) → p t ≡ true → length t ≤ k) → (ts : List (List ℕ))
     → list_all p ts ≡ true
     → length (join_with_byte c ts) ≤ length ts * (k + 1)
@@ -41,7 +41,7 @@ joined-le c k p short (t ∷ u ∷ ts) h =
     let more = joined-le c k p short (u ∷ ts) parts.1 in
     omega (arith, short t parts.0, more, length-append t (c ∷ join_with_byte c (u ∷ ts)))
 
--- what was cut into pieces of at most k bytes
+-- a text that was cut into pieces of at most k bytes
 pieces-le : (c k : ℕ) (p : List ℕ → Bool) → ((t : List ℕ) → p t ≡ true → length t ≤ k) → (t : List ℕ)
     → list_all p (slice_split (λ b. eqb b c) t) ≡ true
     → length t ≤ length (slice_split (λ b. eqb b c) t) * (k + 1)
@@ -49,7 +49,7 @@ pieces-le c k p short t h =
     let whole = ap length (join_with_byte-slice_split c t) in
     omega (arith, joined-le c k p short (slice_split (λ b. eqb b c) t) h)
 
--- an address, as 255.255.255.255
+-- an address, for example 255.255.255.255
 address-le : (t : List ℕ) (a : ℕ) → address_of t ≡ Some a → length t ≤ 16
 address-le t a e = elim (cases_Bool (are_octets octets)) [
   | inl there ↦
@@ -62,7 +62,7 @@ address-le t a e = elim (cases_Bool (are_octets octets)) [
     octets : List (List ℕ)
     octets = slice_split (λ b. eqb b 46) t
 
--- the parts of a network, as 255.255.255.255 and 32
+-- the parts of a network, for example 255.255.255.255 and 32
 block-le : (front back : List ℕ) (address size : Option ℕ) → address_of front ≡ address → number_of back ≡ size
     → is_block address size ≡ true
     → (length front ≤ 16) × (length back ≤ 2)
@@ -74,7 +74,7 @@ block-le front back (Some a) (Some n) e f h =
     let two = length-decimal-le 2 n (omega arith) (omega arith) (omega arith) in
     (address-le front a e, omega (arith, ap length digits, two))
 
--- a network, as 255.255.255.255/32
+-- a network, for example 255.255.255.255/32
 network-le : (t : List ℕ) → is_network t ≡ true → length t ≤ 19
 network-le t h =
     let parts = block-le (before_first (λ b. eqb b 47) t) (after_first (λ b. eqb b 47) t) _ _ refl refl h in
@@ -88,7 +88,7 @@ networks-le t h =
     let parts = and_parts (leb (length (slice_split (λ b. eqb b 44) t)) 8) _ h in
     omega (arith, leb-true _ _ parts.0, pieces-le 44 19 is_network network-le t parts.1)
 
--- what ends a key id
+-- the end of a key id
 pub key_id_end-le : (t : List ℕ) → is_key_id_end t ≡ true → length t ≤ 65
 key_id_end-le [] h = omega arith
 key_id_end-le (b ∷ rest) h = grind (arith, nat_tests)
@@ -107,7 +107,7 @@ key_id-lt t h =
 pub principal-le : (t : List ℕ) → is_principal t ≡ true → length t ≤ 64
 principal-le t h = grind (arith, nat_tests)
 
--- texts of at most k bytes, in a row
+-- joined texts of at most k bytes
 texts-le : {X : Type 0} (k : ℕ) (f : X → List ℕ) (p : X → Bool) → ((x : X) → p x ≡ true → length (f x) ≤ k)
     → (xs : List X) → list_all p xs ≡ true
     → length (flat_map f xs) ≤ length xs * k
@@ -126,7 +126,7 @@ principals_text-lt ps h =
     λ t e. omega (arith, principal-le t e) in
     omega (arith, texts-le 68 string_text is_principal short ps lawful.1)
 
--- one of these names is as short as they are
+-- if all of these names are short, then so is one of them
 known-le : (k : ℕ) (known : List (List ℕ)) (name : List ℕ) → list_all (λ t. leb (length t) k) known ≡ true
     → list_any (λ t. bytes_eq t name) known ≡ true → length name ≤ k
 known-le k [] name short h = absurd cc
@@ -137,7 +137,7 @@ known-le k (t ∷ known) name short h =
       | inr other ↦ known-le k known name parts.1 other
     ]
 
--- a name that is known is short
+-- a known name is short
 pub name-le : (field : OptionField) (name : List ℕ) → is_known field name ≡ true → length name ≤ 23
 name-le CriticalOptions name h = known-le 23 (known_names CriticalOptions) name refl h
 name-le Extensions name h = known-le 23 (known_names Extensions) name refl h

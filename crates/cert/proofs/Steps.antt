@@ -1,11 +1,11 @@
--- Steps of reading: where one fails, the whole fails so.
+-- Steps of reading: if one fails, reading fails with its fault.
 use Rattle.cert.proofs.Words.{CertFault, Err, Gives, Kind, List, None, Ok, Option, Result, Some, ap, inl}
 use Rattle.cert.proofs.Words.{inr, option_and_then, or_fault, refl, subst, sym, ℕ, ◌>>=◌, ◌≡◌}
 use Rattle.std.proofs.Common.{◌⊎◌}
 use Rattle.cert.specs.Reading.{GivesRest, both_options_at, end_at, from_key_id_at, names_at, validity_at}
 use Rattle.cert.specs.declared.cert_fault.CertFault.TheVariants as fault
 
--- the fault is what reading gives, or memory was refused
+-- reading gives this fault, or memory was refused
 abbrev pub IsFound : {X : Type 0} → CertFault → Result X CertFault → Type 0
 IsFound e read = (e ≡ fault.NoMemory) ⊎ (read ≡ Err e)
 
@@ -47,7 +47,7 @@ pub gives : {X : Type 0} (e : CertFault) (read : Result X CertFault) → IsFound
 gives {X} e read (inl none) = subst (λ (e : CertFault). Gives {X = X} (Err e) read) (sym none) tt
 gives {X} e read (inr is) = subst (λ (r : Result X CertFault). Gives (Err e) r) (sym is) (same X e)
 
--- what is left says nothing of a fault
+-- the remaining bytes don't matter for a fault
 pub found_rest : {X : Type 0} (e : CertFault) (rest : List ℕ) (read : Result (X × List ℕ) CertFault)
     → GivesRest {X = X} (Err e) rest read → Gives (Err e) read
 found_rest fault.Truncated rest read h = h
@@ -74,7 +74,7 @@ stops e read next h = gives e (read >>= next) (elim (found e read h) [
   | inr is ↦ inr (ap (λ r. r >>= next) is)
 ])
 
--- and so is what comes of a step that went well
+-- and after a step that succeeded, the result is that of the steps after it
 pub goes_on : {A B : Type 0} (read : Result A CertFault) (x : A) (next : A → Result B CertFault) → read ≡ Ok x
     → (read >>= next) ≡ next x
 goes_on read x next is = ap (λ r. r >>= next) is
@@ -111,7 +111,7 @@ pub in_four : (nonce key : List ℕ) (serial : ℕ) (kind : Kind) (bytes : List 
 unfolding from_key_id_at
 in_four nonce key serial kind bytes = simp joined
 
--- a fault of what an option is made of
+-- a fault in a part of an option is a fault of the option
 pub passes_on : {A B : Type 0} (bad e : CertFault) (o : Option A) (f : A → Option B)
     → Gives (Err e) (or_fault bad o) → Gives (Err e) (or_fault bad (option_and_then f o))
 passes_on {A} {B} bad e o f h = gives e _ (elim (found e _ h) [

@@ -1,4 +1,4 @@
--- The fields of a body read one after another: what is left to be done behind each, and how each goes on or fails.
+-- Reading the fields of a body in order: the steps that remain after each, and how each goes on or fails.
 use Rattle.cert.proofs.Words.{Bool, CertFault, CertFields, CriticalOptions, Extensions, List, None, Ok, Option, Result}
 use Rattle.cert.proofs.Words.{Some, ap, bytes_eq, cert_type, check, ends_at, eqb, is_key_id, is_serial, is_some}
 use Rattle.cert.proofs.Words.{is_validity, key_of, kind_of, length, option_map, options_of, or_fault, principals_of}
@@ -10,13 +10,13 @@ use Rattle.cert.proofs.BodyParts.{option_cases}
 
 -- ---- how a field is read
 
--- what comes first passes a test, and a value is taken of it
+-- the first item passes a test, and a value is made from it
 abbrev pub tested : {S A : Type 0} → CertFault → (List ℕ → Option (S × List ℕ)) → (S → Bool) → (S → A) → List ℕ
     → Result (A × List ℕ) CertFault
 tested bad at test value bytes = or_fault fault.Truncated (at bytes) >>= λ s. check bad (test s.0) >>= λ _. Ok
     (value s.0, s.1)
 
--- what comes first is the text of a value
+-- the first item is the text of a value
 abbrev pub made : {S A : Type 0} → CertFault → (List ℕ → Option (S × List ℕ)) → (S → Option A) → List ℕ
     → Result (A × List ℕ) CertFault
 made bad at of bytes = or_fault fault.Truncated (at bytes) >>= λ s. or_fault bad (of s.0) >>= λ x. Ok (x, s.1)
@@ -39,7 +39,7 @@ validity_is_tested bytes =
     option_cases (u64_at bytes) _ (λ none. rw none refl) (λ a is. option_cases (u64_at a.1) _
     (λ none. rw (is, none) refl) (λ b also. rw (is, also) refl))
 
--- ---- what is left to be done, with the fields that were read in c
+-- ---- the remaining steps, with the fields read so far in c
 
 abbrev pub from_end : CertFields → List ℕ → Result CertFields CertFault
 from_end c rest = check fault.TrailingBytes (eqb (length rest) 0) >>= λ _. Ok c
@@ -90,7 +90,7 @@ abbrev pub from_type : CertFields → List ℕ → Result CertFields CertFault
 from_type c rest = tested fault.WrongType string_at (λ s. bytes_eq s cert_type) (λ _. tt) rest
     >>= λ (x : Unit {0} × List ℕ). from_nonce c x.1
 
--- reading a body is reading from its type on
+-- reading a body begins with its type
 pub body_at-from_type : (c : CertFields) (bytes : List ℕ) → body_at bytes ≡ from_type c bytes
 unfolding body_at from_key_id_at type_at bytes_32_at serial_at kind_at key_id_at principals_at options_at reserved_at
     ca_at

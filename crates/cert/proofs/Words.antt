@@ -1,4 +1,4 @@
--- The words of the libraries and of the definitions that several proof files speak.
+-- The names from libraries and definitions that several proof files use.
 pub use Rattle.cert.specs.Bodies.{IsCertFields, are_principals, body_text, cert_type, front, is_validity, kind_number}
 pub use Rattle.cert.specs.Bodies.{principals_text}
 pub use Rattle.cert.specs.Faults.{IsFault, Leaves, ends_at, is_whole}

@@ -1,5 +1,5 @@
--- Certificate bodies (PROTOCOL.certkeys, "New certificate formats": ssh-ed25519-cert-v01@openssh.com, up to the
--- signature).
+-- Unsigned certificates, called bodies (PROTOCOL.certkeys, "New certificate formats":
+-- ssh-ed25519-cert-v01@openssh.com, up to the signature).
 use Rattle.std.specs.Prelude.{
   ◌≡◌,
   ℕ,
@@ -42,7 +42,7 @@ kind_number Host = 2
 abbrev pub principals_text : List (List ℕ) → List ℕ
 principals_text principals = flat_map string_text principals
 
--- the fields in order, each as it is written
+-- the text of each field, in order
 abbrev pub field_texts : CertFields → List (List ℕ)
 field_texts c =
     string_text cert_type
@@ -59,11 +59,11 @@ field_texts c =
     ∷ string_text (key_blob c.ca)
     ∷ []
 
--- the first so many fields
+-- the first n fields
 abbrev pub front : ℕ → CertFields → List ℕ
 front n c = fold ◌++◌ [] (take n (field_texts c))
 
--- what is signed: all fields
+-- what the CA signs: all fields
 abbrev pub body_text : CertFields → List ℕ
 body_text c = front 12 c
 
@@ -75,7 +75,7 @@ are_principals ps = nat_le 1 (length ps) && nat_le (length ps) 16 && list_all is
 abbrev pub is_validity : ℕ → ℕ → Bool
 is_validity after before = nat_lt after before && nat_le before 253402300799
 
--- what the fields of a certificate keep
+-- the conditions on the fields of a certificate
 pub record IsCertFields (c : CertFields) : Type 0 where
   pub nonce : length c.nonce ≡ 32
   pub key : length c.key ≡ 32

@@ -1,8 +1,8 @@
--- Certificates (PROTOCOL.certkeys): a body, and the signature that the CA made over it.
+-- Certificates (PROTOCOL.certkeys): an unsigned certificate (body), and the CA's signature of it.
 use Rattle.std.specs.Prelude.{ℕ, List, ◌++◌}
 use Rattle.wire.specs.Texts.{string_text}
 use Rattle.lines.specs.Keys.{signature_blob}
 
--- the body and the blob of the 64 bytes of its signature, as a string
+-- the body, and the blob of the signature's 64 bytes as a string
 abbrev pub certificate_text : List ℕ → List ℕ → List ℕ
 certificate_text body signature = body ++ string_text (signature_blob signature)

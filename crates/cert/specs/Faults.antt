@@ -1,4 +1,4 @@
--- What each fault says of the bytes: the fields before it are those of a lawful body, and the next one is cut or bad.
+-- What each fault means: the fields before it are those of a valid unsigned certificate; the next one is cut or bad.
 use Rattle.std.specs.Prelude.{
   ◌≡◌,
   ◌≢◌,
@@ -55,18 +55,18 @@ use Rattle.cert.specs.declared.cert_fault.CertFault.TheVariants.{
   NoMemory,
 }
 
--- The bytes begin with the first n fields of a lawful body, and this is the rest.
+-- The bytes begin with the first n fields of a valid body, and this is the rest.
 pub record Leaves (bytes : List ℕ) (n : ℕ) (c : CertFields) (rest : List ℕ) : Type 0 where
   pub lawful : IsCertFields c
   pub text : bytes ≡ front n c ++ rest
 
--- Behind the first n fields stands a string that is no lawful one.
+-- After the first n fields comes a string that isn't valid.
 abbrev pub HasBadString : List ℕ → ℕ → (CertFields → List ℕ → Type 0) → Type 0
 HasBadString bytes n Lawful =
     (c : CertFields) × (rest : List ℕ) × Leaves bytes n c rest
     × ((s : List ℕ × List ℕ) × (string_at rest ≡ Some s) × ¬ (Lawful c s.0))
 
--- two numbers of 8 bytes, and what follows them
+-- two 8-byte numbers, and the bytes after them
 abbrev pub ends_at : List ℕ → Option (ℕ × ℕ × List ℕ)
 ends_at bytes =
     option_and_then (λ after. option_and_then (λ before. Some (
@@ -75,14 +75,14 @@ ends_at bytes =
       before.1,
     )) (u64_at after.1)) (u64_at bytes)
 
--- whether the nth field is whole at the front of bytes: a serial, a kind, two ends, else a string
+-- whether the nth field is whole at the front of the bytes: a serial, a kind, two ends, or else a string
 abbrev pub is_whole : ℕ → List ℕ → Bool
 is_whole n bytes =
     if n == 3 then is_some (u64_at bytes)
     else (if n == 4 then is_some (u32_at bytes)
     else (if n == 7 then is_some (ends_at bytes) else is_some (string_at bytes)))
 
--- what each fault says of the bytes; a refused growth says nothing of them
+-- what each fault means for the bytes; a refused allocation means nothing for them
 abbrev pub IsFault : List ℕ → CertFault → Type 0
 IsFault bytes Truncated =
     (n : ℕ) × (n < 12) × (c : CertFields) × (rest : List ℕ) × Leaves bytes n c rest × (is_whole n rest ≡ false)

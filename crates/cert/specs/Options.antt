@@ -11,25 +11,25 @@ use Rattle.values.specs.declared.kind.Kind.{Kind}
 use Rattle.values.specs.declared.kind.Kind.TheVariants.{User, Host}
 use Rattle.values.specs.declared.option_field.OptionField.{OptionField}
 
--- whether a name stands before another, byte by byte
+-- whether a name comes before another in byte order
 abbrev pub comes_before : List ℕ → List ℕ → Bool
 comes_before name other = is_lt (slice_cmp nat_cmp name other)
 
--- whether each name stands before all that follow it
+-- whether each name comes before all that follow it
 abbrev pub is_ascending : List Pair → Bool
 is_ascending [] = true
 is_ascending (p ∷ ps) = list_all (λ q. comes_before p.name q.name) ps && is_ascending ps
 
--- the pairs with one more at its place; of two values of one name the new one stays
+-- the pairs with one more in its place; of two values for one name, the new one stays
 abbrev pub with_pair : List Pair → Pair → List Pair
 with_pair [] p = p ∷ []
 with_pair (q ∷ qs) p = match_ordering (slice_cmp nat_cmp p.name q.name) (p ∷ q ∷ qs) (p ∷ qs) (q ∷ with_pair qs p)
 
--- the strictly ascending listing of the map that the pairs make
+-- the strictly ascending list of the map that the pairs make
 abbrev pub listing : List Pair → List Pair
 listing ps = fold with_pair [] ps
 
--- a name that the field knows, with a value that is lawful for it
+-- a name that the field may have, with a value that is valid for it
 abbrev pub is_option : OptionField → Pair → Bool
 is_option field p = is_known field p.name && is_option_value p.name p.value
 
@@ -39,11 +39,11 @@ are_for_kind User ps = true
 are_for_kind Host [] = true
 are_for_kind Host (p ∷ ps) = false
 
--- the options that a certificate of the kind may have in the field, as they are kept
+-- the options that a certificate of the kind may have in the field, in ascending order of their names
 abbrev pub is_options : OptionField → Kind → List Pair → Bool
 is_options field kind ps = are_for_kind kind ps && (is_ascending ps && list_all (is_option field) ps)
 
--- no bytes for a flag, else the value as a string
+-- no bytes for a flag, otherwise the value as a string
 abbrev pub option_data : Pair → List ℕ
 option_data p = if is_flag p.name then [] else string_text p.value
 

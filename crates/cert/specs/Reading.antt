@@ -1,4 +1,4 @@
--- What bytes say as a body, from left to right, or the first fault.
+-- Reading bytes as an unsigned certificate (body), from left to right: its fields, or the first fault.
 use Rattle.std.specs.Prelude.{
   ◌≡◌,
   ℕ,
@@ -60,13 +60,13 @@ use Rattle.cert.specs.declared.cert_fault.CertFault.TheVariants.{
 abbrev pub check : CertFault → Bool → Result (Unit {0}) CertFault
 check e b = if b then Ok tt else Err e
 
--- What was answered is what reading gives, unless memory was refused.
+-- The result is what reading gives, unless memory was refused.
 abbrev pub Gives : {X : Type 0} → Result X CertFault → Result X CertFault → Type 0
 Gives (Ok x) read = read ≡ Ok x
 Gives (Err NoMemory) read = Unit {0}
 Gives (Err e) read = read ≡ Err e
 
--- The same with what is left of the bytes.
+-- The same with the remaining bytes.
 abbrev pub GivesRest : {X : Type 0} → Result X CertFault → List ℕ → Result (X × List ℕ) CertFault → Type 0
 GivesRest (Ok x) rest read = read ≡ Ok (x, rest)
 GivesRest (Err NoMemory) rest read = Unit {0}
@@ -76,14 +76,14 @@ GivesRest (Err e) rest read = read ≡ Err e
 abbrev pub pair_of : List ℕ → List ℕ → Pair
 pair_of name value = record { name = name; value = value }
 
--- What was found of a pair, and what is left, are what reading gives.
+-- The pair that was found, and the remaining bytes, are what reading gives.
 abbrev pub GivesPair : Option (List ℕ × List ℕ) → List ℕ → Option (Pair × List ℕ) → Type 0
 GivesPair (Some found) rest read = read ≡ Some (pair_of found.0 found.1, rest)
 GivesPair None rest read = read ≡ None
 
 -- ---- inside a field
 
--- strings one after another, at most so many, each of which passes the test
+-- at most `most` strings, each of which passes the test
 abbrev pub strings_within : ℕ → (List ℕ → Bool) → List ℕ → Option (List (List ℕ))
 strings_within most test [] = Some []
 strings_within zero test (b ∷ bytes) = None
@@ -97,13 +97,13 @@ principals_of text =
     option_and_then (λ ps. if nat_le 1 (length ps) && are_distinct ps then Some ps else None)
     (strings_within 16 is_principal text)
 
--- the value that the data of an option holds: a flag has neither, other options have a string
+-- the value in the data of an option: a flag has no data and no value, other options have a string
 abbrev pub value_of : List ℕ → List ℕ → Option (List ℕ)
 value_of name inner =
     if is_flag name then (if length inner == 0 then Some [] else None)
     else option_and_then (λ s. if length s.1 == 0 then Some s.0 else None) (string_at inner)
 
--- a name, the value that its data holds, and what follows them
+-- a name, the value in its data, and the bytes after them
 abbrev pub pair_at : List ℕ → Option (Pair × List ℕ)
 pair_at bytes =
     option_and_then (λ name. option_and_then (λ inner. option_map (λ value. (pair_of name.0 value, inner.1))
@@ -113,7 +113,7 @@ pair_at bytes =
 abbrev pub comes_next : OptionField → List ℕ → Pair → Bool
 comes_next field previous p = is_option field p && comes_before previous p.name
 
--- options one after another, at most so many, whose names ascend from the previous one on
+-- at most `most` options, whose names ascend from the previous one on
 abbrev pub options_within : ℕ → OptionField → List ℕ → List ℕ → Option (List Pair)
 options_within most field previous [] = Some []
 options_within zero field previous (b ∷ bytes) = None
@@ -122,7 +122,7 @@ options_within (suc most) field previous (b ∷ bytes) =
     then option_map (λ others. o.0 ∷ others) (options_within most field o.0.name o.1) else None)
     (pair_at (b ∷ bytes))
 
--- the options of a field: a host has none, and a user at most as many as there are extensions
+-- the options of a field: a host has none, and a user has at most as many as there are extensions
 abbrev pub options_of : OptionField → Kind → List ℕ → Option (List Pair)
 options_of field User text = options_within 6 field [] text
 options_of field Host text = if length text == 0 then Some [] else None
@@ -131,7 +131,7 @@ options_of field Host text = if length text == 0 then Some [] else None
 abbrev pub kind_of : ℕ → Option Kind
 kind_of n = if n == 1 then Some User else (if n == 2 then Some Host else None)
 
--- ---- field after field
+-- ---- field by field
 
 unfoldable pub type_at : List ℕ → Result (Unit {0} × List ℕ) CertFault
 type_at bytes = do
@@ -176,7 +176,7 @@ validity_at bytes = do
   _ ← check BadValidity (is_validity after.0 before.0)
   Ok ((after.0, before.0), before.1)
 
--- the fault of a field of options
+-- the fault of an options field
 abbrev pub field_fault : OptionField → CertFault
 field_fault CriticalOptions = BadOptions
 field_fault Extensions = BadExtensions
@@ -206,14 +206,14 @@ names_at bytes = do
   principals ← principals_at key_id.1
   Ok ((key_id.0, principals.0), principals.1)
 
--- both fields of options
+-- both options fields
 abbrev pub both_options_at : Kind → List ℕ → Result ((List Pair × List Pair) × List ℕ) CertFault
 both_options_at kind bytes = do
   options ← options_at CriticalOptions kind bytes
   extensions ← options_at Extensions kind options.1
   Ok ((options.0, extensions.0), extensions.1)
 
--- the key of the CA behind the reserved field, with which a body ends
+-- the reserved field and the CA's key, which end a body
 abbrev pub end_at : List ℕ → Result (List ℕ) CertFault
 end_at bytes = do
   reserved ← reserved_at bytes

@@ -1,4 +1,4 @@
-//! Bodies read.
+//! Reading unsigned certificates (bodies).
 
 ghost use Rattle.std.specs.Prelude.{◌≡◌, ◌≢◌, IfOk, IfErr};
 ghost use Rattle.cert.specs.declared.cert_fault.CertFault.{CertFault};
@@ -179,7 +179,7 @@ fn read_names(alloc: Global, cursor: &mut Cursor) -> Result<(Text, Texts), CertF
     Ok((key_id, principals))
 }
 
-// Both fields of options.
+// Both options fields.
 fn read_both_options(
     alloc: Global,
     cursor: &mut Cursor,
@@ -192,7 +192,7 @@ fn read_both_options(
     Ok((options, extensions))
 }
 
-// The reserved field and the CA's key, with which a body ends.
+// The reserved field and the CA's key, which end a body.
 fn read_end(cursor: &mut Cursor) -> Result<[u8; 32], CertFault>
     ensures { Gives result (end_at cursor.old) }
 {
@@ -247,22 +247,22 @@ fn fields_in(alloc: Global, bytes: &[u8]) -> Result<CertFields, CertFault>
     read_from_key_id(alloc, &mut cursor, nonce, key, serial, kind)
 }
 
-/// Reads a body (PROTOCOL.certkeys) of the profile: a text that `write_body` may write, and no other.
+/// Reads an unsigned certificate (PROTOCOL.certkeys) of the profile: a text that `write_body` may write, and no other.
 ///
 /// # Errors
 ///
-/// The first fault from the left, in the order of `CertFault`. Both ends of the validity are judged once both were
+/// The first fault from the left, in the order of `CertFault`. Both ends of the validity are judged after both were
 /// read.
 pub fn read_body(alloc: Global, bytes: &[u8]) -> Result<CertFields, CertFault>
     ensures exact { Gives result (body_at bytes.now) }
 
-    // What is read is lawful, and the bytes are its text.
+    // What is read is valid, and the bytes are its text.
     ensures found { IfOk result (λ c. IsCertFields c × (bytes.now ≡ body_text c)) }
 
-    // The text of lawful fields is read, or memory is refused. So no text belongs to two values.
+    // The text of valid fields is read, or memory is refused. So no text belongs to two values.
     ensures only { (c : CertFields) → IsCertFields c → bytes.now ≡ body_text c → Gives result (Ok c) }
 
-    // The fault that is answered is there, and the fault that is there is answered, or memory is refused.
+    // The returned fault is a fault of the bytes, and a fault of the bytes is returned, or memory is refused.
     ensures fault { IfErr result (λ e. IsFault bytes.now e) }
     ensures answered { (e : CertFault) → e ≢ CertFault.NoMemory → IsFault bytes.now e → Gives result (Err e) }
 {

@@ -1,17 +1,17 @@
-//! Faults of certificate bodies.
+//! Faults of unsigned certificates (bodies).
 
 use text::NoMemory;
 
-/// Why bytes are no body, in the order in which it is looked at: the first field that fails.
+/// Why bytes aren't a body, in the order of the tests: the first field that fails.
 #[derive(Clone, Copy, Debug, PartialEq, Eq)]
 pub enum CertFault {
     /// The bytes end inside an integer or a string of the body itself.
     Truncated,
     /// The type isn't `ssh-ed25519-cert-v01@openssh.com`.
     WrongType,
-    /// The nonce hasn't 32 bytes.
+    /// The nonce doesn't have 32 bytes.
     BadNonce,
-    /// The key hasn't 32 bytes.
+    /// The key doesn't have 32 bytes.
     BadKey,
     /// The serial is 0 or over 9223372036854775806.
     BadSerial,
@@ -19,21 +19,21 @@ pub enum CertFault {
     BadKind,
     /// The key id isn't a department's name, `/`, and 1 to 64 printable bytes.
     BadKeyId,
-    /// The principals aren't 1 to 16 distinct ones.
+    /// The principals aren't 1 to 16 distinct valid names.
     BadPrincipals,
     /// An end is over 253402300799, or the validity doesn't begin before it ends.
     BadValidity,
-    /// The critical options aren't lawful ones of the kind, strictly ascending by name.
+    /// The critical options aren't valid for the kind, or their names don't ascend strictly.
     BadOptions,
-    /// The extensions aren't lawful ones of the kind, strictly ascending by name.
+    /// The extensions aren't valid for the kind, or their names don't ascend strictly.
     BadExtensions,
-    /// The reserved field has bytes.
+    /// The reserved field isn't empty.
     BadReserved,
     /// The CA's key isn't the blob of an Ed25519 key.
     BadCa,
     /// Bytes follow the last field.
     TrailingBytes,
-    /// A growth was refused.
+    /// An allocation was refused.
     NoMemory,
 }
 

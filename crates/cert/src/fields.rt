@@ -4,20 +4,20 @@ use crate::options::Options;
 use text::{Text, Texts};
 use values::Kind;
 
-/// The fields of a certificate that its body holds (PROTOCOL.certkeys, ssh-ed25519-cert-v01@openssh.com).
+/// The fields of an unsigned certificate, or body (PROTOCOL.certkeys, ssh-ed25519-cert-v01@openssh.com).
 #[derive(Drop)]
 pub struct CertFields {
-    /// Bytes that make two bodies differ.
+    /// The nonce, which makes two bodies differ.
     pub nonce: [u8; 32],
     /// The subject's Ed25519 public key.
     pub key: [u8; 32],
     /// 1 to 9223372036854775806.
     pub serial: u64,
-    /// Whether it is for a user or for a host.
+    /// Whether the certificate is for a user or for a host.
     pub kind: Kind,
     /// A department's name, `/` and 1 to 64 bytes from 0x21 to 0x7e.
     pub key_id: Text,
-    /// 1 to 16 distinct principals, in the order given.
+    /// 1 to 16 distinct principals, in the given order.
     pub principals: Texts,
     /// The first second of the validity, since 1970-01-01 00:00:00 UTC.
     pub after: u64,
@@ -27,6 +27,6 @@ pub struct CertFields {
     pub options: Options,
     /// Extensions, ascending by name.
     pub extensions: Options,
-    /// The Ed25519 public key of the CA that is to sign.
+    /// The Ed25519 public key of the CA that is to sign the body.
     pub ca: [u8; 32],
 }

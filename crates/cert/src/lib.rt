@@ -1,8 +1,8 @@
-//! OpenSSH certificate bodies: options, fields, signatures joined.
+//! OpenSSH unsigned certificates (bodies): their options and fields, and joining a body and its signature.
 //!
-//! Options are kept strictly ascending by name, whatever the order in which they are given.
-//! A body that is written is the text of its fields, and is read to the same fields; no text is read as two values.
-//! Bytes that are no body of the profile are refused by the first field that fails.
+//! Options are kept in strictly ascending order of their names, whatever the order in which they are given.
+//! A written body is the text of its fields, and is read back as the same fields; no text is read as two values.
+//! Bytes that aren't a body of the profile are refused with the fault of the first field that fails.
 #![tactic(auto)]
 
 mod body_reader;

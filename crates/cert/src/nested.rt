@@ -1,4 +1,4 @@
-//! Lists inside a field of a body.
+//! Lists inside a field of an unsigned certificate (body).
 
 ghost use Rattle.std.specs.Prelude.{◌≡◌, ◌==◌, ◌&&◌, [], ◌∷◌, ◌++◌, length, nat_le, if◌then◌else◌};
 ghost use Rattle.std.specs.Prelude.{OnOk, option_and_then, option_copied};
@@ -33,7 +33,7 @@ use values::{
 };
 use wire::Cursor;
 
-// As many strings as a certificate may have principals.
+// Reads at most 16 strings, each of them a principal.
 fn listed_principals(alloc: Global, text: &[u8]) -> Result<Texts, CertFault>
     ensures { Gives result (or_fault BadPrincipals (strings_within 16 is_principal text.now)) }
 {
@@ -63,7 +63,7 @@ fn are_lawful(principals: &Texts) -> bool
     !principals.is_empty() && are_distinct(principals.as_slice())
 }
 
-/// The principals of a field's text.
+/// Reads the principals of a field's text.
 pub(crate) fn principals_in(alloc: Global, text: &[u8]) -> Result<Texts, CertFault>
     ensures { Gives result (or_fault BadPrincipals (principals_of text.now)) }
 {
@@ -144,7 +144,7 @@ fn push_pair(alloc: Global, options: &mut Pairs, name: &[u8], value: &[u8]) -> R
     options.push(Pair { name, value })
 }
 
-// As many options as there are extensions.
+// Reads at most six options.
 fn listed_options(alloc: Global, field: OptionField, text: &[u8]) -> Result<Pairs, CertFault>
     ensures { Gives result (or_fault (field_fault field) (options_within 6 field [] text.now)) }
 {
@@ -171,7 +171,7 @@ fn listed_options(alloc: Global, field: OptionField, text: &[u8]) -> Result<Pair
     Ok(options)
 }
 
-/// The options of a field's text, where the certificate is of this kind.
+/// Reads the options of a field's text, for a certificate of this kind.
 pub(crate) fn options_in(
     alloc: Global,
     kind: Kind,

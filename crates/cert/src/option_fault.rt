@@ -3,7 +3,7 @@
 use std::alloc::{AllocError, AllocFailed};
 use text::NoMemory;
 
-/// Why pairs make no options, in the order in which it is looked for.
+/// Why pairs aren't options, in the order of the tests.
 #[derive(Clone, Copy, Debug, PartialEq, Eq)]
 pub enum OptionFault {
     /// Hosts have no options.
@@ -14,7 +14,7 @@ pub enum OptionFault {
     Twice,
     /// The option can't have this value.
     BadValue,
-    /// A growth was refused.
+    /// An allocation was refused.
     NoMemory,
 }
 

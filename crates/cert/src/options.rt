@@ -62,7 +62,7 @@ fn first_fault_of(field: OptionField, pairs: &[Pair]) -> Option<OptionFault>
     None
 }
 
-/// Whether a name stands before another, byte by byte.
+/// Whether a name comes before another in byte order.
 pub(crate) fn comes_before(name: &[u8], other: &[u8]) -> bool
     ensures { result ≡ comes_before name.now other.now }
 {
@@ -85,7 +85,7 @@ fn place_of(name: &[u8], listed: &[Pair]) -> usize
     first_after(name, listed).unwrap_or(listed.len())
 }
 
-/// The fault of the pairs, where they have one.
+/// The fault of the pairs, if they have one.
 fn judge(kind: Kind, field: OptionField, pairs: &[Pair]) -> Option<OptionFault>
     ensures { result ≡ options_fault field kind pairs.now }
 {
@@ -98,12 +98,12 @@ fn judge(kind: Kind, field: OptionField, pairs: &[Pair]) -> Option<OptionFault>
 impl Options {
     /// The options that these pairs make in a field of a certificate of this kind. A flag's value has no bytes.
     ///
-    /// The pairs may stand in any order.
+    /// The pairs may be in any order.
     ///
     /// # Errors
     ///
-    /// `NotForHosts`, and then the fault of the first faulty pair: `Unknown`, `Twice` or `BadValue`, in this order.
-    /// Memory is asked for only where the pairs have no fault.
+    /// `NotForHosts`, or else the fault of the first faulty pair: `Unknown`, `Twice` or `BadValue`, in this order.
+    /// Memory is allocated only if the pairs have no fault.
     pub fn build(
         alloc: Global,
         kind: Kind,
@@ -113,7 +113,7 @@ impl Options {
         ensures ok { IfOk result (λ o. o ≡ listing pairs.now) }
         ensures lawful { IfOk result (λ o. IsTrue (is_options field kind o)) }
 
-        // It holds the pairs given and no other, and no other ascending list does.
+        // It holds exactly the given pairs, and no other ascending list does.
         ensures same { IfOk result (λ o. (test : Pair → Bool) → list_any test o ≡ list_any test pairs.now) }
         ensures only { (ps : List Pair) → IsTrue (is_ascending ps)
             → ((test : Pair → Bool) → list_any test ps ≡ list_any test pairs.now) → IfOk result (λ o. o ≡ ps) }
@@ -133,14 +133,14 @@ impl Options {
         })
     }
 
-    // The caller has seen that the names ascend.
+    // The caller has checked that the names ascend.
     pub(crate) fn from_pairs(pairs: Pairs) -> Options
         ensures { result ≡ pairs }
     {
         Options { pairs }
     }
 
-    /// No options. It takes no memory.
+    /// No options. Allocates no memory.
     pub fn none(alloc: Global) -> Options
         ensures { result ≡ [] }
     {
@@ -153,7 +153,7 @@ impl Options {
     ///
     /// # Errors
     ///
-    /// `NoMemory`, where a growth was refused.
+    /// `NoMemory`, if an allocation was refused.
     pub fn copied(&self, alloc: Global) -> Result<Options, NoMemory>
         ensures { IfOk result (λ o. o ≡ self.now) }
     {

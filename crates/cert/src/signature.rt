@@ -9,8 +9,8 @@ use std::alloc::Global;
 use text::NoMemory;
 use wire::put_string;
 
-/// The signature in a signature blob of 83 bytes (RFC 8709 section 6), and none where the bytes are no such blob.
-/// It takes no memory.
+/// The signature in an 83-byte signature blob (RFC 8709 section 6); `None` if the bytes aren't such a blob.
+/// Allocates no memory.
 pub fn read_signature(blob: &[u8]) -> Option<Signature>
     ensures found { IfSome result (λ s. (blob.now ≡ signature_blob s.bytes) × (length s.bytes ≡ 64)) }
     ensures only { (bytes : List ℕ) → length bytes ≡ 64 → blob.now ≡ signature_blob bytes
@@ -22,11 +22,11 @@ pub fn read_signature(blob: &[u8]) -> Option<Signature>
     Some(Signature { bytes })
 }
 
-/// The certificate that a body and the CA's signature of it make (PROTOCOL.certkeys).
+/// The certificate made from an unsigned one (body) and the CA's signature of it (PROTOCOL.certkeys).
 ///
 /// # Errors
 ///
-/// `NoMemory`, where a growth was refused.
+/// `NoMemory`, if an allocation was refused.
 pub fn join_signature(
     alloc: Global,
     body: &[u8],

@@ -1,4 +1,4 @@
-//! Bodies written.
+//! Writing unsigned certificates (bodies).
 
 ghost use Rattle.std.specs.Prelude.{◌≡◌, ◌<◌, ◌+◌, ◌^◌, ◌++◌, length, All, IfOk, OnOk};
 ghost use Rattle.cert.specs.Options.{option_text, options_text};
@@ -70,7 +70,7 @@ fn put_options(alloc: Global, out: &mut Vec<u8>, options: &Options) -> Result<()
     put_string(out, text.as_slice())
 }
 
-// The fields are put one after another. What stands before a call are the fields before its own.
+// The fields are appended in order. At each call, the text so far consists of the fields before the call's own.
 
 fn put_key(out: &mut Vec<u8>, fields: &CertFields) -> Result<(), NoMemory>
     requires { out.old.items ≡ front 0 fields.now }
@@ -136,18 +136,18 @@ fn put_from_validity(alloc: Global, out: &mut Vec<u8>, fields: &CertFields) -> R
     put_ca(out, fields)
 }
 
-/// The body of a certificate with these fields, which is what its CA signs (PROTOCOL.certkeys).
+/// The unsigned certificate, or body, with these fields, which is what its CA signs (PROTOCOL.certkeys).
 ///
-/// The fields are lawful: such as `read_body` gives.
+/// The fields have to be valid, as those that `read_body` returns are.
 ///
 /// # Errors
 ///
-/// `NoMemory`, where a growth was refused.
+/// `NoMemory`, if an allocation was refused.
 pub fn write_body(alloc: Global, fields: &CertFields) -> Result<Vec<u8>, NoMemory>
     requires { IsCertFields fields.now }
     ensures text { IfOk result (λ v. v.items ≡ body_text fields.now) }
 
-    // What is written is read again, and it is the text of no other fields.
+    // What is written is read back, and it is the text of no other fields.
     ensures again { IfOk result (λ v. body_at v.items ≡ Ok fields.now) }
     ensures only { (c : CertFields) → IsCertFields c → IfOk result (λ v. v.items ≡ body_text c → c ≡ fields.now) }
 {

@@ -8,7 +8,7 @@ use Rattle.command_line.specs.Command.{IsArgument, IsSubcommand, subcommand}
 use Rattle.command_line.specs.Parts.{rule_of_part}
 use Rattle.command_line.specs.declared.parts.Part.{Part}
 
--- A command with the first parts of a list, and then with the next.
+-- A command with the first k parts of a list, and then with the next one.
 pub one_part : (old : Command) (a : Arg) (new : Command) (name : Text) (parts : List Part) (k : ℕ) (d : Part)
     → k < length parts → IsSubcommand (subcommand name (map rule_of_part (take k parts))) old
     → IsArgument (rule_of_part (get_or parts k d)) a → AddsArg old a new

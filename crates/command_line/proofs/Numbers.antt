@@ -1,4 +1,4 @@
--- Numbers as `u64` reads them.
+-- Numbers as `u64` parses them.
 use Rattle.std.proofs.Common.{◌≡◌, ◌≤◌, ◌<◌, ◌^◌, ℕ, Bool, true, false, Some, None, refl, subst}
 use Rattle.std.specs.Str.Parse.{IsNumeral, digits_value, without_leading_plus}
 use Rattle.clap.proofs.ValueTestLemmas.{Accepts-accepts, accepts-Accepts}
@@ -7,7 +7,7 @@ use Rattle.clap.specs.Words.{IsUnsignedIn, Text}
 use Rattle.clap.specs.declared.builder.value_parser.ValueParser.TheVariants.{Unsigned}
 use Rattle.command_line.specs.Asked.{number_of}
 
--- What was read, within the limits, is the text's number.
+-- What was read, within the limits, is the number in the text.
 pub is_read : (low high n : ℕ) (t : Text) → IsNumeral 10 (without_leading_plus t) × (digits_value 10 (without_leading_plus t) < 2 ^ 64)
     → n ≡ digits_value 10 (without_leading_plus t) → low ≤ n → n ≤ high → Some n ≡ number_of low high t
 is_read low high n t numeral same above below =
@@ -15,7 +15,7 @@ is_read low high n t numeral same above below =
     (numeral.0, numeral.1, subst (λ m. low ≤ m) same above, subst (λ m. m ≤ high) same below) in
     rw (passes, same) refl
 
--- A text that is no number within the limits has none.
+-- A text that isn't a number within the limits has none.
 pub none_read : (low high : ℕ) (t : Text) → (IsUnsignedIn low high t → ⊥) → None ≡ number_of low high t
 none_read low high t never = go (is_unsigned_in low high t) refl
   where

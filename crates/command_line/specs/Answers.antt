@@ -9,7 +9,7 @@ use Rattle.command_line.specs.declared.words_fault.WordsFault.{WordsFault}
 use Rattle.command_line.specs.declared.words_fault.WordsFault.TheVariants.{Help, BadWords, NoMemory}
 use Rattle.command_line.specs.declared.job.Job.{Job}
 
--- the errors and requests for a text in the words, by clap's meaning of the command
+-- the errors and requests for a text in the words, according to clap's meaning of the command
 abbrev pub faults_of : List Text → Kinds
 faults_of words = fault_of office_command words
 
@@ -25,7 +25,7 @@ IsMistake kind = (kind ≢ DisplayHelp) × (kind ≢ DisplayVersion) × (kind �
 abbrev pub IsWish : ErrorKind → Type 0
 IsWish kind = (kind ≡ DisplayHelp) ⊎ (kind ≡ DisplayVersion)
 
--- the words are invalid, by clap's meaning of a command
+-- the words are invalid, according to clap's meaning of a command
 abbrev pub HaveMistake : App → List Text → Type 0
 HaveMistake app words = (kind : ErrorKind) × IsAmong kind (fault_of app words) × IsMistake kind
 
@@ -41,13 +41,13 @@ AreBad words = HaveMistake office_command words ⊎ (asked_of words ≡ None)
 abbrev pub AskForText : List Text → Type 0
 AskForText = AskForTextOf office_command
 
--- what a fault in place of a job implies of the words
+-- what a fault in place of a job implies about the words
 abbrev pub IsFaultOf : List Text → WordsFault → Type 0
 IsFaultOf words (Help text) = AskForText words
 IsFaultOf words (BadWords text) = AreBad words
 IsFaultOf words NoMemory = Unit {0}
 
--- what the fault that an error of clap becomes implies of a command's words
+-- what the fault that an error of clap becomes implies about a command's words
 abbrev pub IsErrorOf : App → List Text → WordsFault → Type 0
 IsErrorOf app words (Help text) = AskForTextOf app words
 IsErrorOf app words (BadWords text) = HaveMistake app words
@@ -59,7 +59,7 @@ IsAnswered kind (Help text) = IsWish kind
 IsAnswered kind (BadWords text) = IsMistake kind
 IsAnswered kind NoMemory = Unit {0}
 
--- the fault for a required value: bad words only if there is none
+-- the fault for a required value: `BadWords` only if there is none
 abbrev pub IsLack : {A : Type 0} → Option A → WordsFault → Type 0
 IsLack found (Help text) = ⊥
 IsLack found (BadWords text) = found ≡ None

@@ -10,7 +10,7 @@ use Rattle.command_line.specs.declared.command.TheConstants.{MOST_CONNECTIONS}
 use Rattle.command_line.specs.declared.job.Job.{Job}
 use Rattle.command_line.specs.declared.job.Job.TheVariants as job
 
--- a job without the places of its texts in memory
+-- a job by the values of its texts, wherever they are in memory
 pub data Asked : Type 0 where
   init : Text → Text → Text → Text → ℕ → ℕ → Asked
   apply : Option Text → Text → Asked
@@ -42,7 +42,7 @@ number_of low high t = if is_unsigned_in low high t then Some (digits_value 10 (
 abbrev pub number_at : List Row → Text → ℕ → ℕ → Option ℕ
 number_at rows name low high = option_and_then (number_of low high) (first_of name rows)
 
--- the same for an optional option, or else this number
+-- the same for an option that may be omitted: then it is this number
 abbrev pub number_or : List Row → Text → (limits : ℕ × ℕ) → ℕ → Option ℕ
 number_or rows name limits none = option_map_or (number_of limits.0 limits.1) (first_of name rows) (Some none)
 
@@ -83,7 +83,7 @@ check_in rows = do
 abbrev pub database_in : (Text → Asked) → List Row → Option Asked
 database_in of rows = option_map of (first_of (codes "db") rows)
 
--- what the subcommand of this name asks for, by the values that clap found for it
+-- what the subcommand with this name asks for, with the values that clap found for it
 abbrev pub asked_by : Text → List Row → Option Asked
 asked_by name rows =
     if bytes_eq name (codes "init") then init_in rows

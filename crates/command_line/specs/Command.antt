@@ -8,7 +8,7 @@ use Rattle.clap.specs.declared.builder.action.ArgAction.TheVariants.{Append}
 use Rattle.clap.specs.declared.builder.value_parser.ValueParser.TheVariants.{Unsigned}
 use Rattle.command_line.specs.declared.command.TheConstants.{MOST_CONNECTIONS}
 
--- the greatest number of 64 bits
+-- the largest 64-bit number
 abbrev pub most : ℕ
 most = 2 ^ 64 - 1
 
@@ -82,7 +82,7 @@ selftest_command = subcommand (codes "selftest") []
 abbrev pub top_command : Shape
 top_command = record (subcommand (codes "sshoffice") []) { subcommand_required = true; has_version = true }
 
--- the command with these subcommands
+-- the top command with these subcommands
 abbrev pub with_commands : List Shape → App
 with_commands subs = record { top = record top_command { is_leaf = false }; subs = subs }
 

@@ -6,7 +6,7 @@ use Rattle.command_line.specs.Command.{words}
 use Rattle.command_line.specs.declared.parts.Part.{Part}
 use Rattle.command_line.specs.declared.parts.Part.TheVariants as part
 
--- the rule of clap for an option or argument, whatever its help text
+-- clap's rule for an option or argument, whatever its help text
 abbrev pub rule_of_part : Part → Rule
 rule_of_part (part.Optional name value help) = optional name.now
 rule_of_part (part.Required name value help) = required name.now

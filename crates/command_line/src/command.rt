@@ -90,7 +90,7 @@ fn selftest_command<'a>(alloc: Global) -> Command<'a>
     plain_command(alloc, "selftest", help::SELFTEST, help::SELFTEST_MORE)
 }
 
-// The command with the jobs that read an office added.
+// Adds the jobs that read an office to a command.
 fn with_readings<'a>(
     alloc: Global,
     office: Result<Command<'a>, AllocError>,
@@ -107,7 +107,7 @@ fn with_readings<'a>(
     )
 }
 
-/// The whole command. To clap it means what `specs/Command.antt` defines.
+/// The whole command. For clap it is the one that `specs/Command.antt` defines.
 ///
 /// # Errors
 ///

@@ -1,9 +1,9 @@
 //! The help text of each command, option and argument.
 
-/// What the program is.
+/// The first line of the program's help: what the program is for.
 pub const OFFICE: &str = "Keeps the records of an SSH certificate authority";
 
-/// The crate's version, and the toolchain that proved it.
+/// What `--version` prints after the program's name: the program's version, and the Rattle toolchain that proved it.
 pub const VERSION: &str = "1.0.0 (rattle-kit-13b)";
 
 /// The end of the program's help.
@@ -107,13 +107,13 @@ pub const SELFTEST: &str =
 pub const SELFTEST_MORE: &str = "Example:
   sshoffice selftest";
 
-/// What `--db` is of a command that opens an office.
+/// What `--db` is, for a command that opens an office.
 pub const DATABASE: &str = "The office's database, created by init";
 
-/// What `--db` of `init` is.
+/// What `--db` is, for `init`.
 pub const NEW_DATABASE: &str = "The database to create";
 
-/// What `--db` of `apply` is.
+/// What `--db` is, for `apply`.
 pub const DATABASE_OR_NONE: &str = "The office's database; if omitted, a new office in memory";
 
 /// What `--ca` is.

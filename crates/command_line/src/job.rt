@@ -1,6 +1,6 @@
 //! What the words ask for.
 
-/// What the words ask for. A path is the text of its word. An optional option that wasn't given is `None`.
+/// What the words ask for. A path is the text of its word. An option that was omitted is `None`.
 #[derive(Drop)]
 pub enum Job {
     /// Creates an office in a new database.
@@ -18,7 +18,7 @@ pub enum Job {
         /// The last serial.
         last: u64,
     },
-    /// Answers the requests in a file, with the office of a database or with one in memory.
+    /// Answers the requests in a file, with the office in a database or with a new one in memory.
     Apply {
         /// Path of the database, or `None` for a new office in memory.
         db: Option<String>,
@@ -33,7 +33,7 @@ pub enum Job {
         port: u16,
         /// How many connections are served, 1 to `MOST_CONNECTIONS`.
         connections: u64,
-        /// Path of the file that nonces are read from.
+        /// Path of the file from which nonces are read.
         nonces: String,
     },
     /// Prints the KRL.

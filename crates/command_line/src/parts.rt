@@ -1,4 +1,4 @@
-//! The parts of a command: its options, arguments and jobs.
+//! The parts of a command: options, arguments and jobs.
 
 ghost use Rattle.std.specs.Prelude.{◌≡◌, [], IfOk, map};
 ghost use Rattle.clap.specs.Words.{App, Shape, app_of, with_subcommand};
@@ -102,7 +102,7 @@ pub fn plain_command<'a>(alloc: Global, name: &'a str, about: &'a str, more: &'a
     Command::new(alloc, name).about(about).after_help(more)
 }
 
-// A part as clap's argument.
+// A part as an argument for clap.
 fn argument<'a>(alloc: Global, part: Part<'a>) -> Arg<'a>
     ensures { IsArgument (rule_of_part part.entry) result }
 {
@@ -140,7 +140,7 @@ pub fn job_command<'a>(
     Ok(command)
 }
 
-/// A command with one more job, unless memory was refused for one of them.
+/// Adds a job to a command, unless memory was refused for one of them.
 ///
 /// # Errors
 ///

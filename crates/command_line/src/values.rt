@@ -43,7 +43,7 @@ pub fn text_at(alloc: Global, found: &ArgMatches<'_>, name: &str) -> Result<Stri
     }
 }
 
-/// The value of an optional option.
+/// The value of an option that may be omitted.
 ///
 /// # Errors
 ///
@@ -62,7 +62,7 @@ pub fn text_if_given(
     }
 }
 
-// The number that a text has, from `low` to `high`.
+// The number in a text, from `low` to `high`.
 fn number_of(text: &str, low: u64, high: u64) -> Option<u64>
     ensures number { result ≡ number_of low high text.now }
     ensures limits { IfSome result (λ n. (low ≤ n) × (n ≤ high)) }
@@ -99,7 +99,7 @@ pub fn number_at(
     }
 }
 
-/// The number that was given for an optional option, from `low` to `high`, or else `none`.
+/// The number that was given for an option, from `low` to `high`, or `none` if the option was omitted.
 ///
 /// # Errors
 ///
@@ -130,7 +130,7 @@ fn values_at<'m, 'a>(found: &'m ArgMatches<'a>, name: &str) -> Option<&'m [&'a s
     found.get_strs(name)
 }
 
-// An owned copy of a word.
+// Appends an owned copy of a word.
 fn pushed(alloc: Global, texts: &mut Vec<String>, word: &str) -> Result<(), WordsFault>
     ensures ok { OnOk result (map string_bytes texts.new.items ≡ map string_bytes texts.old.items ++ word.now ∷ []) }
     ensures err { IfErr result (λ fault. fault ≡ NoMemory) }

@@ -5,7 +5,7 @@ use std::alloc::AllocError;
 /// Why the words ask for no job. The texts are clap's, and end with a line feed.
 #[derive(Debug, Drop)]
 pub enum WordsFault {
-    /// They ask for help or for the version, which is this text.
+    /// They ask for the help or the version, which is this text.
     Help(String),
     /// They are invalid, for the reason in this text.
     BadWords(String),

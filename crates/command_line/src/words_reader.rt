@@ -1,4 +1,4 @@
-//! Jobs from the words.
+//! Reads a job from the words.
 
 ghost use Rattle.std.specs.Prelude.{◌≡◌, map, Some, IfOk, IfErr, string_bytes};
 ghost use Rattle.clap.specs.Words.{found_of, kind_of, rows_of, subcommand_rows_of};
@@ -97,7 +97,7 @@ fn migrate_job(alloc: Global, found: &ArgMatches<'_>) -> Result<Job, WordsFault>
     })
 }
 
-// The job of the subcommand of this name.
+// The job of the subcommand with this name.
 fn named_job(alloc: Global, name: &str, found: &ArgMatches<'_>) -> Result<Job, WordsFault>
     ensures ok { IfOk result (λ job. asked_by name.now (rows_of (found_of found.now)) ≡ Some (asked job)) }
     ensures err { IfErr result (IsLack (asked_by name.now (rows_of (found_of found.now)))) }

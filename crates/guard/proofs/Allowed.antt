@@ -1,4 +1,4 @@
--- What is known of a body that isn't refused, and of the state that a question leaves.
+-- What is known about an unsigned certificate (body) that isn't refused, and about the state after a question.
 use Rattle.std.proofs.Common.{◌+◌, ◌≡◌, ℕ, List, [], ◌∷◌, Bool, true, false, cond, Option, Some, None, refl, sym, ap, subst, ◌∙◌}
 use Rattle.std.specs.Prelude.{nat_le, not, is_some, is_none, find, nat_lt, ◌||◌, ◌==◌}
 use Rattle.std.specs.List.{AllByRecursion}
@@ -21,7 +21,7 @@ use Rattle.guard.specs.Machine.{is_permitted_by, refusals_of_new, refusals_of_bo
 use Rattle.guard.specs.declared.scope.Scope.{Scope}
 use Rattle.guard.specs.History.{Allows, MaySign}
 
--- where no refusal applies, each test is false
+-- if no refusal applies, each test is false
 pub none_holds : (rs : List (Refusal × Bool)) → first_holding rs ≡ None → AllByRecursion (λ r. r.1 ≡ false) rs
 none_holds [] e = tt
 none_holds (r ∷ rs) e =
@@ -31,7 +31,7 @@ none_holds (r ∷ rs) e =
     by_test true rest x e = absurd cc
     by_test false rest x e = (refl, e)
 
--- neither this body is there nor another one, so none is
+-- if there is neither this body nor a different one, there is none
 none_kept : (body : List ℕ) (kept : Option (List ℕ)) → is_same body kept ≡ false → is_other body kept ≡ false → kept ≡ None
 none_kept body None same other = refl
 none_kept body (Some b) same other = absurd (by_test (bytes_eq b body) same other)
@@ -40,7 +40,7 @@ none_kept body (Some b) same other = absurd (by_test (bytes_eq b body) same othe
     by_test true e f = absurd cc
     by_test false e f = absurd cc
 
--- what is found passes the test
+-- an item that is found passes the test
 found_passes : {X : Type 0} (p : X → Bool) (xs : List X) (x : X) → find p xs ≡ Some x → p x ≡ true
 found_passes p [] x e = absurd cc
 found_passes p (y ∷ ys) x e = by_test (found_passes p ys x) (p y) refl e
@@ -55,7 +55,7 @@ same_kind_is Host Host e = refl
 same_kind_is User Host e = absurd cc
 same_kind_is Host User e = absurd cc
 
--- the department that a body which isn't refused has
+-- the department of a body that isn't refused
 department_there : (policy : List Department) (c : CertFields) (o : Option Department) → department_for policy c ≡ o
     → is_missing o ≡ false → has_other_kind o c.kind ≡ false → not (is_permitted_by o c) ≡ false
     → (d : Department) × (department_named policy (department_of c.key_id) ≡ Some d) × Allows d c
@@ -97,7 +97,7 @@ is_new s q c fields same e =
       kept = none_kept q.body (body_of s c.serial) same later.0;
     }
 
--- what holds of the state, and of it with a body that is to be kept, holds of the state that is left
+-- what holds for the state, and for it with a body that is to be kept, holds for the state after the question
 module _ (P : State → Type 0) (s : State) (q : Question) (as_before : P s)
     (with_one_more : (c : CertFields) → IsNew s q c → P (with_approved s (row_of q c))) where
   by_same : (c : CertFields) (b : Bool) → fields_of q.body ≡ Some c → is_same q.body (body_of s c.serial) ≡ b
@@ -118,9 +118,9 @@ module _ (P : State → Type 0) (s : State) (q : Question) (as_before : P s)
   pub left_by : P (after s q)
   left_by = by_refusal (refusal_of s q) refl
 
--- ---- what may be signed is kept
+-- ---- a body that may be signed is kept
 
--- a body of these fields is refused for neither its CA nor its serial
+-- a body with these fields is refused neither for its CA nor for its serial
 abbrev pub IsInScope : Scope → CertFields → Type 0
 IsInScope scope c =
     first_holding ((OtherCa, not (bytes_eq c.ca scope.ca)) ∷ (OtherSerial, is_outside scope c) ∷ []) ≡ None
@@ -141,7 +141,7 @@ in_scope false false rest e = refl
 in_scope true serial rest e = absurd cc
 in_scope false true rest e = absurd cc
 
--- what is found in rows is found in them and one more; what isn't is the one more, if it has the serial
+-- a body found in the rows is also found with one more row; if none is, then the new row's is, if it has the serial
 pub kept_with_row : (s : State) (q : Question) (c : CertFields) (serial : ℕ) (body : List ℕ) → body_of s serial ≡ Some body
     → body_of (with_approved s (row_of q c)) serial ≡ Some body
 kept_with_row s q c serial body kept =
@@ -197,7 +197,7 @@ module _ (s : State) (q : Question) (none : refusal_of s q ≡ None) where
       ap (λ (r : Option Refusal). cond (is_some r) s (with_fields s q (fields_of q.body))) none in
       (is.0, subst (IsSigned s q.body is.0) (sym left) is.1)
 
--- a body that isn't refused is kept under its serial then
+-- a body that isn't refused is kept under its serial afterwards
 pub signed_kept : (s : State) (q : Question) (c : CertFields) → refusal_of s q ≡ None → fields_of q.body ≡ Some c
     → body_of (after s q) c.serial ≡ Some q.body
 signed_kept s q c none fields =
@@ -208,14 +208,14 @@ signed_kept s q c none fields =
     same_some : {x y : CertFields} → Some x ≡ Some y → x ≡ y
     same_some e = cc
 
--- a body that is kept may be signed, whatever the policy and the moment
+-- a kept body may be signed, whatever the policy and the time
 pub signed_again : (s : State) (q : Question) (c : CertFields) → fields_of q.body ≡ Some c → IsInScope s.scope c
     → body_of s c.serial ≡ Some q.body → refusal_of s q ≡ None
 signed_again s q c fields scope kept =
     let same : bytes_eq q.body q.body ≡ true = (bytes_eq-Decides q.body q.body).1 refl in
     rw (fields, kept, same) scope
 
--- ---- what may be signed isn't refused
+-- ---- a body that may be signed isn't refused
 
 same_kind_itself : (k : Kind) → same_kind k k ≡ true
 same_kind_itself User = refl

@@ -1,4 +1,4 @@
--- What has fields is a body of the profile.
+-- Bytes that have fields are an unsigned certificate (body) of the profile.
 use Rattle.std.proofs.Common.{◌≡◌, ℕ, List, Bool, true, false, cond, length, Some, None, Result, Ok, Err, refl}
 use Rattle.std.specs.Prelude.{nat_lt}
 use Rattle.std.specs.Result.{result_ok}

@@ -15,7 +15,7 @@ use Rattle.guard.specs.Machine.{State, Question, opened, fields_of, body_of, ref
 use Rattle.guard.specs.History.{IsStill, MaySign, WasAsked, state}
 use Rattle.guard.proofs.Allowed.{IsInScope, IsNew, kept_with_row, left_by, signed, signed_again}
 
--- whatever one more question keeps holds after all
+-- a property that one more question preserves holds after all
 module _ (P : List Question → State → Type 0)
     (keeps : (done : List Question) (q : Question) (s : State) → P done s → P (done ++ q ∷ []) (after s q)) where
   pub after_all : (done l : List Question) (s : State) → P done s → P (done ++ l) (fold after s l)
@@ -24,7 +24,7 @@ module _ (P : List Question → State → Type 0)
       subst (λ (all : List Question). P all (fold after (after s q) l)) (append_assoc done (q ∷ []) l)
       (after_all (done ++ q ∷ []) l (after s q) (keeps done q s p))
 
--- ---- what is kept stays
+-- ---- kept bodies stay
 
 one_stays : (first s : State) (q : Question) → IsStill first s → IsStill first (after s q)
 one_stays first s q is =
@@ -45,7 +45,7 @@ stays scope l later =
     subst (IsStill s) (sym (fold-append after (opened scope) l later))
     (all_stay s s later ([], sym (append-nil s.approved)))
 
--- ---- what is kept was asked for
+-- ---- kept bodies were asked for
 
 is_asked_still : (scope : Scope) (l : List Question) (q : Question) (a : Approved) → WasAsked scope l a
     → WasAsked scope (l ++ q ∷ []) a
@@ -82,7 +82,7 @@ asked scope l =
     (after_all (AreAsked scope) (asked_next scope) [] l (opened scope)
     (record { same = refl; rows = All-nil (WasAsked scope []) })).rows
 
--- ---- one body a serial
+-- ---- one body per serial
 
 unfound : {X : Type 0} (p : X → Bool) (xs : List X) → find p xs ≡ None → AllByRecursion (λ x. p x ≡ false) xs
 unfound p [] e = tt
@@ -96,7 +96,7 @@ none_found : (o : Option Approved) → option_map (λ a. a.body) o ≡ None → 
 none_found None e = refl
 none_found (Some a) e = absurd cc
 
--- a serial under which none is kept is no row's
+-- a serial without a kept body is that of no row
 is_free : (s : State) (serial : ℕ) → body_of s serial ≡ None → (a : Approved) → Contains s.approved a
     → a.serial ≡ serial → ⊥
 is_free s serial none a has same =
@@ -128,9 +128,9 @@ all_once s (q ∷ l) once = all_once (after s q) l (once_next s q once)
 pub once : (scope : Scope) (l : List Question) → AreOnce (state scope l)
 once scope l = all_once (opened scope) l (λ a b has_a has_b same. absurd (omega (arith, has_a.1)))
 
--- ---- what may be signed may be signed again
+-- ---- a body that may be signed may be signed again
 
--- what is kept under a serial is kept after one more question
+-- a body that is kept under a serial is still kept after one more question
 pub one_kept : (serial : ℕ) (body : List ℕ) (s : State) (q : Question) → body_of s serial ≡ Some body
     → body_of (after s q) serial ≡ Some body
 one_kept serial body s q kept =

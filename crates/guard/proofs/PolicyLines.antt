@@ -16,7 +16,7 @@ pub text_next : (n : ℕ) (p : List ℕ) (ps : List (List ℕ)) → text_of (suc
 text_next n p [] = rw (none_left n, append-nil p) (sym (append-nil p))
 text_next n p (q ∷ ps) = sym (append_assoc p (10 ∷ []) (text_of n (q ∷ ps)))
 
--- one line more is put
+-- one more line is appended
 pub text_put : (out total : List ℕ) (i : ℕ) (p : List ℕ) (ps : List (List ℕ)) → i < 8 → out ++ text_of (8 - i) (p ∷ ps) ≡ total
     → (out ++ (p ++ behind ps [])) ++ text_of (8 - (i + 1)) ps ≡ total
 text_put out total i p ps lt is =
@@ -25,7 +25,7 @@ text_put out total i p ps lt is =
     ∙ ap (λ (t : List ℕ). out ++ t) (sym (text_next (8 - (i + 1)) p ps))
     ∙ ap (λ (n : ℕ). out ++ text_of n (p ∷ ps)) (sym left) ∙ is
 
--- no line is left, or eight were put
+-- no line remains, or eight were appended
 pub text_ended : (out total : List ℕ) (n : ℕ) → out ++ text_of n [] ≡ total → out ≡ total
 text_ended out total n is = sym (append-nil out) ∙ ap (λ (t : List ℕ). out ++ t) (sym (none_left n)) ∙ is
 
@@ -34,7 +34,7 @@ text_whole out total i ps le is =
     let none : 8 - i ≡ 0 = omega (arith, le) in
     sym (append-nil out) ∙ ap (λ (n : ℕ). out ++ text_of n ps) (sym none) ∙ is
 
--- the same of lines as a function has them
+-- the same for the lines that a function has
 abbrev seen : List (Bor (List ℕ)) → List (List ℕ)
 seen xs = map (λ x. x.now) xs
 
@@ -53,7 +53,7 @@ pub text_ended_at : (out total : List ℕ) (n : ℕ) (xs : List (Bor (List ℕ))
 text_ended_at out total n [] none is = text_ended out total n is
 text_ended_at out total n (x ∷ xs) none is = absurd (omega (arith, none))
 
--- a bad line is at most one behind the lines that are there
+-- the number of a bad line is at most one more than the number of bytes
 pub bad_line_is_near : (bytes : List ℕ) (n : ℕ) → IsFirstBad bytes n → n ≤ length bytes + 1
 bad_line_is_near bytes n bad =
     let shared = bad.some.1.1.0 in

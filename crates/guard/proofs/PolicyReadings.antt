@@ -19,7 +19,7 @@ use Rattle.guard.specs.PolicyTexts.{Part, part_lines, policy_text, AreBetween, A
 abbrev IsLine : List ℕ → Type 0
 IsLine l = All (λ b. (b == 10) ≡ false) l
 
--- the pieces of lines are the lines, and a last piece of no bytes
+-- the pieces of lines are the lines, and an empty last piece
 pieces_of : (ls : List (List ℕ)) → AllByRecursion IsLine ls → pieces (lines_text ls) ≡ ls ++ [] ∷ []
 pieces_of [] h = refl
 pieces_of (l ∷ ls) h =
@@ -43,7 +43,7 @@ part_is_lines known (p ∷ parts) h =
     (messages_read.are_lines (message.Department p.department) h.1))
     (part_is_lines (known ++ p.department ∷ []) parts h.3)
 
--- whatever number the next line has, the departments are these
+-- the departments are these, whatever number the next line has
 abbrev Reads : (known : List Department) → List (List ℕ) → List Department → Type 0
 Reads known ps ds = (number : ℕ) → policy_from 0 number known ps ≡ Ok ds
 
@@ -54,14 +54,14 @@ between_skipped known [] ps ds h reads = reads
 between_skipped known (l ∷ ls) ps ds h reads = λ number.
     rw h.0.0 (between_skipped known ls ps ds h.1 reads (number + 1))
 
--- the text of a department is read, and then what follows it
+-- the text of a department is read, and then the rest
 department_read : (known : List Department) (d : Department) (p : List ℕ) (ps : List (List ℕ)) (ds : List Department)
     → is_department d ≡ true → department_named known d.name ≡ None → Reads (known ++ d ∷ []) (p ∷ ps) ds
     → Reads known (department_lines d ++ p ∷ ps) ds
 department_read known d p ps ds lawful first reads = λ number.
     rw (message_again (message.Department d) lawful, first) (reads _)
 
--- a piece follows each list of lines
+-- lines that are followed by an empty piece have a first piece
 ended : (ls : List (List ℕ)) → (p : List ℕ) × (ps : List (List ℕ)) × (ls ++ [] ∷ [] ≡ p ∷ ps)
 ended [] = ([], [], refl)
 ended (l ∷ ls) = (l, ls ++ [] ∷ [], refl)

@@ -1,4 +1,4 @@
--- Which refusal a body that wasn't approved before gets.
+-- Which refusal applies to an unsigned certificate (body) that wasn't approved before.
 use Rattle.std.proofs.Common.{◌≡◌, true, false, Some, None, refl}
 use Rattle.std.specs.Prelude.{not}
 use Rattle.message.specs.declared.department.Department.{Department}
@@ -7,7 +7,7 @@ use Rattle.office.specs.Refusals.{has_other_kind}
 use Rattle.guard.specs.declared.refusal.Refusal.TheVariants.{NotPermitted}
 use Rattle.guard.specs.Machine.{State, Question, body_of, department_for, first_holding, permits, refusals_of_new}
 
--- what the profile doesn't permit, where the department is there and of the kind
+-- the profile doesn't permit the certificate, although the department exists and has its kind
 pub not_permitted : (s : State) (q : Question) (c : CertFields) (d : Department) → body_of s c.serial ≡ None
     → department_for q.policy c ≡ Some d → has_other_kind (Some d) c.kind ≡ false → not (permits d c) ≡ true
     → Some NotPermitted ≡ first_holding (refusals_of_new s q c)

@@ -1,4 +1,4 @@
--- A last serial that was lowered.
+-- Lowering a last serial.
 use Rattle.std.proofs.Common.{◌≡◌, ◌+◌, ◌<◌, ◌≤◌, ◌||◌, ◌==◌, ℕ, List, [], ◌∷◌, Bool, true, false, cond, Option, Some, None, Ok, Err}
 use Rattle.std.proofs.Common.{All, arith, refl, sym, subst}
 use Rattle.std.specs.Prelude.{find, nat_lt}
@@ -13,13 +13,13 @@ use Rattle.guard.specs.Retirement.{is_approved_over, retirement}
 use Rattle.guard.specs.Retiring.{with_last}
 use Rattle.guard.proofs.Allowed.{IsInScope, signed, signed_again}
 
--- ---- what is approved over a serial
+-- ---- bodies approved above a serial
 
 pub none_over : (s : State) (last : ℕ) → All (λ b. b.serial < last + 1) s.approved → is_approved_over s last ≡ false
 none_over s last below = list_any_none (λ a. nat_lt last a.serial) s.approved
     (λ k d within. let low = below k d within in grind (arith))
 
--- a body that is approved under a serial isn't over a last one over which none is
+-- if no body is approved above the last serial, then an approved body's serial isn't above it
 within : (rows : List Approved) (serial last : ℕ) (a : Approved) → find (λ a. a.serial == serial) rows ≡ Some a
     → list_any (λ a. nat_lt last a.serial) rows ≡ false → serial ≤ last
 within [] serial last a found none = absurd cc

@@ -38,7 +38,7 @@ words_line word other = word ++ 32 ∷ (other ++ 10 ∷ [])
 abbrev pub signed_line : ℕ → List ℕ → List ℕ
 signed_line serial digest = codes "sign " ++ (decimal serial ++ 32 ∷ (digest ++ 10 ∷ []))
 
--- what is printed of an answer
+-- the line that is printed for an answer
 abbrev pub answer_line : Answer → List ℕ
 answer_line (answer.Sign serial digest) = signed_line serial digest
 answer_line (answer.NotABody e) = words_line (codes "refuse NotABody") (fault_name e)

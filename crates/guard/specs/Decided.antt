@@ -1,4 +1,4 @@
--- What a decision from one row says of the plain guard.
+-- When a decision from one row is that of the guard's reference model.
 use Rattle.std.specs.Prelude.{◌≡◌, ℕ, List, Some, None, option_copied}
 use Rattle.message.specs.declared.department.Department.{Department}
 use Rattle.cert.specs.declared.fields.CertFields.{CertFields}
@@ -16,7 +16,7 @@ pub record Agrees (v : View) (s : State) (c : CertFields) : Type 0 where
   pub scope : v.scope ≡ s.scope
   pub kept : option_copied v.kept ≡ body_of s c.serial
 
--- the verdict is the plain guard's, and says what is to be kept
+-- the verdict is the model's, and determines the next state
 abbrev pub Decided : Verdict → State → Question → CertFields → Type 0
 Decided verdict.Approve s q c =
     (refusal_of s q ≡ None) × (body_of s c.serial ≡ None) × (after s q ≡ with_approved s (row_of q c))

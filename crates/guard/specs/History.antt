@@ -1,4 +1,4 @@
--- Questions one after the other, and what is known of each body that was approved.
+-- Lists of questions, and what is known about each approved unsigned certificate (body).
 use Rattle.std.specs.Prelude.{◌≡◌, ◌+◌, ◌<◌, ◌≤◌, List, ◌∷◌, ◌++◌, fold, IsTrue, Some}
 use Rattle.values.specs.Names.{department_of}
 use Rattle.message.specs.declared.department.Department.{Department}
@@ -7,21 +7,21 @@ use Rattle.guard.specs.declared.approved.Approved.{Approved}
 use Rattle.guard.specs.declared.scope.Scope.{Scope}
 use Rattle.guard.specs.Machine.{State, Question, opened, fields_of, department_named, permits, row_of, after}
 
--- the state that a list of questions leaves
+-- the state after a list of questions
 abbrev pub state : Scope → List Question → State
 state scope l = fold after (opened scope) l
 
--- what was approved is kept, before what was approved later
+-- what was approved is kept, followed by what was approved later
 abbrev pub IsStill : State → State → Type 0
 IsStill s later = (rows : List Approved) × (later.approved ≡ s.approved ++ rows)
 
--- the department has the certificate's kind, and its profile permits what the certificate says
+-- the department has the certificate's kind, and its profile permits the certificate
 pub record Allows (d : Department) (c : CertFields) : Type 0 where
   pub name : d.name ≡ department_of c.key_id
   pub kind : d.kind ≡ c.kind
   pub permits : IsTrue (permits d c)
 
--- a body of the profile for this CA and one of its serials, allowed by the policy that was given, within its time
+-- a body of the profile for this CA and one of its serials, allowed by the given policy, within its time
 pub record MaySign (scope : Scope) (q : Question) (c : CertFields) : Type 0 where
   pub fields : fields_of q.body ≡ Some c
   pub ca : c.ca ≡ scope.ca
@@ -31,7 +31,7 @@ pub record MaySign (scope : Scope) (q : Question) (c : CertFields) : Type 0 wher
   pub lasts : q.moment < c.before
   pub begins : c.after ≤ q.moment + q.ahead
 
--- the row is that of one of the questions, whose body might be signed
+-- the row is that of a question whose body might be signed
 abbrev pub WasAsked : Scope → List Question → Approved → Type 0
 WasAsked scope l a =
     (before : List Question) × (q : Question) × (later : List Question) × (c : CertFields)

@@ -1,4 +1,4 @@
--- What judging a body answers, whatever keeps the guard.
+-- What the answer for an unsigned certificate (body) means, whatever stores the guard.
 use Rattle.std.specs.Prelude.{◌≡◌, ◌<◌, ◌≤◌, ◌^◌, ℕ, List, length, Some, None}
 use Rattle.std.specs.Option.{option_map}
 use Rattle.lines.specs.Digests.{digest_text}
@@ -12,7 +12,7 @@ use Rattle.guard.specs.declared.body.TheConstants.{LONGEST_BODY}
 use Rattle.guard.specs.Machine.{State, Question, body_of, fields_of, refusal_of}
 use Rattle.guard.specs.Reading.{IsFault}
 
--- the answer is the plain guard's
+-- the answer is the reference model's
 abbrev pub Answers : Answer → State → Question → Type 0
 Answers (answer.Sign serial digest) s q =
     (refusal_of s q ≡ None) × (option_map (λ c. c.serial) (fields_of q.body) ≡ Some serial)
@@ -20,7 +20,7 @@ Answers (answer.Sign serial digest) s q =
 Answers (answer.NotABody e) s q = (refusal_of s q ≡ Some NotABody) × IsFault q.body e
 Answers (answer.Refuse r) s q = refusal_of s q ≡ Some r
 
--- what is signed is kept under its serial
+-- a signed body is kept under its serial
 abbrev pub IsKept : Answer → State → List ℕ → Type 0
 IsKept (answer.Sign serial digest) s body = body_of s serial ≡ Some body
 IsKept (answer.NotABody e) s body = Unit {0}
@@ -32,7 +32,7 @@ pub record IsKeepable (row : Approved) : Type 0 where
   pub moment : row.moment < 2 ^ 63
   pub body : length row.body ≤ LONGEST_BODY
 
--- what a fault of a register that keeps a guard says: such a register is never damaged
+-- what a fault of a register that keeps a guard implies: such a register is never damaged
 abbrev pub HasCause : RegisterFault → Type 0 → Type 0
 HasCause register.Device failed = failed
 HasCause register.Damaged failed = ⊥

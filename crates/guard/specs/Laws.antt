@@ -1,4 +1,4 @@
--- What the laws of every list of questions speak of.
+-- Definitions for the theorems about every list of questions.
 use Rattle.std.specs.Prelude.{◌≡◌, ℕ, ◌+◌, ◌≤◌, List, [], ◌∷◌, length, Bool, true, ◌&&◌, nat_le}
 use Rattle.cert.specs.Bodies.{IsCertFields, body_text}
 use Rattle.cert.specs.declared.fields.CertFields.{CertFields}
@@ -6,13 +6,13 @@ use Rattle.guard.specs.declared.body.TheConstants.{LONGEST_BODY}
 use Rattle.guard.specs.declared.refusal.Refusal.{Refusal}
 use Rattle.guard.specs.Refusals.{refusal_number}
 
--- the bytes are the text of these fields, which are lawful, and no more than a body may have
+-- the bytes are the text of these valid fields, and no longer than an unsigned certificate (body) may be
 pub record IsBodyOf (bytes : List ℕ) (c : CertFields) : Type 0 where
   pub short : length bytes ≤ LONGEST_BODY
   pub fields : IsCertFields c
   pub text : bytes ≡ body_text c
 
--- the numbers of the refusals strictly ascend, from this one on
+-- the numbers of the refusals ascend strictly, from this one on
 abbrev pub ascend_from : ℕ → List (Refusal × Bool) → Bool
 ascend_from least [] = true
 ascend_from least (r ∷ rs) = nat_le least (refusal_number r.0) && ascend_from (refusal_number r.0 + 1) rs

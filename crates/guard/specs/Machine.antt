@@ -1,4 +1,4 @@
--- The plain guard: one question at a time.
+-- The reference model of the guard: one question at a time.
 use Rattle.std.specs.Prelude.{◌+◌, List, [], ◌∷◌, ◌++◌, Bool, false, not, ◌&&◌, ◌||◌, nat_lt, nat_le}
 use Rattle.std.specs.Prelude.{if◌then◌else◌, Option, Some, None, is_none, is_some}
 use Rattle.std.specs.Option.{option_map_or}
@@ -23,9 +23,9 @@ use Rattle.guard.specs.declared.refusal.Refusal.TheVariants.{
 }
 pub use Rattle.guard.specs.State.{State, Question, opened, fields_of, department_named, body_of, is_same, is_other}
 
--- ---- what is refused
+-- ---- refusals
 
--- the office's own words: each principal meets a rule, options and extensions are listed, the life isn't too long
+-- in the office's terms: each principal meets a rule, options and extensions are listed, the lifetime isn't too long
 abbrev pub permits : Department → CertFields → Bool
 permits d c =
     meet_rules d c.principals
@@ -41,7 +41,7 @@ is_permitted_by None c = false
 abbrev pub department_for : List Department → CertFields → Option Department
 department_for policy c = department_named policy (department_of c.key_id)
 
--- of a body that wasn't approved before
+-- the refusals of an unsigned certificate (body) that wasn't approved before
 abbrev pub refusals_of_new : State → Question → CertFields → List (Refusal × Bool)
 refusals_of_new s q c =
     (SerialTaken, is_other q.body (body_of s c.serial))
@@ -52,42 +52,42 @@ refusals_of_new s q c =
     ∷ (TooFarAhead, nat_lt (q.moment + q.ahead) c.after)
     ∷ []
 
--- of a body with these fields; one that was approved before is judged by neither the policy nor the moment
+-- the refusals of a body with these fields; if it was approved before, neither the policy nor the time matters
 abbrev pub refusals_of_body : State → Question → CertFields → List (Refusal × Bool)
 refusals_of_body s q c =
     (OtherCa, not (bytes_eq c.ca s.scope.ca))
     ∷ (OtherSerial, nat_lt c.serial s.scope.first || nat_lt s.scope.last c.serial)
     ∷ (if is_same q.body (body_of s c.serial) then [] else refusals_of_new s q c)
 
--- the table: the refusals by their numbers, each with the test whether it applies
+-- the table: the refusals in order of their numbers, each with the test whether it applies
 abbrev pub refusals : State → Question → List (Refusal × Bool)
 refusals s q =
     (NotABody, is_none (fields_of q.body)) ∷ option_map_or (λ c. refusals_of_body s q c) (fields_of q.body) []
 
--- the first that applies
+-- the first refusal that applies
 abbrev pub first_holding : List (Refusal × Bool) → Option Refusal
 first_holding [] = None
 first_holding (r ∷ rs) = if r.1 then Some r.0 else first_holding rs
 
--- the refusal of a question. Where there is none, the body may be signed
+-- the refusal of a question; if there is none, the body may be signed
 abbrev pub refusal_of : State → Question → Option Refusal
 refusal_of s q = first_holding (refusals s q)
 
--- ---- what a question leaves
+-- ---- the state after a question
 
--- what is kept of a body
+-- the row that is kept for a body
 abbrev pub row_of : Question → CertFields → Approved
 row_of q c = record { serial = c.serial; moment = q.moment; body = q.body }
 
--- the state with one row more
+-- the state with one more row
 abbrev pub with_approved : State → Approved → State
 with_approved s row = record s { approved = s.approved ++ row ∷ [] }
 
--- a body that was approved before is kept once
+-- a body that was approved before is kept only once
 abbrev pub with_fields : State → Question → Option CertFields → State
 with_fields s q (Some c) = if is_same q.body (body_of s c.serial) then s else with_approved s (row_of q c)
 with_fields s q None = s
 
--- the state that is left: what is refused leaves it as it was
+-- the state after a question; a refusal leaves it unchanged
 abbrev pub after : State → Question → State
 after s q = if is_some (refusal_of s q) then s else with_fields s q (fields_of q.body)

@@ -15,15 +15,15 @@ pub record Part : Type 0 where
 abbrev pub part_lines : Part → List (List ℕ)
 part_lines p = p.before ++ department_lines p.department
 
--- the text of departments with lines between them, and lines behind the last
+-- the text of departments with lines between them, and lines after the last
 abbrev pub policy_text : List Part → List (List ℕ) → List ℕ
 policy_text parts last = lines_text (flat_map part_lines parts ++ last)
 
--- lines that may stand between texts
+-- lines that may come between texts
 abbrev pub AreBetween : List (List ℕ) → Type 0
 AreBetween lines = AllByRecursion (λ l. IsTrue (is_between l) × All (λ b. (b == 10) ≡ false) l) lines
 
--- each department is lawful, with the name of none that is known or stands before it
+-- each department is valid, and no known or earlier one has its name
 abbrev pub AreParts : (known : List Department) → List Part → Type 0
 AreParts known [] = Unit {0}
 AreParts known (p ∷ parts) =

@@ -1,4 +1,4 @@
--- What reading a body answers.
+-- What reading an unsigned certificate (body) returns.
 use Rattle.std.specs.Prelude.{◌≡◌, ◌≢◌, ◌<◌, ◌≤◌, ℕ, List, length, Result, Ok, Err, Some, None}
 use Rattle.cert.specs.Reading.{body_at}
 use Rattle.cert.specs.declared.cert_fault.CertFault.TheVariants as cert
@@ -8,14 +8,14 @@ use Rattle.guard.specs.declared.body.BodyFault.TheVariants as fault
 use Rattle.guard.specs.declared.body.TheConstants.{LONGEST_BODY}
 use Rattle.guard.specs.State.{fields_of}
 
--- the fields of the body, or there are none, unless memory was refused
+-- the fields of the body, or a fault if it has none, unless memory was refused
 abbrev pub Gives : Result CertFields BodyFault → List ℕ → Type 0
 Gives (Ok c) bytes = fields_of bytes ≡ Some c
 Gives (Err fault.TooLong) bytes = fields_of bytes ≡ None
 Gives (Err (fault.NotOfTheProfile e)) bytes = fields_of bytes ≡ None
 Gives (Err fault.NoMemory) bytes = Unit {0}
 
--- what each fault says of the bytes
+-- what each fault means for the bytes
 abbrev pub IsFault : List ℕ → BodyFault → Type 0
 IsFault bytes fault.TooLong = LONGEST_BODY < length bytes
 IsFault bytes (fault.NotOfTheProfile e) = (length bytes ≤ LONGEST_BODY) × (body_at bytes ≡ Err e) × (e ≢ cert.NoMemory)

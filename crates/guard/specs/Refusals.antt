@@ -1,4 +1,4 @@
--- The refusals of a guard: each with its number and its name.
+-- The refusals of a guard, each with its number and its name.
 use Rattle.std.specs.Prelude.{ℕ, List, codes}
 use Rattle.guard.specs.declared.refusal.Refusal.{Refusal}
 use Rattle.guard.specs.declared.refusal.Refusal.TheVariants.{
@@ -25,10 +25,10 @@ refusal_row NotPermitted = (37, codes "NotPermitted")
 refusal_row AlreadyEnded = (38, codes "AlreadyEnded")
 refusal_row TooFarAhead = (39, codes "TooFarAhead")
 
--- the place in the order in which refusals are looked for
+-- the place in the order in which refusals are tested
 abbrev pub refusal_number : Refusal → ℕ
 refusal_number r = (refusal_row r).0
 
--- the name in an answer
+-- the name that is printed in an answer
 abbrev pub refusal_name : Refusal → List ℕ
 refusal_name r = (refusal_row r).1

@@ -1,4 +1,4 @@
--- The state of the plain guard, and what it is asked.
+-- The state of the guard's reference model, and the questions that it answers.
 use Rattle.std.specs.Prelude.{ℕ, List, [], length, find, Bool, false, not, ◌==◌, nat_lt}
 use Rattle.std.specs.Prelude.{if◌then◌else◌, Option, None}
 use Rattle.std.specs.Option.{option_map, option_map_or}
@@ -13,26 +13,26 @@ use Rattle.guard.specs.declared.scope.Scope.{Scope}
 
 pub record State : Type 0 where
   pub scope : Scope
-  -- in the order of their approval
+  -- in order of approval
   pub approved : List Approved
 
 -- a guard that has approved nothing yet
 abbrev pub opened : Scope → State
 opened scope = record { scope = scope; approved = [] }
 
--- whether these bytes may be signed, at this moment
+-- whether these bytes may be signed at this time
 pub record Question : Type 0 where
   pub policy : List Department
   pub moment : ℕ
-  -- how many seconds after the moment a validity may begin
+  -- how many seconds after that time a validity may begin
   pub ahead : ℕ
   pub body : List ℕ
 
--- the fields of a body of the profile, which isn't too long
+-- the fields of an unsigned certificate (body) of the profile that isn't too long
 abbrev pub fields_of : List ℕ → Option CertFields
 fields_of bytes = if nat_lt LONGEST_BODY (length bytes) then None else result_ok (body_at bytes)
 
--- the department of a name
+-- the department with this name
 abbrev pub department_named : List Department → List ℕ → Option Department
 department_named policy name = find (λ d. bytes_eq d.name name) policy
 
@@ -40,10 +40,10 @@ department_named policy name = find (λ d. bytes_eq d.name name) policy
 abbrev pub body_of : State → ℕ → Option (List ℕ)
 body_of s serial = option_map (λ a. a.body) (find (λ a. a.serial == serial) s.approved)
 
--- a body is there, and it is this one
+-- there is a body, and it is this one
 abbrev pub is_same : List ℕ → Option (List ℕ) → Bool
 is_same body kept = option_map_or (λ b. bytes_eq b body) kept false
 
--- a body is there, and it is another one
+-- there is a body, and it is a different one
 abbrev pub is_other : List ℕ → Option (List ℕ) → Bool
 is_other body kept = option_map_or (λ b. not (bytes_eq b body)) kept false

@@ -9,7 +9,7 @@ use cert::CertFault;
 use text::NoMemory;
 use values::put_decimal;
 
-/// What a fault of a body's field is called.
+/// The name of a fault in a field of an unsigned certificate (body).
 fn field_name(fault: CertFault) -> &'static str
     ensures { result.now ≡ field_name fault }
 {
@@ -33,7 +33,7 @@ fn field_name(fault: CertFault) -> &'static str
 }
 
 impl BodyFault {
-    /// The name, as it is written in an answer.
+    /// The name that is printed in an answer.
     pub fn name(self) -> &'static str
         ensures { result.now ≡ fault_name self }
     {
@@ -45,7 +45,7 @@ impl BodyFault {
     }
 }
 
-/// Puts two words as a line.
+/// Appends a line with two words.
 fn put_words(out: &mut Vec<u8>, word: &[u8], other: &[u8]) -> Result<(), NoMemory>
     ensures { OnOk result (out.new.items ≡ out.old.items ++ words_line word.now other.now) }
 {
@@ -56,7 +56,7 @@ fn put_words(out: &mut Vec<u8>, word: &[u8], other: &[u8]) -> Result<(), NoMemor
     Ok(())
 }
 
-/// Puts the line of a body that is signed.
+/// Appends the line for a signed body.
 fn put_signed(out: &mut Vec<u8>, serial: u64, digest: &[u8]) -> Result<(), NoMemory>
     ensures { OnOk result (out.new.items ≡ out.old.items ++ signed_line serial digest.now) }
 {
@@ -68,11 +68,11 @@ fn put_signed(out: &mut Vec<u8>, serial: u64, digest: &[u8]) -> Result<(), NoMem
     Ok(())
 }
 
-/// Puts an answer as a line: `sign SERIAL DIGEST`, `refuse NAME`, or `refuse NotABody FAULT`.
+/// Appends an answer as a line: `sign SERIAL DIGEST`, `refuse NAME`, or `refuse NotABody FAULT`.
 ///
 /// # Errors
 ///
-/// `NoMemory`, where a growth was refused. A part of the line may then be there.
+/// `NoMemory`, if an allocation was refused. Part of the line may then have been appended.
 pub fn put_answer(out: &mut Vec<u8>, answer: Answer) -> Result<(), NoMemory>
     ensures { OnOk result (out.new.items ≡ out.old.items ++ answer_line answer) }
 {

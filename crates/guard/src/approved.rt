@@ -1,18 +1,18 @@
-//! What a guard keeps of each body that it approved.
+//! The record that a guard keeps of each approved unsigned certificate (body).
 
 ghost use Rattle.std.specs.Prelude.{◌≡◌, IfOk};
 
 use std::alloc::Global;
 use text::{NoMemory, Text};
 
-/// A body that was approved. It is kept for good.
+/// An approved body. It is kept permanently.
 #[derive(Drop)]
 pub struct Approved {
-    /// The serial that the body names.
+    /// The body's serial.
     pub serial: u64,
     /// When it was approved, in seconds since 1970-01-01 00:00:00 UTC.
     pub moment: u64,
-    /// The body's bytes, over which the signature is made.
+    /// The body's bytes, which the CA signs.
     pub body: Text,
 }
 

@@ -1,4 +1,4 @@
-//! Bodies that a guard is given.
+//! Reading the unsigned certificates (bodies) that a guard is given.
 
 ghost use Rattle.std.specs.Prelude.{◌≡◌, IfErr, IfOk};
 ghost use Rattle.cert.specs.Bodies.{IsCertFields, body_text};
@@ -7,17 +7,17 @@ ghost use Rattle.guard.specs.Reading.{Gives, IsFault};
 use cert::{CertFault, CertFields, read_body};
 use std::alloc::Global;
 
-/// The most bytes of a body that a guard reads.
+/// The most bytes that a body may have for a guard.
 pub const LONGEST_BODY: usize = 16384;
 
-/// Why bytes are not read as a body.
+/// Why bytes can't be read as a body.
 #[derive(Clone, Copy, Debug, PartialEq, Eq)]
 pub enum BodyFault {
     /// More than 16384 bytes.
     TooLong,
     /// The first field that fails.
     NotOfTheProfile(CertFault),
-    /// A growth was refused.
+    /// An allocation was refused.
     NoMemory,
 }
 
@@ -25,15 +25,15 @@ pub enum BodyFault {
 ///
 /// # Errors
 ///
-/// `TooLong` for more than 16384 bytes, else `NotOfTheProfile` with the fault that `cert` finds.
+/// `TooLong` for more than 16384 bytes, otherwise `NotOfTheProfile` with the fault that `cert` finds, or `NoMemory`.
 pub fn fields_of(alloc: Global, body: &[u8]) -> Result<CertFields, BodyFault>
-    // What is read are the fields of the body, and there are none where a fault is answered, unless memory is refused.
+    // The fields are those of the body, and after a fault the body has none, unless memory was refused.
     ensures exact { Gives result body.now }
 
-    // What is read is lawful, and the bytes are its text.
+    // What is read is valid, and the bytes are its text.
     ensures found { IfOk result (λ c. IsCertFields c × (body.now ≡ body_text c)) }
 
-    // The fault is that of the bytes.
+    // The fault is a fault of the bytes.
     ensures fault { IfErr result (λ e. IsFault body.now e) }
 {
     if LONGEST_BODY < body.len() {

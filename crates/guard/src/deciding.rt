@@ -1,4 +1,4 @@
-//! Whether a body may be signed.
+//! Whether an unsigned certificate (body) may be signed.
 
 ghost use Rattle.std.specs.Prelude.{◌≡◌, ◌+◌, ℕ, List, nat_lt, None, Some, option_copied};
 ghost use Rattle.office.specs.Refusals.{has_other_kind};
@@ -39,7 +39,7 @@ fn department_for<'a>(policy: &'a Policy, fields: &CertFields) -> Option<&'a Dep
     policy.named(department_of(fields.key_id.as_slice()))
 }
 
-/// The refusal, with the least number, of a body under whose serial none was approved.
+/// The refusal, with the lowest number, of a body under whose serial none was approved.
 fn refusal_of_new(policy: &Policy, window: Window, fields: &CertFields) -> Option<Refusal>
     ensures { (s : State) (body : List ℕ) → body_of s fields.now.serial ≡ None
         → result ≡ first_holding (refusals_of_new s (question policy.now window body) fields.now) }
@@ -62,10 +62,10 @@ fn refusal_of_new(policy: &Policy, window: Window, fields: &CertFields) -> Optio
     None
 }
 
-/// Whether the body of these fields may be signed: the refusal with the least number, or whether the body is to be kept
-/// first.
+/// Whether the body with these fields may be signed: the refusal with the lowest number, or whether the body has to be
+/// kept first.
 ///
-/// It reads the view's row alone, and answers what the plain guard answers of every state with which the view agrees.
+/// It reads only the view's row, and returns the reference model's answer for every state with which the view agrees.
 pub fn decide(
     view: &View,
     policy: &Policy,
@@ -75,7 +75,7 @@ pub fn decide(
 ) -> Verdict
     requires { fields_of body.now ≡ Some fields.now }
 
-    // The verdict of the plain guard, for each state that the view shows.
+    // The verdict of the model, for each state with which the view agrees.
     ensures decided { (s : State) → Agrees view.now s fields.now
         → Decided result s (question policy.now window body.now) fields.now }
 {

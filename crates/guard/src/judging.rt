@@ -1,4 +1,4 @@
-//! Bodies judged, one after the other.
+//! Judging unsigned certificates (bodies) in order.
 
 ghost use Rattle.std.specs.Prelude.{◌≡◌, ◌<◌, ◌^◌, Some, IfErr, IfOk, OnOk, OnErr};
 ghost use Rattle.cert.specs.declared.fields.CertFields.{CertFields};
@@ -18,16 +18,16 @@ use lines::body_digest;
 use std::alloc::Global;
 use text::Text;
 
-/// What is answered of a body.
+/// The answer for a body.
 #[derive(Clone, Copy, Debug, PartialEq, Eq)]
 pub enum Answer {
-    /// The guard keeps the body, which may be signed.
+    /// The body may be signed, and the guard keeps it.
     Sign {
         serial: u64,
         /// The SHA-256 of the body, as 64 hexadecimal digits in lower case.
         digest: [u8; 64],
     },
-    /// The bytes are no body.
+    /// The bytes aren't a body.
     NotABody(BodyFault),
     /// The body isn't signed, for another reason.
     Refuse(Refusal),
@@ -61,7 +61,7 @@ fn verdict_on<R: Register>(
     Ok(decide(&view, policy, window, body, fields))
 }
 
-/// What is kept of a body by this verdict.
+/// Keeps a body, if this verdict requires it.
 fn settle<R: Register>(
     alloc: Global,
     register: &mut R,
@@ -101,7 +101,7 @@ fn settle<R: Register>(
     }
 }
 
-/// What is answered by this verdict.
+/// The answer with this verdict.
 fn answer_of(serial: u64, body: &[u8], verdict: Verdict) -> Answer
     ensures answered { (s : State) (q : Question) (c : CertFields) → q.body ≡ body.now → c.serial ≡ serial
         → fields_of q.body ≡ Some c → Decided verdict s q c → Answers result s q }
@@ -121,7 +121,7 @@ fn answer_of(serial: u64, body: &[u8], verdict: Verdict) -> Answer
     }
 }
 
-/// What is answered of a body with these fields, once the register keeps it if it is signed.
+/// The answer for a body with these fields. The register keeps the body before that, if it is signed.
 fn judge_fields<R: Register>(
     alloc: Global,
     register: &mut R,
@@ -156,11 +156,11 @@ fn judge_fields<R: Register>(
     }
 }
 
-/// Judges a body: whether it may be signed, and if not, why. What may be signed is kept before it is answered.
+/// Judges a body: whether it may be signed, and if not, why. A body that may be signed is kept before the answer.
 ///
 /// # Errors
 ///
-/// Where the register fails or memory is refused, the register keeps what it kept before.
+/// If the register fails or memory is refused, the register keeps what it kept before.
 pub fn judge<R: Register>(
     alloc: Global,
     register: &mut R,
@@ -170,33 +170,33 @@ pub fn judge<R: Register>(
 ) -> Result<Answer, RegisterFault>
     ensures honest { R.is_honest register.new → R.is_honest register.old }
 
-    // The answer is the plain guard's.
+    // The answer is the reference model's.
     ensures answered { R.is_honest register.new → (s : State) → R.keeps register.old s
         → IfOk result (λ a. Answers a s (question policy.now window body.now)) }
 
-    // Then the register keeps what the plain guard does.
+    // Then the register keeps what the model keeps.
     ensures next { R.is_honest register.new → (s : State) → R.keeps register.old s
         → OnOk result (R.keeps register.new (after s (question policy.now window body.now))) }
 
-    // What is signed is kept by then.
+    // By then a signed body is kept.
     ensures kept { R.is_honest register.new → (s : State) → R.keeps register.old s
         → IfOk result (λ a. IsKept a (after s (question policy.now window body.now)) body.now) }
 
-    // After a fault it keeps what it kept.
+    // After a fault the register keeps what it kept.
     ensures fault { R.is_honest register.new → (s : State) → R.keeps register.old s
         → OnErr result (R.keeps register.new s) }
 
-    // What is answered outlasts a crash.
+    // What was answered survives a crash.
     ensures durable { R.is_honest register.new → (s : State) → R.keeps register.old s → R.leaves register.old s s
         → OnOk result (R.leaves register.new (after s (question policy.now window body.now))
         (after s (question policy.now window body.now))) }
 
-    // A crash in its midst leaves what was kept, or that with this body.
+    // A crash during the call leaves what was kept, or that with this body.
     ensures crash { R.is_honest register.new → (s : State) → R.keeps register.old s → R.leaves register.old s s
         → R.leaves register.new s (after s (question policy.now window body.now)) }
 
-    // A register that keeps a guard tells no damage, and is said to have failed only if its database has. Its last
-    // serial and the moment are below 2^63.
+    // A register that keeps a guard is never reported as damaged, and as failed only if its database has failed, if its
+    // last serial and the time are below 2^63.
     ensures cause { R.is_honest register.new → (s : State) → R.keeps register.old s → s.scope.last < 2 ^ 63
         → window.moment < 2 ^ 63 → IfErr result (λ e. HasCause e (R.has_failed register.new)) }
 {

@@ -1,4 +1,4 @@
-//! Laws of every list of questions. The functions do nothing: their clauses are what is proved.
+//! Theorems about every list of questions. The functions do nothing: their clauses are what is proved.
 
 ghost use Rattle.std.specs.Prelude.{◌≡◌, ◌<◌, ℕ, List, [], ◌∷◌, ◌++◌, All, Contains, true, Some, None, Ok};
 ghost use Rattle.std.specs.Prelude.{is_some, map};
@@ -14,76 +14,76 @@ ghost use Rattle.guard.specs.PolicyTexts.{AreBetween, AreParts, Part, policy_tex
 ghost use Rattle.guard.specs.Laws.{IsBodyOf, ascend_from};
 ghost use Rattle.guard.specs.Retirement.{retirement};
 
-/// The refusals stand in the order of their numbers, from 31 on: so the first that applies is the one with the least.
+/// The refusals are in order of their numbers, from 31 on, so the first that applies has the lowest number.
 pub fn refusals_ascend()
     ensures { (s : State) (q : Question) → ascend_from 31 (refusals s q) ≡ true }
 {}
 
-/// A refusal leaves all as it was.
+/// A refusal leaves the state unchanged.
 pub fn a_refusal_changes_nothing()
     ensures { (s : State) (q : Question) (r : Refusal) → refusal_of s q ≡ Some r → after s q ≡ s }
 {}
 
-/// Each body that a guard keeps was asked for, and might be signed when it was: a body of the profile for the guard's
-/// CA and one of its serials, permitted by the policy that was given, within its time.
+/// Each unsigned certificate (body) that a guard keeps was asked for, and might be signed then: a body of the profile
+/// for the guard's CA and one of its serials, permitted by the given policy, within its time.
 pub fn an_approved_body_was_permitted()
     ensures { (scope : Scope) (l : List Question) → All (WasAsked scope l) (state scope l).approved }
 {}
 
-/// The text of lawful departments of different names, with empty lines and comments between them, is read as these
+/// The text of valid departments with different names, with empty lines and comments between them, is read as these
 /// departments in order.
 pub fn a_policy_is_read_as_its_departments()
     ensures { (parts : List Part) (last : List (List ℕ)) → AreParts [] parts → AreBetween last
         → policy_at (policy_text parts last) ≡ Ok (map (λ p. p.department) parts) }
 {}
 
-/// A body that might be signed is: it isn't refused where none is kept under its serial.
+/// A body that may be signed isn't refused if none is kept under its serial.
 pub fn what_may_be_signed_is_approved()
     ensures { (s : State) (q : Question) (c : CertFields) → MaySign s.scope q c → body_of s c.serial ≡ None
         → refusal_of s q ≡ None }
 {}
 
-/// What has fields is a body of the profile: at most 16384 bytes, which are the text of lawful fields, of these alone.
+/// Bytes that have fields are a body of the profile: at most 16384 bytes, the text of these valid fields and no others.
 pub fn what_has_fields_is_a_body()
     ensures { (bytes : List ℕ) (c : CertFields) → IsBytes bytes → fields_of bytes ≡ Some c → IsBodyOf bytes c }
 {}
 
-/// Two bodies of one serial are the same, byte by byte.
+/// Two bodies with the same serial are equal, byte by byte.
 pub fn a_serial_has_one_body()
     ensures { (scope : Scope) (l : List Question) (a b : Approved) → Contains (state scope l).approved a
         → Contains (state scope l).approved b → a.serial ≡ b.serial → a ≡ b }
 {}
 
-/// The state after one question more is what that question leaves.
+/// The state after one more question is what that question leaves.
 pub fn a_question_is_one_step()
     ensures { (scope : Scope) (l : List Question) (q : Question) → state scope (l ++ q ∷ []) ≡ after (state scope l) q }
 {}
 
-/// What was approved is kept, whatever is asked later.
+/// What was approved stays, whatever is asked later.
 pub fn a_body_that_was_approved_stays()
     ensures { (scope : Scope) (l later : List Question) → IsStill (state scope l) (state scope (l ++ later)) }
 {}
 
-/// What may be signed is kept from then on, and may be signed again, whatever is asked in between, by whichever policy
-/// and at whichever moment.
+/// A body that may be signed is kept from then on, and may be signed again, whatever is asked in between, under any
+/// policy and at any time.
 pub fn an_approved_body_is_signed_again()
     ensures { (scope : Scope) (l later : List Question) (q again : Question) → refusal_of (state scope l) q ≡ None
         → again.body ≡ q.body → refusal_of (state scope (l ++ q ∷ later)) again ≡ None }
 {}
 
-/// A retired guard keeps what it approved.
+/// A retired guard, whose last serial was lowered, keeps what it approved.
 pub fn a_retired_guard_keeps_its_bodies()
     ensures { (s retired : State) (last : ℕ) → retirement s last ≡ Ok retired → retired.approved ≡ s.approved }
 {}
 
-/// A retired guard signs each body again that it approved before.
+/// A retired guard signs again each body that it approved before.
 pub fn a_retired_guard_signs_again()
     ensures { (s retired : State) (last : ℕ) (q : Question) (c : CertFields) → retirement s last ≡ Ok retired
         → fields_of q.body ≡ Some c → body_of s c.serial ≡ Some q.body → refusal_of s q ≡ None
         → refusal_of retired q ≡ None }
 {}
 
-/// A retired guard signs no body with a serial over its last one.
+/// A retired guard signs no body with a serial above its last one.
 pub fn a_retired_guard_signs_none_over_its_last_serial()
     ensures { (s retired : State) (last : ℕ) (q : Question) (c : CertFields) → retirement s last ≡ Ok retired
         → fields_of q.body ≡ Some c → last < c.serial → is_some (refusal_of retired q) ≡ true }

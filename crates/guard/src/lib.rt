@@ -1,8 +1,8 @@
-//! The guard beside the CA's key: which certificate bodies may be signed.
+//! The guard next to the CA's key: it decides which unsigned certificates (bodies) may be signed.
 //!
-//! A guard keeps each body that it approved, and approves no second body under a serial. The plain guard (`specs/`)
-//! says which refusal of one table applies to a body, after any list of questions. `decide` answers the same from the
-//! one row that the body's serial concerns.
+//! A guard keeps each body that it approved, and approves no second body under a serial. The reference model (`specs/`)
+//! determines which refusal of one table applies to a body, after any list of questions. `decide` gives the same answer
+//! from the one row for the body's serial.
 #![tactic(auto)]
 
 mod answer_line;

@@ -13,11 +13,11 @@ use std::alloc::Global;
 use std::marker::Model;
 use text::{NoMemory, Text};
 
-/// A guard's register as a list in memory. Contracts see it as the plain guard's state.
+/// A guard's register as a list in memory. Contracts see it as the state of the reference model.
 #[derive(Drop)]
 pub struct MemoryGuard {
     scope: Scope,
-    // in the order of their approval
+    // in order of approval
     approved: Vec<Approved>,
 }
 
@@ -47,7 +47,7 @@ fn copied(alloc: Global, body: Option<&Text>) -> Result<Option<Text>, NoMemory>
     }
 }
 
-/// The nearer one to a serial, from there on: this row, or the one that was found.
+/// The row with the lower serial at or above `serial`: this row, or the one found so far.
 fn nearer<'a>(serial: u64, row: &'a Approved, found: Option<&'a Approved>) -> Option<&'a Approved>
     ensures { (rows : List Approved) → IsFirstFrom serial rows (option_copied found.entry)
         → IsFirstFrom serial (rows ++ row.now ∷ []) (option_copied result) }
@@ -61,7 +61,7 @@ fn nearer<'a>(serial: u64, row: &'a Approved, found: Option<&'a Approved>) -> Op
     }
 }
 
-/// The row with the least serial that is at least this one.
+/// The row with the lowest serial that is at least this one.
 fn row_from(approved: &[Approved], serial: u64) -> Option<&Approved>
     ensures { IsFirstFrom serial approved.now (option_copied result) }
 {

@@ -43,7 +43,7 @@ fn is_life_permitted(department: &Department, after: u64, before: u64) -> bool
     after < before && before - after <= department.longest_life
 }
 
-/// Whether the department's profile permits what the certificate says.
+/// Whether the department's profile permits the certificate.
 pub(crate) fn permits(department: &Department, fields: &CertFields) -> bool
     ensures { result ≡ permits department.now fields.now }
 {

@@ -1,4 +1,4 @@
-//! The departments that a guard is told of.
+//! The departments in a guard's policy.
 
 ghost use Rattle.std.specs.Prelude.{◌≡◌, option_copied};
 ghost use Rattle.guard.specs.State.{department_named};
@@ -9,7 +9,7 @@ use std::marker::Model;
 /// The most bytes of a policy file.
 pub const LONGEST_POLICY: usize = 1048576;
 
-/// What may be signed: departments of different names. Contracts see it as their list.
+/// What may be signed: departments with different names. Contracts see it as their list.
 #[derive(Drop)]
 pub struct Policy {
     departments: Vec<Department>,
@@ -24,7 +24,7 @@ impl Model for Policy {
     ghost view = { λ p. p.departments.items };
 }
 
-/// The department of a name.
+/// The department with a name.
 pub(crate) fn named<'a>(departments: &'a [Department], name: &[u8]) -> Option<&'a Department>
     ensures { option_copied result ≡ department_named departments.now name.now }
 {
@@ -32,7 +32,7 @@ pub(crate) fn named<'a>(departments: &'a [Department], name: &[u8]) -> Option<&'
 }
 
 impl Policy {
-    /// These departments.
+    /// A policy with these departments.
     pub(crate) fn of(departments: Vec<Department>) -> Policy
         ensures { result ≡ departments.items }
     {
@@ -46,7 +46,7 @@ impl Policy {
         self.departments.as_slice()
     }
 
-    /// The department of a name.
+    /// The department with a name.
     pub fn named(&self, name: &[u8]) -> Option<&Department>
         ensures { option_copied result ≡ department_named self.now name.now }
     {

@@ -8,10 +8,10 @@ ghost use Rattle.guard.specs.declared.policy_fault.PolicyFault.TheVariants.{NoMe
 pub enum PolicyFault {
     /// More than 1048576 bytes.
     TooLong,
-    /// The file's line, from 1, that doesn't fit in the text of a department, or with which a text begins that is none,
-    /// or that names a department for the second time.
+    /// The file's line, from 1, that is invalid in the text of a department, or begins a text that isn't one, or names
+    /// a department for the second time.
     BadPolicy(u64),
-    /// A growth was refused.
+    /// An allocation was refused.
     NoMemory,
 }
 

@@ -1,4 +1,4 @@
-//! Policy files read.
+//! Reading policy files.
 
 ghost use Rattle.std.specs.Prelude.{◌≡◌, ◌≤◌, ◌<◌, ◌∷◌, ◌++◌, ◌^◌, [], IfOk, OnOk, length, map, Err};
 ghost use Rattle.guard.specs.declared.policy_fault.PolicyFault.TheVariants as PolicyFault;
@@ -29,7 +29,7 @@ fn is_between(line: &[u8]) -> bool
     }
 }
 
-/// Puts a piece of a file, and a line feed if pieces follow.
+/// Appends a piece of a file, and a line feed if pieces follow.
 fn put_piece(text: &mut Vec<u8>, piece: &[u8], rest: &[&[u8]]) -> Result<(), NoMemory>
     ensures { OnOk result (text.new.items ≡ text.old.items ++ (piece.now ++ behind (map (λ x. x.now) rest.now) [])) }
 {
@@ -40,7 +40,7 @@ fn put_piece(text: &mut Vec<u8>, piece: &[u8], rest: &[&[u8]]) -> Result<(), NoM
     Ok(())
 }
 
-/// The text of the next eight lines, or of those that are left.
+/// The text of the next eight lines, or of the remaining ones if there are fewer.
 #[tactic(auto, using(crate::proofs::PolicyLines::text_whole))]
 fn text_of(alloc: Global, pieces: &[&[u8]]) -> Result<Text, NoMemory>
     ensures text { IfOk result (λ text. text ≡ text_of 8 (map (λ x. x.now) pieces.now)) }
@@ -58,7 +58,7 @@ fn text_of(alloc: Global, pieces: &[&[u8]]) -> Result<Text, NoMemory>
     Ok(Text::from_vec(text))
 }
 
-/// The department that a text is, where its first line has this number.
+/// The department in a text whose first line has this number.
 fn department_in(alloc: Global, number: u64, text: &[u8]) -> Result<Department, PolicyFault>
     requires number { (1 ≤ number) × (number < 2 ^ 62) }
     requires size { length text.now < 2 ^ 63 }
@@ -72,7 +72,7 @@ fn department_in(alloc: Global, number: u64, text: &[u8]) -> Result<Department, 
     }
 }
 
-/// The department of the text that begins with this line, where none of the known ones has its name.
+/// The department in the text that begins with this line, if no known one has its name.
 fn department_at(
     alloc: Global,
     number: u64,
@@ -98,7 +98,7 @@ fn push(departments: &mut Vec<Department>, department: Department) -> Result<(),
     Ok(())
 }
 
-/// The departments of a file's lines.
+/// The departments in a file's lines.
 fn departments_in(alloc: Global, pieces: &[&[u8]]) -> Result<Policy, PolicyFault>
     requires { length pieces.now < 2 ^ 62 }
     ensures { Gives result (policy_from 0 1 [] (map (λ x. x.now) pieces.now)) }
@@ -122,19 +122,19 @@ fn departments_in(alloc: Global, pieces: &[&[u8]]) -> Result<Policy, PolicyFault
 }
 
 impl Policy {
-    /// Reads a policy: texts of departments as a caller sends them, with empty lines and lines that begin with `#`
-    /// between them. No two have one name, and there may be none.
+    /// Reads a policy: texts of departments in the form of a request, with empty lines and lines that begin with `#`
+    /// between them. No two have the same name, and there may be none.
     ///
     /// # Errors
     ///
-    /// `TooLong` for more than 1048576 bytes. `BadPolicy(n)`: line n of the file is the one that `read_message` names
-    /// in the first text that is none, or it is the first line of a text that is no department's, or of the second
-    /// department of a name.
+    /// `TooLong` for more than 1048576 bytes. `BadPolicy(n)`: line n of the file is the one that `read_message` reports
+    /// in the first text that isn't a message, or the first line of a text that isn't a department's, or of the second
+    /// department with the same name.
     pub fn read(alloc: Global, bytes: &[u8]) -> Result<Policy, PolicyFault>
-        // What is answered is what reading line by line gives.
+        // The result is what reading line by line gives.
         ensures exact { length bytes.now ≤ LONGEST_POLICY → Gives result (policy_at bytes.now) }
 
-        // A file that is too long is answered so.
+        // The result for a file that is too long is `TooLong`.
         ensures limit { LONGEST_POLICY < length bytes.now → result ≡ Err PolicyFault.TooLong }
     {
         if LONGEST_POLICY < bytes.len() {

@@ -1,32 +1,32 @@
-//! Refusals of a guard.
+//! A guard's refusals.
 
 ghost use Rattle.std.specs.Prelude.{◌≡◌};
 ghost use Rattle.guard.specs.Refusals.{refusal_name, refusal_number, refusal_row};
 
-/// Why a guard lets a body go unsigned. Of those that apply, the one that stands first here is answered.
+/// Why an unsigned certificate (body) isn't signed. If several refusals apply, the answer is the first in this list.
 #[derive(Clone, Copy, Debug, PartialEq, Eq)]
 pub enum Refusal {
-    /// The bytes are no body of the profile, or more than a body may have.
+    /// The bytes aren't a body of the profile, or are more than a body may have.
     NotABody,
     /// The body names another CA.
     OtherCa,
-    /// The serial is below the guard's first one or over its last.
+    /// The serial is below the guard's first one or above its last one.
     OtherSerial,
-    /// Another body was approved under the serial.
+    /// A different body was approved under the serial.
     SerialTaken,
-    /// The policy has no department of the name before the key id's `/`.
+    /// The policy has no department with the name before the key id's `/`.
     NoDepartment,
-    /// The department is for the other kind of certificates.
+    /// The department is for the other kind of certificate.
     OtherKind,
     /// The department's profile doesn't permit the certificate.
     NotPermitted,
-    /// The validity ended by the moment.
+    /// The validity has ended.
     AlreadyEnded,
-    /// The validity begins too long after the moment.
+    /// The validity begins too far in the future.
     TooFarAhead,
 }
 
-/// What a refusal is called: its number and its name.
+/// A refusal's number and its name.
 #[derive(Drop)]
 struct Row(u8, &'static str);
 
@@ -47,14 +47,14 @@ impl Refusal {
         }
     }
 
-    /// The number, 31 to 39: the place in the order in which refusals are looked for.
+    /// The number, 31 to 39: the place in the order in which refusals are tested.
     pub fn number(self) -> u8
         ensures { result ≡ refusal_number self }
     {
         self.row().0
     }
 
-    /// The name, as it is written in an answer.
+    /// The name that is printed in an answer.
     pub fn name(self) -> &'static str
         ensures { result.now ≡ refusal_name self }
     {

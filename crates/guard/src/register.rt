@@ -1,4 +1,4 @@
-//! What keeps a guard.
+//! Registers, which store a guard.
 
 ghost use Rattle.std.specs.Prelude.{◌≡◌, None, IfErr, IfOk, OnOk, OnErr};
 ghost use Rattle.guard.specs.Machine.{State, body_of, with_approved};
@@ -10,33 +10,33 @@ use crate::scope::Scope;
 use std::alloc::Global;
 use text::Text;
 
-/// Why a register did not answer. What it keeps is as before.
+/// Why a register didn't answer. What it keeps is unchanged.
 #[derive(Clone, Copy, Debug, PartialEq, Eq)]
 pub enum RegisterFault {
     /// The database failed, or is shut, or has no room for a row.
     Device,
-    /// What is there is no guard's: the tables are damaged.
+    /// The stored tables aren't those of a guard: they are damaged.
     Damaged,
-    /// A growth was refused.
+    /// An allocation was refused.
     NoMemory,
 }
 
-/// What keeps a guard's state: tables in a file, or a list in memory.
+/// Stores a guard's state: tables in a file, or a list in memory.
 ///
-/// Each call's clauses are asked of an honest register alone, as the call leaves it: honesty only falls. A register that
-/// keeps a state tells no damage, and `Device` only if its database has failed. What was kept when a call answered is
-/// what a crash leaves; a crash in the midst of a call leaves that, or what the call leads to.
+/// Each call's clauses apply only if the register is still honest after the call, so its disk has been faithful so far.
+/// A register that keeps a state reports no damage, and `Device` only if its database has failed. A crash between calls
+/// leaves what was kept; a crash during a call leaves that, or what the call leads to.
 pub trait Register {
-    /// So far every answer of the disk was true.
+    /// So far every answer of the disk was correct.
     ghost is_honest: { Self → Type 0 };
 
-    /// What it has is this state.
+    /// The register's content is this state.
     ghost keeps: { Self → State → Type 0 };
 
-    /// What a crash leaves now has the one state or the other.
+    /// A crash now leaves one of the two states.
     ghost leaves: { Self → State → State → Type 0 };
 
-    /// The database has failed by now, or is shut.
+    /// The database has failed, or is shut.
     ghost has_failed: { Self → Type 0 };
 
     /// The CA and the serials that the guard answers for.
@@ -59,7 +59,7 @@ pub trait Register {
         ensures cause { is_honest self.new → (s : State) → keeps self.old s
             → IfErr result (λ e. HasCause e (has_failed self.new)) };
 
-    /// The row with the least serial that is at least this one.
+    /// The row with the lowest serial that is at least this one.
     fn row_from(&mut self, alloc: Global, serial: u64) -> Result<Option<Approved>, RegisterFault>
         ensures honest { is_honest self.new → is_honest self.old }
         ensures row { is_honest self.new → (s : State) → keeps self.old s → IfOk result (IsRowFrom s serial) }
@@ -82,7 +82,7 @@ pub trait Register {
         ensures cause { is_honest self.new → (s : State) → keeps self.old s → body_of s row.serial ≡ None
             → IsKeepable row → IfErr result (λ e. HasCause e (has_failed self.new)) };
 
-    /// Makes this the last serial that may be signed, where that lowers it. After a fault the register keeps what it
+    /// Makes this the last serial that may be signed, if that lowers it. After a fault the register keeps what it
     /// kept.
     fn set_last(&mut self, last: u64) -> Result<(), RegisterFault>
         ensures honest { is_honest self.new → is_honest self.old }
@@ -96,7 +96,7 @@ pub trait Register {
         ensures cause { is_honest self.new → (s : State) → keeps self.old s → IsLowered s last
             → IfErr result (λ e. HasCause e (has_failed self.new)) };
 
-    /// What has the one state has that or another.
+    /// If a crash leaves `s`, then it leaves `s` or `t`.
     ghost widens: { (g : Self) (s t : State) → leaves g s s → leaves g s t };
 }
 

@@ -1,4 +1,4 @@
-//! A guard's last serial, lowered.
+//! Lowering a guard's last serial.
 
 ghost use Rattle.std.specs.Prelude.{◌≡◌, ◌<◌, ◌^◌, IfErr, IfOk, OnOk};
 ghost use Rattle.guard.specs.Judged.{HasCause};
@@ -10,14 +10,14 @@ ghost use Rattle.guard.specs.Retiring.{with_last};
 use crate::register::{Register, RegisterFault};
 use std::alloc::Global;
 
-/// Why a last serial is not lowered, in the order in which it is looked at.
+/// Why a last serial isn't lowered, in the order of the tests.
 #[derive(Clone, Copy, Debug, PartialEq, Eq)]
 pub enum RetireFault {
-    /// The register did not answer.
+    /// The register didn't answer.
     Register(RegisterFault),
-    /// The serial is below the guard's first one, or over its last.
+    /// The serial is below the guard's first one, or above its last one.
     BadSerials,
-    /// A body is approved under a serial over this one.
+    /// An unsigned certificate (body) is approved under a serial above this one.
     SerialApproved,
 }
 
@@ -31,7 +31,7 @@ impl From<RegisterFault> for RetireFault {
     }
 }
 
-/// Whether a body is approved under a serial over this one.
+/// Whether a body is approved under a serial above this one.
 #[tactic(auto, using(crate::proofs::Retired::none_over))]
 fn is_approved_over<R: Register>(
     alloc: Global,
@@ -60,29 +60,29 @@ fn is_approved_over<R: Register>(
     }
 }
 
-/// Makes this the last serial that may be signed, as for a CA that another one follows: the new one's first serial,
-/// less one.
+/// Makes this the last serial that may be signed, for example for a CA that a new one replaces: the new CA's first
+/// serial, minus 1.
 ///
 /// # Errors
 ///
-/// `BadSerials` and `SerialApproved`, as they say. Where the register fails or memory is refused, and after every other
-/// fault, the register keeps what it kept.
+/// `BadSerials` or `SerialApproved`, or `Register` if the register fails or memory is refused. After any fault the
+/// register keeps what it kept.
 pub fn retire<R: Register>(alloc: Global, register: &mut R, last: u64) -> Result<(), RetireFault>
     ensures honest { R.is_honest register.new → R.is_honest register.old }
 
-    // The register then keeps the retired state, or what it kept.
+    // The register then keeps the retired state, or after a fault what it kept.
     ensures retired { R.is_honest register.new → (s : State) → R.keeps register.old s → s.scope.last < 2 ^ 63
         → Retires s last (R.keeps register.new) result }
 
-    // A last serial that was lowered outlasts a crash.
+    // A lowered last serial survives a crash.
     ensures durable { R.is_honest register.new → (s : State) → R.keeps register.old s → s.scope.last < 2 ^ 63
         → OnOk result (R.leaves register.new (with_last s last) (with_last s last)) }
 
-    // A crash in its midst leaves what was kept, or the retired state.
+    // A crash during the call leaves what was kept, or the retired state.
     ensures crash { R.is_honest register.new → (s : State) → R.keeps register.old s → R.leaves register.old s s
         → s.scope.last < 2 ^ 63 → R.leaves register.new s (if_retired s (retirement s last)) }
 
-    // A register that keeps a guard tells no damage, and is said to have failed only if its database has.
+    // A register that keeps a guard is never reported as damaged, and as failed only if its database has failed.
     ensures cause { R.is_honest register.new → (s : State) → R.keeps register.old s
         → IfErr result (HasRetireCause (R.has_failed register.new)) }
 {

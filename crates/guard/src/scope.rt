@@ -1,4 +1,4 @@
-//! What a guard answers for.
+//! The CA and the serials of a guard.
 
 ghost use Rattle.std.specs.Prelude.{◌≡◌, IfSome, IsTrue};
 ghost use Rattle.office.specs.Openings.{are_serials};
@@ -18,7 +18,7 @@ pub struct Scope {
 }
 
 impl Scope {
-    /// The scope of these values, or none if it isn't so that 1 <= first <= last <= 9223372036854775806.
+    /// The scope with these values, or `None` unless 1 <= first <= last <= 9223372036854775806.
     pub fn new(ca: [u8; 32], first: u64, last: u64) -> Option<Scope>
         ensures made { result ≡ made_scope ca first last }
         ensures lawful { IfSome result (λ s. IsTrue (are_serials s.first s.last)) }

@@ -1,7 +1,7 @@
-//! What only calls can show: that they answer where memory suffices.
+//! What only calls can show: that they return a result if there is enough memory.
 //!
-//! The body has the form that `docs/FORMATS.md` gives: a key of bytes 0x22, a nonce of 0x33 and a CA of 0x11; serial 1,
-//! a user, key id web/alice, principal alice, from 1000 to 2000.
+//! The unsigned certificate (body) has the form in `docs/FORMATS.md`: key bytes 0x22, nonce bytes 0x33, CA bytes 0x11;
+//! serial 1, a user, key id web/alice, principal alice, from 1000 to 2000.
 
 use crate::{
     Answer, BodyFault, MemoryGuard, Policy, PolicyFault, Refusal, Register, Scope, Verdict, View,
@@ -19,7 +19,7 @@ const BODY: &[u8; 229] =
     3\x00\x00\x00\x0bssh-ed25519\x00\x00\x00 \x11\x11\x11\x11\x11\x11\x11\x11\x11\x11\x11\x11\x11\x11\x11\
     \x11\x11\x11\x11\x11\x11\x11\x11\x11\x11\x11\x11\x11\x11\x11\x11\x11";
 
-/// The department, with a comment before it and an empty line behind it.
+/// The department, with a comment before it and an empty line after it.
 const WEB: &[u8] = b"# for people\n\
 department web\nkind user\nadmins ana\nprincipals alice\noptions\nextensions\nmaxlife 1000\nnamespaces\n\n";
 
@@ -29,7 +29,7 @@ const HOSTS: &[u8] =
 const SHORT: &[u8] =
     b"department web\nkind user\nadmins\nprincipals alice\noptions\nextensions\nmaxlife 999\nnamespaces\n";
 
-/// The CA's byte, the first serial, the policy, the moment and the seconds ahead, and the verdict.
+/// The CA's byte, the first serial, the policy, the time and the seconds ahead, and the verdict.
 type Case = (u8, u64, &'static [u8], u64, u64, Verdict);
 
 const CASES: [Case; 11] = [
@@ -74,7 +74,7 @@ const CASES: [Case; 11] = [
     (0x11, 1, WEB, 0, 999, Verdict::Refuse(Refusal::TooFarAhead)),
 ];
 
-/// The verdict of a case, where this body is kept under the serial.
+/// The verdict of a test case, if this body is kept under the serial.
 fn verdict_of(alloc: Global, case: &Case, kept: Option<&Text>) -> Option<Verdict> {
     let (ca, first, policy, moment, ahead, _) = *case;
     let Ok(policy) = Policy::read(alloc, policy) else {
@@ -115,7 +115,7 @@ fn what_is_kept_is_signed_again_and_no_other(rt: HostRuntime) {
 /// The SHA-256 of the body, by sha256sum(1).
 const DIGEST: &[u8; 64] = b"82e0c34fe67da3fc3dc1be6682073994ec021449271b641cdd36180e95572e79";
 
-/// The answer of a guard to some bytes, judged by the policy `WEB` without seconds ahead.
+/// A guard's answer for some bytes, judged by the policy `WEB` with 0 seconds ahead.
 fn answer_to<R: Register>(
     alloc: Global,
     guard: &mut R,
@@ -193,7 +193,7 @@ fn an_answer_is_a_line(rt: HostRuntime) {
     }
 }
 
-/// Policies, and the lines that are answered. The first four are made of the one in `docs/FORMATS.md`, as it says.
+/// Policies, and the lines that are reported. The first four are made from the one in `docs/FORMATS.md`, as it says.
 const POLICIES: [(&[u8], u64); 7] = [
     (b" # people\n", 1),
     (b"# people\ndepartment web\nki", 3),

@@ -2,23 +2,23 @@
 use Rattle.krl.proofs.Words.{Bool, arith, false, inl, inr, leb, ltb, nat_tests, refl, true, ℕ, ◌&&◌, ◌<◌, ◌||◌, ◌≡◌}
 use Rattle.krl.proofs.Words.{◌≤◌, ◌⊎◌}
 
--- a smaller number is below
+-- a smaller number passes the test
 pub ltb-yes : {a b : ℕ} → a < b → ltb a b ≡ true
 ltb-yes {a} {b} lt = grind (arith, nat_tests)
 
--- between two ends
+-- a number between two ends
 pub is_in : (n a b : ℕ) → a ≤ n → n ≤ b → (leb a n && leb n b) ≡ true
 is_in n a b p q = grind (arith, nat_tests)
 
--- below the lower end
+-- a number below the lower end
 pub is_under : (n a b : ℕ) → n < a → (leb a n && leb n b) ≡ false
 is_under n a b p = grind (arith, nat_tests)
 
--- above the upper end
+-- a number above the upper end
 pub is_over : (n a b : ℕ) → b < n → (leb a n && leb n b) ≡ false
 is_over n a b p = grind (arith, nat_tests)
 
--- what is between two ends is not below the one nor above the other
+-- a number between two ends is neither below the lower end nor above the upper one
 pub ends : (n a b : ℕ) → (leb a n && leb n b) ≡ true → (a ≤ n) × (n ≤ b)
 ends n a b e = (grind (arith, nat_tests), grind (arith, nat_tests))
 
@@ -26,7 +26,7 @@ pub or_true : (b : Bool) → (b || true) ≡ true
 or_true true = refl
 or_true false = refl
 
--- one of two holds, the first where both do
+-- if one of two tests holds, then the first does, or the first fails and the second holds
 pub or_cases : (a b : Bool) → (a || b) ≡ true → (a ≡ true) ⊎ ((a ≡ false) × (b ≡ true))
 or_cases true b e = inl refl
 or_cases false b e = inr (refl, e)

@@ -1,4 +1,4 @@
--- Bytes and strings at their front.
+-- Bytes, and strings at their front.
 use Rattle.krl.proofs.Words.{Bool, IfNone, IfSome, IsBytes, IsString, List, None, Option, Some, [], ap, arith, cond}
 use Rattle.krl.proofs.Words.{drop, false, length, ltb, same_Some, string_text, subst, suc, take, true, w32, ℕ, ◌++◌}
 use Rattle.krl.proofs.Words.{◌<◌, ◌^◌, ◌∷◌, ◌≡◌, ◌≢◌}
@@ -10,7 +10,7 @@ use Rattle.std.proofs.lemmas.Option.{option_and_then_some}
 use Rattle.wire.specs.Reading.{Moves, front_of, number_at, string_at}
 use Rattle.wire.proofs.Laws.{IsBytes-take}
 
--- what follows bytes in bytes is bytes
+-- the rest of a list of bytes is a list of bytes
 pub suffix_bytes : (xs front rest : List ℕ) → IsBytes xs → xs ≡ front ++ rest → IsBytes rest
 suffix_bytes xs front rest h e = behind front (subst IsBytes e h)
   where
@@ -26,7 +26,7 @@ u32_fits bytes h =
     let d = h 3 in
     omega arith
 
--- a string that is read from bytes has a length of 32 bits
+-- the length of a string that is read from bytes fits in 32 bits
 pub string_fits : (bytes text rest : List ℕ) → IsBytes bytes → string_at bytes ≡ Some (text, rest) → IsString text
 string_fits bytes text rest h e =
     option_and_then_some (λ n. front_of n.0 n.1) (number_at w32 bytes) (text, rest) e (λ n is gives.
@@ -53,7 +53,7 @@ string_fits bytes text rest h e =
         by_test false gives = let same = ap (λ (p : List ℕ × List ℕ). p.0) (same_Some _ _ gives) in
             subst IsString same (omega (arith, length-take n after))
 
--- what a cursor's string call says, with its length
+-- the result of a cursor's string call, with its length
 pub found_string : (o : Option (Bor (List ℕ))) (old new : List ℕ) → IsBytes old
     → Moves (string_at old) (option_copied o) old new → IfSome o (λ b. old ≡ string_text b.now ++ new)
     → IfSome o (λ b. IsString b.now × (old ≡ string_text b.now ++ new))

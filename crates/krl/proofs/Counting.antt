@@ -1,4 +1,4 @@
--- The runs of a set's serials among so many from a serial on.
+-- The runs of a set's serials among the `count` serials from `from` on.
 use Rattle.krl.proofs.Words.{AreRuns, AreRunsFrom, Bool, IsOneOf, List, Run, [], and_from, ap, arith, cases_Bool}
 use Rattle.krl.proofs.Words.{cases_lt, contains, eq-eqb, eqb, false, inl, inr, is_within, leb, nat_tests, ne_eqb, suc}
 use Rattle.krl.proofs.Words.{sym, true, zero, ℕ, ◌&&◌, ◌+◌, ◌<◌, ◌^◌, ◌||◌, ◌∙◌, ◌∷◌, ◌≡◌, ◌≤◌}
@@ -8,7 +8,7 @@ use Rattle.krl.proofs.Booleans.{or_group}
 use Rattle.krl.proofs.Maximal.{weaken, runs_unique, run_of}
 use Rattle.krl.proofs.Gathering.{eqb-no, within_one}
 
--- runs with a serial more below them are runs
+-- runs with one more serial below them are runs
 with_first_runs : (n : ℕ) (rs : List Run) → n < 2 ^ 64 → AreRunsFrom (n + 1) rs → AreRunsFrom n (with_first n rs)
 with_first_runs n [] fits h = (omega arith, omega arith, fits, tt)
 with_first_runs n (r ∷ rs) fits h = elim (cases_lt (n + 1) r.lo) [
@@ -19,7 +19,7 @@ with_first_runs n (r ∷ rs) fits h = elim (cases_lt (n + 1) r.lo) [
 longer : (a b c n : ℕ) → c ≡ a + 1 → c ≤ b → (leb a n && leb n b) ≡ (eqb n a || (leb c n && leb n b))
 longer a b c n e le = grind (arith, nat_tests)
 
--- and their set has that serial more
+-- and their set has that one serial more
 contains_with_first : (n m : ℕ) (rs : List Run) → AreRunsFrom (n + 1) rs
     → contains (with_first n rs) m ≡ (eqb m n || contains rs m)
 contains_with_first n m [] h = ap (λ b. b || false) (within_one m n)
@@ -30,7 +30,7 @@ contains_with_first n m (r ∷ rs) h = elim (cases_lt (n + 1) r.lo) [
       ∙ or_group (eqb m n) (is_within m r) (contains rs m))
 ]
 
--- the set's serials among the counted have 64 bits
+-- those of the `count` serials from `from` on that are in the set fit in 64 bits
 abbrev pub Fit : (ℕ → Bool) → ℕ → ℕ → Type 0
 Fit set from count = (n : ℕ) → from ≤ n → n < from + count → set n ≡ true → n < 2 ^ 64
 
@@ -82,7 +82,7 @@ contains_counted set from (suc count) n fit =
       ])
     ]
 
--- the serials of runs have 64 bits
+-- the serials of runs fit in 64 bits
 one_fits : (from : ℕ) (rs : List Run) (r : Run) → AreRunsFrom from rs → IsOneOf r rs → r.hi < 2 ^ 64
 one_fits from [] r h c = absurd c
 one_fits from (s ∷ rs) r h (inl same) = rw (sym (ap (λ (x : Run). x.hi) same)) h.2
@@ -96,7 +96,7 @@ all_fit set from count rs h same n p q e =
     let le : n ≤ s.0.hi = s.3 in
     omega arith
 
--- the set's serials among the counted have their runs
+-- those of the `count` serials that are in the set have their runs
 pub runs_in_runs : (set : ℕ → Bool) (from count : ℕ) → from + count ≤ 2 ^ 64 → AreRuns (runs_in set from count)
 runs_in_runs set from count le =
     weaken 0 from (runs_in set from count) (omega arith) (runs_ascend set from count (λ n p q e. omega arith))

@@ -5,14 +5,14 @@ use Rattle.std.proofs.Common.{leb-true}
 use Rattle.std.specs.List.Sorted.{IsPartitionPoint, IsPartitionedBy}
 use Rattle.krl.proofs.Maximal.{covered_by}
 
--- each of the runs ends at or above the serial that they ascend from
+-- each of the runs ends at or above the serial from which they ascend
 pub ends_from : (from k : ℕ) (rs : List Run) (d : Run) → AreRunsFrom from rs → k < length rs → from ≤ (get_or rs k d).hi
 ends_from from k [] d h lt = absurd (omega arith)
 ends_from from zero (r ∷ rs) d h lt = let a : r.lo ≤ r.hi = h.1 in let b : from ≤ r.lo = h.0 in omega arith
 ends_from from (suc k) (r ∷ rs) d h lt = let a : r.lo ≤ r.hi = h.1 in let b : from ≤ r.lo = h.0 in let c =
     ends_from (r.hi + 2) k rs d h.3 (omega arith) in omega arith
 
--- each begins there or above
+-- each begins at or above it
 pub begins_from : (from k : ℕ) (rs : List Run) (d : Run) → AreRunsFrom from rs → k < length rs
     → from ≤ (get_or rs k d).lo
 begins_from from k [] d h lt = absurd (omega arith)
@@ -20,7 +20,7 @@ begins_from from zero (r ∷ rs) d h lt = h.0
 begins_from from (suc k) (r ∷ rs) d h lt = let a : r.lo ≤ r.hi = h.1 in let b : from ≤ r.lo = h.0 in let c =
     begins_from (r.hi + 2) k rs d h.3 (omega arith) in omega arith
 
--- they begin in their order
+-- they are in the order of their first serials
 pub are_parted : (from serial : ℕ) (rs : List Run) → AreRunsFrom from rs → IsPartitionedBy (λ r. leb r.lo serial) rs
 are_parted from serial [] h i j d le lt e = absurd (omega arith)
 are_parted from serial (r ∷ rs) h zero zero d le lt e = e
@@ -33,7 +33,7 @@ are_parted from serial (r ∷ rs) h (suc i) zero d le lt e = absurd (omega arith
 are_parted from serial (r ∷ rs) h (suc i) (suc j) d le lt e =
     are_parted (r.hi + 2) serial rs h.3 i j d (omega arith) (omega arith) e
 
--- of runs that begin above it none covers an interval
+-- none of the runs that begin above an interval's start covers it
 pub none_covers : (lo hi : ℕ) (rs : List Run) → ((k : ℕ) (d : Run) → k < length rs → leb (get_or rs k d).lo lo ≡ false)
     → list_any (covered_by lo hi) rs ≡ false
 none_covers lo hi [] above = refl
@@ -41,7 +41,7 @@ none_covers lo hi (r ∷ rs) above =
     let out : leb r.lo lo ≡ false = above 0 r (omega arith) in
     rw out (none_covers lo hi rs (λ k d lt. above (suc k) d (omega arith)))
 
--- of runs of which so many begin at or below it, and the others above, the last of those covers it, or none does
+-- if `i` is the last run that begins at or below the start, then it covers the interval, or no run does
 pub last_covers : (from lo hi i : ℕ) (rs : List Run) (d : Run) → AreRunsFrom from rs → i < length rs
     → leb (get_or rs i d).lo lo ≡ true
     → ((k : ℕ) (d : Run) → i < k → k < length rs → leb (get_or rs k d).lo lo ≡ false)
@@ -62,7 +62,7 @@ last_covers from lo hi (suc i) (r ∷ rs) d h lt below above =
     either true false c imply = refl
     either false b c imply = refl
 
--- of runs of which so many begin at or below it, and at least one, the last of those covers it, or none does
+-- if `count` runs, at least one, begin at or below the start, then the last of them covers the interval, or none does
 pub some_covers : (lo hi count : ℕ) (rs : List Run) (d : Run) → AreRunsFrom 0 rs → count ≤ length rs
     → IsPartitionPoint (λ r. leb r.lo lo ≡ true) (λ r. leb r.lo lo ≡ false) rs count → 0 < count
     → leb hi (get_or rs (count - 1) d).hi ≡ list_any (covered_by lo hi) rs

@@ -1,4 +1,4 @@
--- Bytes with a cut that is supported have no fault, and no bytes have two first faults.
+-- Bytes that can be divided into a supported list have no fault, and no bytes have two first faults.
 use Rattle.krl.proofs.Words.{AllByRecursion, Bool, Certificates, CertificatesFault, FieldFault, FirstFault, Header}
 use Rattle.krl.proofs.Words.{HeaderFault, IsCut, IsHeader, IsPart, IsReadPart, IsReadSection, IsSection, IsString}
 use Rattle.krl.proofs.Words.{ItemFault, KeyIds, KrlFault, List, MatchOption, None, Option, OtherPart, OtherSection}
@@ -15,7 +15,7 @@ use Rattle.krl.proofs.Items.{goes_on, no_items}
 use Rattle.krl.proofs.Texts.{AreTexts, u32_texts, u64_texts, string_texts, tagged_texts, part_texts, section_texts}
 use Rattle.krl.proofs.Texts.{header_fields, header_unique}
 
--- bytes have one fault of the kind
+-- bytes have at most one fault of this kind
 abbrev pub IsOne : (List ℕ → KrlFault → Type 0) → Type 0
 IsOne Fault = (bytes : List ℕ) (f g : KrlFault) → Fault bytes f → Fault bytes g → f ≡ g
 
@@ -28,21 +28,21 @@ one_answer (Some k) A B f g one a b = a ∙ sym b
 
 module _ {X : Type 0} {text : X → List ℕ} {Is : X → Type 0} (texts : AreTexts text Is) (cut : KrlFault)
     (refusal : X → Option KrlFault) (After : X → List ℕ → KrlFault → Type 0) where
-  -- the same value and rest
+  -- the same value and the same rest
   moved : (x y : X) (r s : List ℕ) (f : KrlFault) → Is x → Is y → text x ++ r ≡ text y ++ s
       → MatchOption (refusal x) (After x r f) (λ g. f ≡ g) → MatchOption (refusal y) (After y s f) (λ g. f ≡ g)
   moved x y r s f p q e =
       let both = texts.same x y r s p q e in
       subst (λ (z : X × List ℕ). MatchOption (refusal z.0) (After z.0 z.1 f) (λ g. f ≡ g)) (λ i. (both.0 i, both.1 i))
 
-  -- a lawful field has no fault where none comes after it
+  -- a valid field has no fault if none comes after it
   pub no_field_fault : (x : X) (rest bytes : List ℕ) (f : KrlFault) → bytes ≡ text x ++ rest → Is x → refusal x ≡ None
       → (After x rest f → ⊥) → FieldFault text Is cut refusal After bytes f → ⊥
   no_field_fault x rest bytes f e is fine none (inl short) = short.0 x rest is e
   no_field_fault x rest bytes f e is fine none (inr (y, left, lawful, same, bad)) =
       none (rw fine at (moved y x left rest f lawful is (sym same ∙ e) bad))
 
-  -- a field has one fault where one comes after it
+  -- a field has at most one fault if the same is true of what comes after it
   pub one_field_fault : ((x : X) → IsOne (After x)) → IsOne (FieldFault text Is cut refusal After)
   one_field_fault one bytes f g (inl a) (inl b) = a.1 ∙ sym b.1
   one_field_fault one bytes f g (inl a) (inr b) = absurd (a.0 b.0 b.1 b.2 b.3)
@@ -53,7 +53,7 @@ module _ {X : Type 0} {text : X → List ℕ} {Is : X → Type 0} (texts : AreTe
 
 -- ---- many items
 
--- items whose fault is one, and that have none where they are lawful
+-- items that have at most one fault, and none if they are valid
 pub record IsItems {X : Type 0} (text : X → List ℕ) (Is : X → Type 0) (Fault : List ℕ → KrlFault → Type 0)
     : Type 0 where
   pub texts : AreTexts text Is
@@ -106,7 +106,7 @@ read_parts = record {
 
 -- ---- certificates sections
 
--- what is lawful and supported is read
+-- what is valid and supported is read
 all_read : {X : Type 0} (Is Read : X → Type 0) (test : X → Bool) → ((x : X) → Is x → test x ≡ true → Read x)
     → (xs : List X) → AllByRecursion Is xs → list_all test xs ≡ true → AllByRecursion Read xs
 all_read Is Read test read [] h e = tt
@@ -119,7 +119,7 @@ no_parts_fault : (ps : List Part) (f : KrlFault) → AllByRecursion IsReadPart p
 no_parts_fault ps f h some (inl none) = no_items part_texts ps some none.0
 no_parts_fault ps f h some (inr bad) = no_item_fault read_parts ps _ f h refl bad
 
--- parts with bytes behind them are bytes
+-- the text of parts followed by some bytes isn't empty
 parts_and_more : (ps : List Part) (r : List ℕ) → r ≢ [] → flat_map part_text ps ++ r ≢ []
 parts_and_more [] r some e = some e
 parts_and_more (p ∷ ps) r some e = cc
@@ -130,7 +130,7 @@ one_parts_fault bytes f g (inl a) (inr b) = absurd (parts_and_more b.0 b.1 b.4 (
 one_parts_fault bytes f g (inr a) (inl b) = absurd (parts_and_more a.0 a.1 a.4 (sym a.3 ∙ b.0))
 one_parts_fault bytes f g (inr a) (inr b) = one_items_fault read_parts bytes f g a b
 
--- what fails behind the CA's key
+-- the fault after the CA's key
 abbrev BehindCa : List ℕ → KrlFault → Type 0
 BehindCa = FieldFault string_text IsString BadSection accepted (λ _. PartsFault)
 
@@ -189,7 +189,7 @@ one_header_fault =
 
 -- ---- lists
 
--- bytes with a cut that is supported have no first fault
+-- bytes that can be divided into a supported list have no first fault
 pub no_first_fault : (bytes : List ℕ) (l : RevocationList) (f : KrlFault) → IsCut bytes l → is_supported l ≡ true
     → FirstFault bytes f → ⊥
 no_first_fault bytes l f cut fine (inl bad) =

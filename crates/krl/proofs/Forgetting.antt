@@ -1,4 +1,4 @@
--- What one list forgets of another, by CAs and key ids.
+-- When one list forgets nothing of another, in terms of CAs and key ids.
 use Rattle.krl.proofs.Words.{AllByRecursion, AreRuns, AreRunsFrom, Bool, CaPart, List, None, Option, Run, Some, []}
 use Rattle.krl.proofs.Words.{ap, arith, bytes_eq, cond, contains, false, inl, inr, is_idle, is_within}
 use Rattle.krl.proofs.Words.{key_blob, length, or-false, refl, same_Some, subst, suc, sym, true, zero}
@@ -15,7 +15,7 @@ use Rattle.krl.proofs.IdLaws.{IdsKept}
 use Rattle.krl.proofs.PartsKept.{find_ca}
 use Rattle.krl.proofs.Publishing.{blob_key, bytes_other, revokes_exactly}
 
--- ---- a key id and a serial that no list has
+-- ---- a key id and a serial that are in no list
 
 zeros : ℕ → List ℕ
 zeros zero = []
@@ -43,7 +43,7 @@ longer (j ∷ ids) i le =
     let differ = bytes_other j i (λ e. let same = ap length e in omega arith) in
     rw differ (longer ids i (omega arith))
 
--- a key id that is none of these
+-- a key id that differs from all of these
 fresh : List (List ℕ) → List ℕ
 fresh ids = zeros (total ids)
 
@@ -60,7 +60,7 @@ none_above from (r ∷ rs) h =
 
 -- ---- parts
 
--- the part of a blob
+-- the part of the CA with this blob
 part_of : (blob : List ℕ) (cas : List CaPart)
     → ((p : CaPart) × IsCaPartOf p cas × (key_blob p.ca ≡ blob))
     ⊎ ((p : CaPart) → IsCaPartOf p cas → key_blob p.ca ≢ blob)
@@ -81,7 +81,7 @@ part_of blob (q ∷ cas) = by_test (bytes_eq (key_blob q.ca) blob) refl (part_of
             ((bytes_eq-Decides (key_blob q.ca) blob).1 (ap (λ (x : CaPart). key_blob x.ca) is ∙ e)) differ
         by_place p (inr c) e = none p c e
 
--- a part that is found is one of them, and of the CA
+-- a part that is found is in the list, and has the same CA
 found_part : (p : CaPart) (others : List CaPart) (q : CaPart) → find_ca p others ≡ Some q
     → IsCaPartOf q others × (q.ca ≡ p.ca)
 found_part p [] q e = absurd cc
@@ -129,11 +129,11 @@ all_runs : (ids : List (List ℕ)) (cas : List CaPart) → AllByRecursion (IsCon
 all_runs ids [] h = tt
 all_runs ids (p ∷ cas) h = (h.0.runs, all_runs ids cas h.1)
 
--- what a list revokes
+-- a list revokes exactly what its contents name
 exact : (c : Contents) → AreContents c → RevokesExactly (list_of c) c.cas c.ids
 exact c h = revokes_exactly c.head c.cas c.ids (all_runs c.ids c.cas h.parts) h.distinct
 
--- a part has something that is revoked
+-- a part revokes something
 something : (ids : List (List ℕ)) (p : CaPart) → IsContentsPart ids p
     → (serial : ℕ) × (key_id : List ℕ) × ((contains p.runs serial || is_key_id ids key_id) ≡ true)
 something ids p h = by_runs p.runs refl
@@ -161,10 +161,10 @@ something ids p h = by_runs p.runs refl
               (or_left (bytes_eq i i) (is_key_id is i) ((bytes_eq-Decides i i).1 refl)) ∙ or_true (contains p.runs 0),
         )
 
--- ---- what is forgotten
+-- ---- forgetting
 
 module _ (o n : Contents) (h : AreContents o) (k : AreContents n) where
-  -- under the CA of a part the new list revokes what its own part says
+  -- under the CA of a part, the new list revokes what its own part for this CA says
   new_says : (p q : CaPart) (serial : ℕ) (key_id : List ℕ) → find_ca p n.cas ≡ Some q
       → revokes (key_blob p.ca) serial key_id (list_of n) ≡ (contains q.runs serial || is_key_id n.ids key_id)
   new_says p q serial key_id found =
@@ -195,7 +195,7 @@ module _ (o n : Contents) (h : AreContents o) (k : AreContents n) where
                 | inr later ↦ rw (ids key_id later.1) (or_true (contains q.runs serial))
               ]
 
-  -- a part of the old list has a part in the new one
+  -- the CA of each part of the old list has a part in the new one
   there : ForgetsNothing (list_of o) (list_of n) → (p : CaPart) → IsCaPartOf p o.cas
       → (q : CaPart) × (find_ca p n.cas ≡ Some q)
   there f p c = by_found (find_ca p n.cas) refl
@@ -232,7 +232,7 @@ module _ (o n : Contents) (h : AreContents o) (k : AreContents n) where
           let new = sym (new_says p q.0 (2 ^ 64) i q.1) ∙ f (key_blob p.ca) (2 ^ 64) i old in
           ap (λ b. b || is_key_id n.ids i) (sym (none_above 0 q.0.runs runs)) ∙ new
 
-  -- what is kept by parts and key ids is kept by pairs
+  -- if parts and key ids are kept, then so is each pair
   pairs_kept : ArePartsKept o.cas n.cas → IdsKept o.ids n.ids → KeepsEachPair o n
   pairs_kept parts ids = record {
     serials =

@@ -1,4 +1,4 @@
--- What is written at the front of bytes is read there.
+-- Text that was written at the front of bytes is read back from there.
 use Rattle.krl.proofs.Words.{List, Option, Some, [], ap, arith, header_text}
 use Rattle.krl.proofs.Words.{KrlHead, eqb, le-ltb, length, length-append, refl, true}
 use Rattle.krl.proofs.Words.{u64_text, ℕ, ◌++◌, ◌<◌, ◌^◌, ◌∙◌, ◌∷◌, ◌≡◌}
@@ -12,12 +12,12 @@ use Rattle.krl.specs.Published.{published_header}
 use Rattle.krl.specs.Fronts.{◌>>=◌, behind_at, head_at, head_begin, head_end}
 use Rattle.krl.proofs.Texts.{header_fields}
 
--- a step that is taken, and what it leads to
+-- a step that succeeds, and the steps after it
 pub then : {A B : Type 0} (o : Option A) (x : A) (f : A → Option B) (y : Option B) → o ≡ Some x → f x ≡ y
     → (o >>= f) ≡ y
 then o x f y is goes = ap (λ p. p >>= f) is ∙ goes
 
--- what follows bytes at the front
+-- the bytes after the front
 pub behind_again : (front rest : List ℕ) → behind_at front (front ++ rest) ≡ Some rest
 behind_again front rest =
     let size = length front in
@@ -45,7 +45,7 @@ head_again h rest v d =
     (then (u64_at (u64_text h.date ++ (head_end ++ rest))) (h.date, head_end ++ rest) _ _ (u64_again h.date _ d)
     (then (behind_at head_end (head_end ++ rest)) rest _ _ (behind_again head_end rest) refl)))
 
--- bytes of which there are none
+-- a list of bytes with length 0 is empty
 pub no_bytes : (xs : List ℕ) → eqb (length xs) 0 ≡ true → xs ≡ []
 no_bytes [] e = refl
 no_bytes (x ∷ xs) e = absurd (omega (arith, eqb-true (length (x ∷ xs)) 0 e))

@@ -1,17 +1,17 @@
--- The runs of serials that ascend.
+-- The runs of ascending serials.
 use Rattle.krl.proofs.Words.{AreRunsFrom, IsStrictlyIncreasing, List, Run, [], ap, arith, cases_lt, contains, eq-eqb}
 use Rattle.krl.proofs.Words.{eqb, false, get_or, if◌then◌else◌, inl, inr, is_among, is_within, leb, length, nat_tests}
 use Rattle.krl.proofs.Words.{refl, suc, ℕ, ◌&&◌, ◌+◌, ◌-◌, ◌<◌, ◌^◌, ◌||◌, ◌∙◌, ◌∷◌, ◌≡◌, ◌≤◌}
 use Rattle.std.proofs.Common.{add-one}
 use Rattle.krl.proofs.Booleans.{or_group}
 
--- a run is carried along the serials: the next serial makes it longer, and any other begins a run
+-- goes through the serials with the current run: the next serial extends it, and any other begins a new run
 abbrev pub gathered : Run → List ℕ → List Run
 gathered r [] = r ∷ []
 gathered r (n ∷ ns) =
     if eqb (n - r.hi) 1 then gathered (record { lo = r.lo; hi = n }) ns else r ∷ gathered (record { lo = n; hi = n }) ns
 
--- serials of 64 bits that ascend from one on
+-- ascending 64-bit serials from `from` on
 abbrev pub AscendFrom : ℕ → List ℕ → Type 0
 AscendFrom from [] = Unit {0}
 AscendFrom from (n ∷ ns) = (from ≤ n) × (n < 2 ^ 64) × AscendFrom (n + 1) ns
@@ -20,7 +20,7 @@ tail_increases : (n : ℕ) (ns : List ℕ) → IsStrictlyIncreasing (n ∷ ns) �
 tail_increases n ns h k lt = let later : suc k + 1 < length (n ∷ ns) = omega arith in
     rw add-one (rw add-one at (h (suc k) later))
 
--- as a slice of strictly increasing serials has it
+-- the same for a slice of strictly increasing serials
 pub ascend : (n : ℕ) (ns : List ℕ) → IsStrictlyIncreasing (n ∷ ns) → ((k : ℕ) → k < length ns → get_or ns k 0 < 2 ^ 64)
     → AscendFrom (n + 1) ns
 ascend n [] h fits = tt
@@ -51,11 +51,11 @@ gathered_runs from r (n ∷ ns) p q t h =
 longer : (n a b m : ℕ) → a ≤ b → m ≡ b + 1 → (leb a n && leb n m) ≡ ((leb a n && leb n b) || eqb n m)
 longer n a b m le e = grind (arith, nat_tests)
 
--- a run of one serial
+-- a run that has only one serial
 pub within_one : (n m : ℕ) → (leb m n && leb n m) ≡ eqb n m
 within_one n m = grind (arith, nat_tests)
 
--- and the set is that of the run and the serials
+-- and their set is that of the run and the serials
 pub contains_gathered : (r : Run) (ns : List ℕ) (n : ℕ) → r.lo ≤ r.hi → AscendFrom (r.hi + 1) ns
     → contains (gathered r ns) n ≡ (is_within n r || is_among ns n)
 contains_gathered r [] n p h = refl

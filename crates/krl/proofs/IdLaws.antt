@@ -1,4 +1,4 @@
--- Key ids that are read one after the other.
+-- Reading key ids in order.
 use Rattle.krl.proofs.Words.{AllByRecursion, Bool, IsString, List, None, Option, Some, [], ap, append_assoc}
 use Rattle.krl.proofs.Words.{bytes_eq, false, flat_map, inl, inr, refl, same_Some, string_text, subst, sym, true}
 use Rattle.krl.proofs.Words.{ℕ, ◌++◌, ◌∙◌, ◌∷◌, ◌≡◌, ◌≢◌}
@@ -19,7 +19,7 @@ use Rattle.krl.proofs.Booleans.{clash, or_cases, or_true}
 
 -- ---- the order of key ids
 
--- a key id isn't the one that it comes before
+-- a key id differs from the one that it comes before
 pub apart : (a b : List ℕ) → slice_cmp nat_cmp a b ≡ Less → bytes_eq a b ≡ false
 apart a b less = sym (is_eq-slice_cmp a b) ∙ ap is_eq less
 
@@ -29,7 +29,7 @@ greater a b more = nat_list_cmp_total.antisymm b a ∙ ap ordering_reverse more
 pub equal : (a b : List ℕ) → slice_cmp nat_cmp a b ≡ Equal → a ≡ b
 equal a b same = (bytes_eq-Decides a b).0 (sym (is_eq-slice_cmp a b) ∙ ap is_eq same)
 
--- what comes before all of them is none of them
+-- a key id that comes before all of them is none of them
 pub not_among : (i before : List ℕ) (ids : List (List ℕ)) → AscendBehind before ids → slice_cmp nat_cmp i before ≡ Less
     → is_key_id ids i ≡ false
 not_among i before [] h less = refl
@@ -45,9 +45,9 @@ not_among i before (j ∷ ids) h less =
         by_test false e = refl
         by_test true e = clash (bytes_eq a b) ((bytes_eq-Decides a b).1 (sym ((bytes_eq-Decides b a).0 e))) differ
 
--- ---- key ids that ascend
+-- ---- ascending key ids
 
--- The key ids that were read, and those that are left of every reading of the whole.
+-- The key ids read so far, and what every reading of the whole has left after them.
 pub record IdsSoFar (bytes : List ℕ) (last : Option (List ℕ)) (rest : List ℕ) : Type 0 where
   pub done : List (List ℕ)
   pub lawful : (ids : List (List ℕ)) → AscendNext last ids → Ascend (done ++ ids)
@@ -66,7 +66,7 @@ no_ids bytes = record {
   left = λ ids are. (ids, are.ascending, are.short, are.text);
 }
 
--- the first key id of those that are left is read
+-- the next reading is the first of the remaining key ids
 pub first_id : (rest : List ℕ) (others : List (List ℕ)) (result : Option (List ℕ × List ℕ)) → rest ≢ []
     → AllByRecursion IsString others → rest ≡ flat_map string_text others → result ≡ string_at rest
     → (i : List ℕ) × (is : List (List ℕ)) × (others ≡ i ∷ is) × (result ≡ Some (i, flat_map string_text is))
@@ -74,7 +74,7 @@ first_id rest [] result some short text reads = absurd (some text)
 first_id rest (i ∷ is) result some short text reads =
     (i, is, refl, reads ∙ ap string_at text ∙ string_again i (flat_map string_text is) short.0)
 
--- a key id that comes next, and others behind it
+-- a key id that comes next, and others after it
 next_one : (last : Option (List ℕ)) (i : List ℕ) (is : List (List ℕ)) → AscendNext last (i ∷ is)
     → AscendNext last (i ∷ []) × AscendNext (Some i) is
 next_one None i is h = (tt, h)
@@ -96,7 +96,7 @@ text_more xs x rest =
     ap (λ t. t ++ rest) (sym (flat_map_more string_text [] xs x))
     ∙ append_assoc (flat_map string_text xs) (string_text x) rest
 
--- one key id more was read
+-- one more key id was read
 pub one_id : (bytes rest next id : List ℕ) (last : Option (List ℕ)) → IdsSoFar bytes last rest → rest ≢ []
     → AscendNext last (id ∷ []) → IsString id → rest ≡ string_text id ++ next → Some (id, next) ≡ string_at rest
     → IdsSoFar bytes (Some id) next
@@ -121,7 +121,7 @@ one_id bytes rest next id last so some behind short text reads = record {
       );
 }
 
--- where no key id is read, or one that doesn't come next, the whole is no list of key ids
+-- if no key id can be read, or one that doesn't come next, the whole isn't a list of key ids
 pub not_ids : (bytes rest : List ℕ) (last : Option (List ℕ)) (result : Option (List ℕ × List ℕ))
     → IdsSoFar bytes last rest
     → rest ≢ [] → result ≡ string_at rest
@@ -148,13 +148,13 @@ ids_read bytes rest last so none = (
   },
 )
 
--- ---- key ids that are kept
+-- ---- kept key ids
 
 -- each of the old key ids is one of the new ones
 abbrev pub IdsKept : List (List ℕ) → List (List ℕ) → Type 0
 IdsKept ids others = (i : List ℕ) → is_key_id ids i ≡ true → is_key_id others i ≡ true
 
--- The key ids that are left are kept exactly where the whole is.
+-- The remaining key ids are kept exactly if all of them are.
 pub record IdsStillKept (ids others : List (List ℕ)) (wanted rest : List ℕ) : Type 0 where
   pub old : List (List ℕ)
   pub new : List (List ℕ)
@@ -177,7 +177,7 @@ all_wanted ids others old new a b = record {
 no_string : None ≡ string_at []
 no_string = refl
 
--- the key id that is read is the first
+-- the key id that is read is the first one
 pub read_first : (bytes id rest : List ℕ) (ids : List (List ℕ)) → AreIds bytes ids → Some (id, rest) ≡ string_at bytes
     → (is : List (List ℕ)) × (ids ≡ id ∷ is) × AscendBehind id is × AreIds rest is
 read_first bytes id rest [] are reads = let none = reads ∙ ap string_at are.text in absurd cc
@@ -227,7 +227,7 @@ module _ (ids others : List (List ℕ)) (wanted rest id after : List ℕ) (k : I
     second : (is : List (List ℕ)) × (k.new ≡ other ∷ is) × AscendBehind other is × AreIds next is
     second = read_first rest other next k.new k.new_are there
 
-    -- a lower key id is passed over
+    -- a lower key id is skipped
     pub pass_id : slice_cmp nat_cmp other id ≡ Less → IdsStillKept ids others wanted next
     pass_id less = record {
       old = k.old;
@@ -252,7 +252,7 @@ module _ (ids others : List (List ℕ)) (wanted rest id after : List ℕ) (k : I
         apart-back a b less = sym (is_eq-slice_cmp b a)
             ∙ ap is_eq (nat_list_cmp_total.antisymm b a ∙ ap ordering_reverse less)
 
-    -- the key id is there
+    -- the key id is in the new list
     pub keep_id : slice_cmp nat_cmp other id ≡ Equal → IdsStillKept ids others after rest
     keep_id same = record {
       old = first.0;
@@ -271,7 +271,7 @@ module _ (ids others : List (List ℕ)) (wanted rest id after : List ℕ) (k : I
           ]);
     }
 
-    -- the key id is lost
+    -- the key id is missing from the new list
     pub lose_id : slice_cmp nat_cmp other id ≡ Greater → IdsKept ids others → ⊥
     lose_id more kept =
         let less = greater other id more in

@@ -1,12 +1,12 @@
--- Runs, and one interval more.
+-- Runs with one more interval.
 use Rattle.krl.proofs.Words.{AreRunsFrom, List, Run, [], ap, arith, cases_lt, contains, if◌then◌else◌, inl, inr}
 use Rattle.krl.proofs.Words.{is_within, le-ltb, leb, max, min, nat_lt, nat_tests, or_order, refl, ℕ, ◌&&◌, ◌+◌, ◌<◌}
 use Rattle.krl.proofs.Words.{◌^◌, ◌||◌, ◌∙◌, ◌∷◌, ◌≡◌, ◌≤◌}
 use Rattle.krl.proofs.Booleans.{ltb-yes, or_group}
 use Rattle.krl.proofs.Maximal.{weaken}
 
--- an interval is carried along the runs: those below it stay, those that it overlaps or touches join it, and it stands
--- before those above
+-- goes through the runs with the interval: those below it stay, those that it overlaps or touches join it, and then it
+-- is put before those above
 abbrev pub joined : ℕ → ℕ → List Run → List Run
 joined lo hi [] = record { lo = lo; hi = hi } ∷ []
 joined lo hi (r ∷ rs) =
@@ -14,7 +14,7 @@ joined lo hi (r ∷ rs) =
     else if nat_lt (hi + 1) r.lo then record { lo = lo; hi = hi } ∷ joined r.lo r.hi rs
     else joined (min lo r.lo) (max hi r.hi) rs
 
--- they are runs
+-- the result is a list of runs
 pub joined_runs : (from lo hi : ℕ) (rs : List Run) → from ≤ lo → lo ≤ hi → hi < 2 ^ 64 → AreRunsFrom from rs
     → AreRunsFrom from (joined lo hi rs)
 joined_runs from lo hi [] p q t h = (p, q, t, tt)
@@ -41,7 +41,7 @@ within_both : (n a b c d : ℕ) → a ≤ b → c ≤ d → a ≤ d + 1 → c �
     → (leb (min a c) n && leb n (max b d)) ≡ ((leb a n && leb n b) || (leb c n && leb n d))
 within_both n a b c d p q r s = grind (arith, nat_tests)
 
--- and the set is the union
+-- and its set is the union
 pub contains_joined : (from lo hi n : ℕ) (rs : List Run) → lo ≤ hi → AreRunsFrom from rs
     → contains (joined lo hi rs) n ≡ (is_within n (record { lo = lo; hi = hi }) || contains rs n)
 contains_joined from lo hi n [] p h = refl

@@ -13,7 +13,7 @@ pub u64s_length : (ns : List ℕ) → length (flat_map u64_text ns) ≡ 8 * leng
 u64s_length [] = refl
 u64s_length (n ∷ ns) = let more = u64s_length ns in omega (arith, length-append (u64_text n) (flat_map u64_text ns))
 
--- the serials of the short runs, a run at a time
+-- the serials of the short runs, run by run
 pub listed_texts : (rs : List Run) → flat_map u64_text (listed rs) ≡ flat_map listed_text rs
 listed_texts [] = refl
 listed_texts (r ∷ rs) = by_short (is_short r) (listed_texts rs)
@@ -39,7 +39,7 @@ listed_lengths (r ∷ rs) = by_short (is_short r) (listed_lengths rs) ∙ sym (s
         omega arith
     by_short false more = omega arith
 
--- the ranges of the long runs, a run at a time
+-- the ranges of the long runs, run by run
 pub range_texts : (rs : List Run) → flat_map part_text (ranges rs) ≡ flat_map range_text rs
 range_texts [] = refl
 range_texts (r ∷ rs) =
@@ -65,7 +65,7 @@ key_ids_lengths (i ∷ ids) = let more = key_ids_lengths ids in let sum =
 tagged_some : (n : ℕ) → 0 < n → tagged_length n ≡ 5 + n
 tagged_some n lt = grind (arith, nat_tests)
 
--- a list of serials with its type and length
+-- the length of a list of serials with its type and length field
 list_length : (ns : List ℕ)
     → length (flat_map part_text (serial_list ns)) ≡ tagged_length (length (flat_map u64_text ns))
 list_length [] = refl
@@ -74,7 +74,7 @@ list_length (n ∷ ns) =
     let sum = length-append (part_text (Serials (n ∷ ns))) [] in
     omega arith
 
--- the key ids with their type and length
+-- the length of the key ids with their type and length field
 pub ids_length : (ids : List (List ℕ))
     → length (flat_map part_text (key_id_parts ids)) ≡ tagged_length (sum_by key_id_length ids)
 ids_length [] = refl
@@ -94,7 +94,7 @@ serial_lengths rs =
 tagged_more : (n : ℕ) → n ≤ tagged_length n
 tagged_more n = grind (arith, nat_tests)
 
--- each is within the whole
+-- each sum is at most the whole
 pub listed_within : (rs : List Run) → sum_by listed_length rs ≤ serial_length rs
 listed_within rs = let all = serial_lengths rs in let more = tagged_more (sum_by listed_length rs) in omega arith
 
@@ -122,7 +122,7 @@ pub serials_within : (ids : List (List ℕ)) (p : CaPart)
     → serial_length p.runs ≤ length (section_data (ca_section ids p))
 serials_within ids p = let all = data_lengths ids p in omega arith
 
--- what is known of the length of the serial parts, of a section's data, and of what is within it
+-- what is known about the length of the serial parts, of a section's data, and of the pieces of these
 pub ruleset serials_len = (serial_lengths, listed_within, ranges_within)
 
 pub ruleset data_len = (data_lengths, serials_within, ids_within)

@@ -27,7 +27,7 @@ ids_text : (ids : List (List ℕ)) → flat_map part_text (key_id_parts ids) ≡
 ids_text [] = refl
 ids_text (i ∷ ids) = append-nil (part_text (KeyIds (i ∷ ids)))
 
--- a section that is published is a whole one
+-- a published section is a whole section
 pub data_is : (ids : List (List ℕ)) (p : CaPart)
     → section_data (ca_section ids p) ≡ whole_data (flat_map string_text ids) p
 data_is ids p =
@@ -47,12 +47,12 @@ sections_are (p ∷ cas) ids h = by_idle (is_idle ids p) h.0.busy (sections_are 
     by_idle true busy more = absurd cc
     by_idle false busy more = λ i. (1 ∷ string_text (data_is ids p i)) ++ more i
 
--- ---- what is idle
+-- ---- CAs with nothing revoked
 
 no_runs : (p : CaPart) → p.runs ≡ [] → eqb (length p.runs) 0 ≡ true
 no_runs p e = eq-eqb (length p.runs) 0 (ap length e)
 
--- a part is busy where it has a run, or there is a key id
+-- something is revoked by a part if it has a run, or if there is a key id
 pub busy_from : (ids : List (List ℕ)) (p : CaPart) → (p.runs ≡ [] → flat_map string_text ids ≢ [])
     → is_idle ids p ≡ false
 busy_from ids p busy = by_both (eqb (length p.runs) 0) (eqb (length ids) 0) refl refl
@@ -153,7 +153,7 @@ listed_sections c h sections text = record {
   key_ids = record { ascending = h.ascending; short = ids_short c h; text = refl };
 }
 
--- the header and the sections of what is published
+-- the header and the sections of a published list
 pub pieces : (head : KrlHead) (sections : List ℕ) (c : Contents) → AreContents c → head.version < 2 ^ 64
     → head.date < 2 ^ 64 → header_text (published_header head) ++ sections ≡ published_text c.head c.cas c.ids
     → (head ≡ c.head) × (sections ≡ flat_map section_text (published_sections c.cas c.ids))
@@ -163,11 +163,11 @@ pieces head sections c h v d e =
     ∙ head_again c.head rest h.version h.date) in
     (ap (λ (x : KrlHead × List ℕ). x.0) same, ap (λ (x : KrlHead × List ℕ). x.1) same)
 
--- the data of the key ids, where no CA has a section
+-- the data of the key ids, if no CA has a section
 pub ids_if_any : (c : Contents) → AreContents c → c.cas ≡ [] → flat_map string_text c.ids ≡ []
 ids_if_any c h none = ap (flat_map string_text) (h.unwritten none)
 
--- the sections that a list shows are those of what its bytes publish
+-- the sections that a `PublishedList` holds are those of the contents that its bytes publish
 pub shown : (head : KrlHead) (sections ids bytes : List ℕ) → ((c : Contents) × AreListed head sections ids c)
     → header_text (published_header head) ++ sections ≡ bytes → (d : Contents) → Publishes bytes d
     → AreSections sections (flat_map string_text d.ids) d.cas d.ids

@@ -1,4 +1,4 @@
--- The runs of a set are its intervals that can't be made longer.
+-- The runs of a set are its maximal intervals.
 use Rattle.krl.proofs.Words.{AreRunsFrom, Bool, IsOneOf, IsRunOf, List, Run, [], ap, arith, cases_lt, contains, false}
 use Rattle.krl.proofs.Words.{inl, inr, is_within, leb, list_any, nat_tests, refl, subst, sym, true, ℕ, ◌&&◌, ◌+◌, ◌-◌}
 use Rattle.krl.proofs.Words.{◌<◌, ◌||◌, ◌∙◌, ◌∷◌, ◌≡◌, ◌≤◌}
@@ -6,19 +6,19 @@ use Rattle.std.proofs.lemmas.Bool.{or_left}
 use Rattle.krl.specs.Sets.{HasAll}
 use Rattle.krl.proofs.Booleans.{is_in, is_under, is_over, ends, or_true, or_cases, clash}
 
--- what stands before the runs is not in them
+-- a serial below the runs is in none of them
 pub none_below : (from n : ℕ) (rs : List Run) → AreRunsFrom from rs → n < from → contains rs n ≡ false
 none_below from n [] h lt = refl
 none_below from n (r ∷ rs) h lt =
     let out : is_within n r ≡ false = is_under n r.lo r.hi (omega arith) in
     rw out (none_below (r.hi + 2) n rs h.3 (omega arith))
 
--- runs that ascend from a serial on ascend from a lower one on
+-- runs that ascend from a serial on also ascend from a lower one on
 pub weaken : (a b : ℕ) (rs : List Run) → a ≤ b → AreRunsFrom b rs → AreRunsFrom a rs
 weaken a b [] le h = tt
 weaken a b (r ∷ rs) le h = (omega arith, h.1, h.2, h.3)
 
--- each begins where the runs may begin, or above
+-- each begins at or above `from`
 pub one_from : (from : ℕ) (rs : List Run) (r : Run) → AreRunsFrom from rs → IsOneOf r rs → from ≤ r.lo
 one_from from [] r h c = absurd c
 one_from from (s ∷ rs) r h (inl same) = subst (λ (x : Run). from ≤ x.lo) same h.0
@@ -32,7 +32,7 @@ first_is_run from s rs h = record {
   above = rw (is_over (s.hi + 1) s.lo s.hi (omega arith)) (none_below (s.hi + 2) (s.hi + 1) rs h.3 (omega arith));
 }
 
--- each of the runs is a run of the set that they make
+-- each of the runs is a run of the set that they represent
 pub each_is_run : (from : ℕ) (rs : List Run) (r : Run) → AreRunsFrom from rs → IsOneOf r rs → IsRunOf (contains rs) r
 each_is_run from [] r h c = absurd c
 each_is_run from (s ∷ rs) r h (inl same) =
@@ -63,7 +63,7 @@ member_contains (t ∷ rs) s m (inl same) a b =
     (subst (λ (x : Run). is_within m x ≡ true) (sym same) (is_in m s.lo s.hi a b))
 member_contains (t ∷ rs) s m (inr c) a b = rw (member_contains rs s m c a b) (or_true (is_within m t))
 
--- two runs of one set that share a serial are one
+-- two runs of one set that share a serial are the same run
 one_run : (set : ℕ → Bool) (r s : Run) (n : ℕ) → IsRunOf set r → IsRunOf set s → r.lo ≤ n → n ≤ r.hi → s.lo ≤ n
     → n ≤ s.hi → s ≡ r
 one_run set r s n p q a b c d =
@@ -85,7 +85,7 @@ one_run set r s n p q a b c d =
     ] in
     λ i. record { lo = lo i; hi = hi i }
 
--- each run of the set that the runs make is one of them
+-- each run of the set that the runs represent is one of them
 pub each_run_is_there : (from : ℕ) (rs : List Run) (r : Run) → AreRunsFrom from rs → IsRunOf (contains rs) r
     → IsOneOf r rs
 each_run_is_there from rs r h is =
@@ -94,7 +94,7 @@ each_run_is_there from rs r h is =
     subst (λ (x : Run). IsOneOf x rs)
     (one_run (contains rs) r s.0 r.lo is (each_is_run from rs s.0 h s.1) (omega arith) some s.2 s.3) s.1
 
--- two lists of runs of one set begin alike
+-- two lists of runs of one set have the same first run
 same_first : (a b : ℕ) (r s : Run) (rs qs : List Run) → AreRunsFrom a (r ∷ rs) → AreRunsFrom b (s ∷ qs)
     → ((n : ℕ) → contains (r ∷ rs) n ≡ contains (s ∷ qs) n) → s.lo ≤ r.lo
 same_first a b r s rs qs h k same = elim (cases_lt r.lo s.lo) [
@@ -104,7 +104,7 @@ same_first a b r s rs qs h k same = elim (cases_lt r.lo s.lo) [
   | inr le ↦ le
 ]
 
--- runs that make one set are the same runs
+-- lists of runs that represent the same set are equal
 pub runs_unique : (a b : ℕ) (rs qs : List Run) → AreRunsFrom a rs → AreRunsFrom b qs
     → ((n : ℕ) → contains rs n ≡ contains qs n) → rs ≡ qs
 runs_unique a b [] [] h k same = refl
@@ -134,7 +134,7 @@ runs_unique a b (r ∷ rs) (s ∷ qs) h k same =
 abbrev pub covered_by : ℕ → ℕ → Run → Bool
 covered_by lo hi r = leb r.lo lo && leb hi r.hi
 
--- what one of the runs covers is in the set
+-- an interval that one of the runs covers is in the set
 pub covered : (from lo hi : ℕ) (rs : List Run) → AreRunsFrom from rs → list_any (covered_by lo hi) rs ≡ true
     → HasAll (contains rs) lo hi
 covered from lo hi [] h e n p q = absurd cc
@@ -147,7 +147,7 @@ covered from lo hi (r ∷ rs) h e n p q = elim (or_cases (covered_by lo hi r) (l
     ends_of : (r : Run) → covered_by lo hi r ≡ true → (r.lo ≤ lo) × (hi ≤ r.hi)
     ends_of r e = (grind (arith, nat_tests), grind (arith, nat_tests))
 
--- the run that an interval of the set begins in covers it
+-- the run in which an interval of the set begins covers it
 one_covers : (rs : List Run) (s : Run) (lo hi : ℕ) → IsOneOf s rs → s.lo ≤ lo → hi ≤ s.hi
     → list_any (covered_by lo hi) rs ≡ true
 one_covers [] s lo hi c a b = absurd c

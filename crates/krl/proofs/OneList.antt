@@ -1,4 +1,4 @@
--- A text is that of one list.
+-- A text is the text of only one list.
 use Rattle.krl.proofs.Words.{AllByRecursion, AreRunsFrom, CaPart, IsString, List, None, Run, []}
 use Rattle.krl.proofs.Words.{KrlHead, ap, flat_map, header_text, listed_text, range_text, refl, same_Some, section_text}
 use Rattle.krl.proofs.Words.{string_text}
@@ -15,7 +15,7 @@ use Rattle.krl.proofs.SectionLaws.{ids_again, no_range, whole_again}
 use Rattle.krl.proofs.Texts.{items_unique, string_texts}
 use Rattle.krl.proofs.WholeSections.{no_whole_text}
 
--- bytes are split into runs and what follows them in one way
+-- bytes are split into runs and what follows them in only one way
 split_unique : (from base : ℕ) (l m a b : List ℕ) (rs qs : List Run) → AreRunsFrom from rs → AreRunsFrom base qs
     → behind_at range_begin a ≡ None → behind_at range_begin b ≡ None → AreSplit l m rs a → AreSplit l m qs b
     → (rs ≡ qs) × (a ≡ b)
@@ -37,7 +37,7 @@ part_unique ids others p q w v e =
     ap (λ (x : List ℕ × List ℕ). x.0)
     (same_Some _ _ (sym (ids_again ids p w) ∙ ap (part_at 0x23) e ∙ ids_again others q v))
 
--- a section at the front is that of one part
+-- a section at the front is that of only one part
 whole_unique : (ids others r s : List ℕ) (p q : CaPart) → IsWhole ids p → IsWhole others q
     → whole_text ids p ++ r ≡ whole_text others q ++ s → (p ≡ q) × (ids ≡ others) × (r ≡ s)
 whole_unique ids others r s p q w v e =
@@ -54,7 +54,7 @@ whole_unique ids others r s p q w v e =
       ap (λ (x : (List ℕ × (List ℕ × List ℕ)) × List ℕ). x.1) same,
     )
 
--- sections are those of one list of parts
+-- sections are those of only one list of parts
 parts_unique : (ids others : List ℕ) (cas das : List CaPart) → AllByRecursion (IsWhole ids) cas
     → AllByRecursion (IsWhole others) das → flat_map (whole_text ids) cas ≡ flat_map (whole_text others) das
     → (cas ≡ das) × (cas ≢ [] → ids ≡ others)
@@ -67,7 +67,7 @@ parts_unique ids others (p ∷ cas) (q ∷ das) h k e =
     let rest = parts_unique ids others cas das h.1 k.1 first.2 in
     (λ i. first.0 i ∷ rest.0 i, λ some. first.1)
 
--- a text is that of one list
+-- a text is the text of only one list
 pub one_list : (bytes : List ℕ) (c d : Contents) → Publishes bytes c → Publishes bytes d → c ≡ d
 one_list bytes c d p q =
     let rest = flat_map section_text (published_sections c.cas c.ids) in
@@ -87,7 +87,7 @@ one_list bytes c d p q =
     by_cas (x ∷ cas) some same texts short small =
         items_unique string_texts c.ids d.ids short small (texts (λ none. let bad = sym some ∙ none in cc))
 
--- the key ids that a list shows are those of what its bytes publish
+-- the key ids that a `PublishedList` holds are those of the contents that its bytes publish
 pub shown_ids : (head : KrlHead) (sections ids bytes : List ℕ) → ((c : Contents) × AreListed head sections ids c)
     → header_text (published_header head) ++ sections ≡ bytes → (d : Contents) → Publishes bytes d → AreIds ids d.ids
 shown_ids head sections ids bytes listed view d is =

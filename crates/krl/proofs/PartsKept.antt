@@ -1,4 +1,4 @@
--- The part of a CA in another list.
+-- Finding the part of a CA in another list.
 use Rattle.krl.proofs.Words.{AllByRecursion, Bool, CaPart, List, None, Option, Some, [], ap, bytes_eq, cond, false}
 use Rattle.krl.proofs.Words.{refl}
 use Rattle.krl.proofs.Words.{same_Some, subst, true, ℕ, ◌∙◌, ◌∷◌, ◌≡◌}
@@ -6,11 +6,11 @@ use Rattle.std.specs.Prelude.{find}
 use Rattle.std.specs.Option.{option_map}
 use Rattle.krl.specs.Fronts.{AreSplit, IsKeptBy, IsWhole, listed_bytes, part_if_any, ranges_bytes, runs_under}
 
--- the part of the same CA
+-- the part for the same CA
 abbrev pub find_ca : CaPart → List CaPart → Option CaPart
 find_ca p others = find (λ q. bytes_eq q.ca p.ca) others
 
--- a part that is found is one of them
+-- a part that is found is in the list
 found_whole : (ids : List ℕ) (p : CaPart) (others : List CaPart) (q : CaPart) → AllByRecursion (IsWhole ids) others
     → find_ca p others ≡ Some q → IsWhole ids q
 found_whole ids p [] q h e = absurd cc
@@ -21,7 +21,7 @@ found_whole ids p (o ∷ others) q h e = by_test (bytes_eq o.ca p.ca) (found_who
     by_test true more e = subst (IsWhole ids) (same_Some _ _ e) h.0
     by_test false more e = more e
 
--- where no runs are found the part is lost
+-- if no runs are found, the part is missing
 pub is_lost : (ids : List ℕ) (others : List CaPart) (p : CaPart) (ca : List ℕ) → ca ≡ p.ca
     → None ≡ runs_under ids ca others → IsKeptBy p (find_ca p others) → ⊥
 is_lost ids others p ca same none kept =

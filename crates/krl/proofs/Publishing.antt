@@ -1,4 +1,4 @@
--- The published list is lawful and supported, and revokes just what its parts name.
+-- The published list is valid and supported, and revokes exactly what its parts name.
 use Rattle.krl.proofs.Words.{AllByRecursion, AreRuns, AreRunsFrom, Bool, CaPart, IsCut, IsPart, IsSection, IsString}
 use Rattle.krl.proofs.Words.{KeyIds, KrlHead, List, Part, Range, Run, [], and-false, and_from, and_parts, ap, arith}
 use Rattle.krl.proofs.Words.{bytes_eq, ca_section, cond, contains, eqb, false, fits, flat_map, inl, inr, is_for}
@@ -17,7 +17,7 @@ use Rattle.krl.proofs.Booleans.{clash}
 use Rattle.krl.proofs.Texts.{cut_unique}
 use Rattle.krl.proofs.ShortestParts.{serials_named}
 
--- ---- lawful
+-- ---- validity
 
 inner_fits : (ps : List Part) → IsString (flat_map part_text ps) → AllByRecursion (λ p. IsString (part_data p)) ps
 inner_fits [] h = tt
@@ -31,7 +31,7 @@ strings_fit (i ∷ ids) h =
     let both = length-append (string_text i) (flat_map string_text ids) in
     (omega arith, strings_fit ids (omega arith))
 
--- the serials that are listed, and the ends of the ranges, have 64 bits
+-- the listed serials, and the ends of the ranges, fit in 64 bits
 listed_small : (from : ℕ) (rs : List Run) → AreRunsFrom from rs → AllByRecursion (λ n. n < 2 ^ 64) (listed rs)
 listed_small from [] h = tt
 listed_small from (r ∷ rs) h = by_short (is_short r) (listed_small (r.hi + 2) rs h.3)
@@ -86,7 +86,7 @@ back : {X : Type 0} (P : X → Type 0) (xs ys : List X) → AllByRecursion P (xs
 back P [] ys h = h
 back P (x ∷ xs) ys h = back P xs ys h.1
 
--- the parts of a section whose data fits
+-- the parts of a section whose data fits are valid
 lawful_parts : (rs : List Run) (ids : List (List ℕ)) → AreRuns rs
     → IsString (flat_map part_text (serial_parts rs ++ key_id_parts ids))
     → AllByRecursion IsPart (serial_parts rs ++ key_id_parts ids)
@@ -158,7 +158,7 @@ lawful_sections (p ∷ cas) ids h e =
     by_idle true idle more one = more
     by_idle false idle more one = (lawful_section ids p h.0 idle (fits_part ids p idle one), more)
 
--- ---- supported
+-- ---- support
 
 list_supported : (ns : List ℕ) → list_all is_supported_part (serial_list ns) ≡ true
 list_supported [] = refl
@@ -190,7 +190,7 @@ sections_supported (p ∷ cas) ids =
     list_all is_supported_section (cond b [] (ca_section ids p ∷ []) ++ published_sections cas ids) ≡ true)
     [ true ↦ more | false ↦ rw (parts_supported p.runs ids) more ]
 
--- the published text has one cut, and it is supported
+-- the published text can be divided in only one way, and as a supported list
 pub only_cut : (head : KrlHead) (cas : List CaPart) (ids : List (List ℕ)) → head.version < 2 ^ 64 → head.date < 2 ^ 64
     → AllByRecursion (λ p. AreRuns p.runs) cas → fits cas ids ≡ true
     → AreOnly (published_text head cas ids) (published_list head cas ids)
@@ -203,7 +203,7 @@ only_cut head cas ids v d h e =
       supported = sections_supported cas ids;
     }
 
--- ---- what it revokes
+-- ---- what the list revokes
 
 list_names : (serial : ℕ) (key_id : List ℕ) (ns : List ℕ)
     → list_any (names serial key_id) (serial_list ns) ≡ named_set (serial_list ns) serial
@@ -238,7 +238,7 @@ parts_name serial key_id rs ids h =
         ∙ sym (list_any-append (names_serial serial) (serial_list (listed rs)) (ranges rs))
         ∙ serials_named rs serial h
 
--- whether the CA part is the blob's and names the serial or the key id
+-- whether the CA part has this blob and names the serial or the key id
 abbrev pub part_revokes : List ℕ → ℕ → List ℕ → List (List ℕ) → CaPart → Bool
 part_revokes blob serial key_id ids p =
     bytes_eq (key_blob p.ca) blob && (contains p.runs serial || is_key_id ids key_id)
@@ -260,7 +260,7 @@ for_blob blob ca =
     ap (λ b. b || bytes_eq (key_blob ca) blob)
     (not_zero (length (key_blob ca)) (let both = length-append (string_text []) ca in omega arith))
 
--- whether the list revokes, a CA part at a time
+-- whether the list revokes the certificate, CA part by CA part
 pub list_revokes : (blob : List ℕ) (serial : ℕ) (key_id : List ℕ) (cas : List CaPart) (ids : List (List ℕ))
     → AllByRecursion (λ p. AreRuns p.runs) cas
     → list_any (section_revokes blob serial key_id) (published_sections cas ids)
@@ -289,7 +289,7 @@ bytes_other a b apart = by_test (bytes_eq a b) refl
     by_test true e = absurd (apart ((bytes_eq-Decides a b).0 e))
     by_test false e = refl
 
--- keys of two blobs that are one are one
+-- keys with the same blob are the same key
 pub blob_key : (a b : List ℕ) → key_blob a ≡ key_blob b → a ≡ b
 blob_key a b e = cc
 
@@ -317,7 +317,7 @@ one_revokes serial key_id (q ∷ cas) ids p d (inr c) =
     rw (bytes_other (key_blob q.ca) (key_blob p.ca) (λ e. d.0 p c (sym (blob_key q.ca p.ca e))))
     (one_revokes serial key_id cas ids p d.1 c)
 
--- the published list revokes just what its parts name
+-- the published list revokes exactly what its parts name
 pub revokes_exactly : (head : KrlHead) (cas : List CaPart) (ids : List (List ℕ))
     → AllByRecursion (λ p. AreRuns p.runs) cas → AreDistinctCas cas
     → RevokesExactly (published_list head cas ids) cas ids

@@ -1,4 +1,4 @@
--- What is written is read back.
+-- A written list is read back.
 use Rattle.krl.proofs.Words.{AllByRecursion, AreRuns, Bool, CaPart, KrlHead, List, [], and_parts, ap, arith, cond}
 use Rattle.krl.proofs.Words.{false, fits, flat_map, header_text, inl, inr, is_idle, length, part_fits}
 use Rattle.krl.proofs.Words.{published_sections}
@@ -71,7 +71,7 @@ busy_parts ids (p ∷ cas) h e =
     by_idle false idle fit more =
         (record { key = h.0.0; runs = h.0.1; busy = idle; short = fits_part ids p idle fit }, more)
 
--- what is written is read back
+-- a written list is read back
 pub read_back : (head : KrlHead) (cas : List CaPart) (ids : List (List ℕ)) → AreReadBack head cas ids
     → IsPublished (published_text head cas ids)
 read_back head cas ids h = by_cas (busy ids cas) refl

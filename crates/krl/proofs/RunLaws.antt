@@ -1,4 +1,4 @@
--- Runs that were written are read one after the other.
+-- Reading written runs in order.
 use Rattle.krl.proofs.Words.{AreRunsFrom, Bool, List, None, Option, Range, Run, Some, [], ap, append_assoc, arith, cond}
 use Rattle.krl.proofs.Words.{eqb, false, flat_map, is_short, listed_text, ltb, nat_tests, part_text, range_text, refl}
 use Rattle.krl.proofs.Words.{same_Some, serials_of, sym, true, u64_text, ℕ, ◌++◌, ◌+◌, ◌<◌, ◌^◌}
@@ -10,7 +10,7 @@ use Rattle.krl.proofs.Booleans.{clash, ltb-yes}
 
 -- ---- the first serial of a list, and the first range
 
--- the first serial that is listed is that of a run
+-- the first listed serial belongs to a run
 pub listed_low : (from n : ℕ) (rest : List ℕ) (rs : List Run) → AreRunsFrom from rs
     → u64_at (flat_map listed_text rs) ≡ Some (n, rest) → from ≤ n
 listed_low from n rest [] h e = absurd cc
@@ -39,7 +39,7 @@ listed_low from n rest (r ∷ rs) h e = by_short (is_short r) (listed_low (r.hi 
         by_one true e = first (flat_map listed_text rs) e
         by_one false e = first (u64_text r.hi ++ flat_map listed_text rs) e
 
--- a range of a run is read as the run
+-- the range of a run is read as the run
 pub long_again : (r : Run) (rest : List ℕ) → is_short r ≡ false → r.lo < 2 ^ 64 → r.hi < 2 ^ 64
     → long_at (part_text (Range r) ++ rest) ≡ Some (r, rest)
 unfolding long_at
@@ -49,7 +49,7 @@ long_again r rest long lo hi =
     (then (u64_at (u64_text r.lo ++ (u64_text r.hi ++ rest))) (r.lo, u64_text r.hi ++ rest) _ _ (u64_again r.lo _ lo)
     (then (u64_at (u64_text r.hi ++ rest)) (r.hi, rest) _ _ (u64_again r.hi rest hi) (rw long refl)))
 
--- where there is no range there is no long run
+-- if there is no range, there is no long run
 pub no_long : (after : List ℕ) → behind_at range_begin after ≡ None → long_at after ≡ None
 unfolding long_at
 no_long after none =
@@ -57,7 +57,7 @@ no_long after none =
     (λ begun. u64_at begun >>=
     (λ lo. u64_at lo.1 >>= (λ hi. cond (is_short (run_of lo.0 hi.0)) None (Some (run_of lo.0 hi.0, hi.1)))))) none
 
--- the first range is that of a run
+-- the first range belongs to a run
 pub long_low : (from : ℕ) (q : Run) (rest after : List ℕ) (rs : List Run) → AreRunsFrom from rs
     → behind_at range_begin after ≡ None → long_at (flat_map range_text rs ++ after) ≡ Some (q, rest) → from ≤ q.lo
 long_low from q rest after [] h none e = let both = sym (no_long after none) ∙ e in absurd cc
@@ -106,7 +106,7 @@ short_low from q rest rs h e = by_first (u64_at (flat_map listed_text rs)) refl 
         let lo = from_lo n.0 n.1 (u64_at n.1) in
         omega arith
 
--- a serial that the next one doesn't follow
+-- a serial that isn't followed by its successor
 one_again : (lo : ℕ) (rest : List ℕ) → lo < 2 ^ 64
     → ((n : ℕ) (t : List ℕ) → u64_at rest ≡ Some (n, t) → lo + 2 ≤ n)
     → short_at (u64_text lo ++ rest) ≡ Some (run_of lo lo, rest)
@@ -120,7 +120,7 @@ one_again lo rest small apart =
         let far = apart next.0 next.1 is in
         rw (ne_eqb next.0 (lo + 1) (λ e. omega arith)) refl
 
--- a serial and the next one
+-- a serial and its successor
 two_again : (lo hi : ℕ) (rest : List ℕ) → hi < 2 ^ 64 → hi ≡ lo + 1
     → short_at (u64_text lo ++ (u64_text hi ++ rest)) ≡ Some (run_of lo hi, rest)
 unfolding short_at
@@ -169,7 +169,7 @@ lower_long listed ranges (Some s) l below =
     let no : ltb s.0.lo l.0.lo ≡ false = grind (arith, nat_tests) in
     rw no refl
 
--- the first of the runs is read, and the others are left
+-- the first of the runs is read, and the others remain
 pub run_again : (from : ℕ) (r : Run) (rs : List Run) (after : List ℕ) → AreRunsFrom from (r ∷ rs)
     → behind_at range_begin after ≡ None
     → run_at (flat_map listed_text (r ∷ rs)) (flat_map range_text (r ∷ rs) ++ after)
@@ -207,7 +207,7 @@ run_again from r rs after h none = by_short (is_short r) refl
         ∙ lower_long _ _ (short_at (flat_map listed_text rs)) (r, flat_map range_text rs ++ after)
         (λ s is. let low = short_low (r.hi + 2) s.0 s.1 rs h.3 is in omega arith)
 
--- where no run is left none is read
+-- if no run remains, none is read
 pub no_run : (after : List ℕ) → behind_at range_begin after ≡ None → run_at [] after ≡ None
 unfolding short_at
 no_run after none = ap (lower [] after None) (no_long after none)

@@ -1,4 +1,4 @@
--- Serials of old runs that are in new ones.
+-- Serials of old runs that are in new runs.
 use Rattle.krl.proofs.Words.{AreRuns, AreRunsFrom, List, None, Run, Some, [], ap, arith, cases_lt, contains}
 use Rattle.krl.proofs.Words.{inl, inr, is_within, subst, sym, true, ℕ}
 use Rattle.krl.proofs.Words.{◌+◌, ◌<◌, ◌||◌, ◌∙◌, ◌∷◌, ◌≡◌, ◌≤◌}
@@ -12,7 +12,7 @@ use Rattle.krl.proofs.RunsRead.{first_read, none_read}
 abbrev pub AreKept : List Run → List Run → Type 0
 AreKept rs qs = (n : ℕ) → contains rs n ≡ true → contains qs n ≡ true
 
--- The runs that are left are kept exactly where the whole is.
+-- The remaining runs are kept exactly if all of them are.
 pub record StillKept (rs qs : List Run) (a b l m l' m' : List ℕ) : Type 0 where
   pub low : ℕ
   pub base : ℕ
@@ -40,14 +40,14 @@ all_kept rs qs a b l m l' m' h k s t = record {
   whole = λ x. x;
 }
 
--- where no old run is left all are kept
+-- if no old run remains, all are kept
 pub none_left : (rs qs : List Run) (a b l m l' m' : List ℕ) → StillKept rs qs a b l m l' m'
     → behind_at range_begin a ≡ None → run_at l m ≡ None → AreKept rs qs
 none_left rs qs a b l m l' m' k none e =
     let no = none_read k.low l m k.old a k.old_runs none k.old_text e in
     k.whole (λ n is. absurd (cc (ap (λ os. contains os n) no.0, is)))
 
--- where an old run is left and no new one, it isn't kept
+-- if an old run remains and no new one does, it isn't kept
 pub none_over : (rs qs : List Run) (a b l m l' m' p o : List ℕ) (r : Run) → StillKept rs qs a b l m l' m'
     → behind_at range_begin a ≡ None → behind_at range_begin b ≡ None → run_at l m ≡ Some (r, (p, o))
     → run_at l' m' ≡ None → AreKept rs qs → ⊥
@@ -62,7 +62,7 @@ none_over rs qs a b l m l' m' p o r k none_a none_b e f kept =
     let bad = still r.lo in_old in
     absurd cc
 
--- a new run that ends below the first old one is passed over
+-- a new run that ends below the first old one is skipped
 pub passed : (rs qs : List Run) (a b l m l' m' p o s t : List ℕ) (r q : Run) → StillKept rs qs a b l m l' m'
     → behind_at range_begin a ≡ None → behind_at range_begin b ≡ None → run_at l m ≡ Some (r, (p, o))
     → run_at l' m' ≡ Some (q, (s, t)) → q.hi < r.lo → StillKept rs qs a b l m s t

@@ -1,4 +1,4 @@
--- Runs that are read to the end.
+-- Reading runs to the end.
 use Rattle.krl.proofs.Words.{AreRuns, AreRunsFrom, List, None, Option, Run, Some, [], append_assoc, ap, flat_map}
 use Rattle.krl.proofs.Words.{listed_text, range_text, refl, same_Some, subst, sym, ℕ, ◌++◌, ◌+◌, ◌<◌, ◌^◌, ◌∙◌, ◌∷◌}
 use Rattle.krl.proofs.Words.{◌≡◌}
@@ -8,11 +8,11 @@ use Rattle.std.proofs.lemmas.List.{append-nil, flat_map_more}
 use Rattle.krl.specs.Fronts.{AreSplit, behind_at, range_begin, run_at}
 use Rattle.krl.proofs.RunLaws.{no_run, run_again}
 
--- the least serial that the run behind the last one may begin with
+-- the least serial with which the run after the last one may begin
 abbrev pub least : Option Run → ℕ
 least last = option_map_or (λ r. r.hi + 2) last 0
 
--- The runs that were read, and the runs that are left of every reading of the whole.
+-- The runs read so far, and the runs that every reading of the whole has left after them.
 pub record ReadSoFar (listed ranges : List ℕ) (last : Option Run) (l m : List ℕ) : Type 0 where
   pub done : List Run
   pub lawful : (rs : List Run) → AreRunsFrom (least last) rs → AreRuns (done ++ rs)
@@ -30,7 +30,7 @@ nothing_read listed ranges = record {
   left = λ rs after h none split. (rs, h, split);
 }
 
--- the run that is read is the first of those that are left
+-- the run that is read is the first of the remaining ones
 pub first_read : (from : ℕ) (l m l' m' : List ℕ) (r : Run) (qs : List Run) (after : List ℕ) → AreRunsFrom from qs
     → behind_at range_begin after ≡ None → AreSplit l m qs after → run_at l m ≡ Some (r, (l', m'))
     → (ps : List Run) × (qs ≡ r ∷ ps) × AreSplit l' m' ps after
@@ -50,7 +50,7 @@ first_read from l m l' m' r (q ∷ qs) after h none split e =
       },
     )
 
--- where no run is read none is left
+-- if no run is read, none remains
 pub none_read : (from : ℕ) (l m : List ℕ) (qs : List Run) (after : List ℕ) → AreRunsFrom from qs
     → behind_at range_begin after ≡ None → AreSplit l m qs after → run_at l m ≡ None
     → (qs ≡ []) × (l ≡ []) × (m ≡ after)
@@ -63,7 +63,7 @@ text_more : (text : Run → List ℕ) (xs : List Run) (x : Run) (rest : List ℕ
 text_more text xs x rest =
     ap (λ t. t ++ rest) (sym (flat_map_more text [] xs x)) ∙ append_assoc (flat_map text xs) (text x) rest
 
--- one run more was read
+-- one more run was read
 pub one_more : (listed ranges l m l' m' : List ℕ) (last : Option Run) (r : Run) → ReadSoFar listed ranges last l m
     → least last ≤ r.lo → r.lo ≤ r.hi → r.hi < 2 ^ 64 → l ≡ listed_text r ++ l' → m ≡ range_text r ++ m'
     → run_at l m ≡ Some (r, (l', m')) → ReadSoFar listed ranges (Some r) l' m'
@@ -81,7 +81,7 @@ one_more listed ranges l m l' m' last r so low order small short long e = record
       (next.0, runs.3, next.2);
 }
 
--- a run that may not come behind the last one is in no reading
+-- a run that may not come after the last one is in no reading
 pub out_of_order : (listed ranges l m l' m' : List ℕ) (last : Option Run) (r : Run) → ReadSoFar listed ranges last l m
     → (least last ≤ r.lo → ⊥) → run_at l m ≡ Some (r, (l', m')) → (rs : List Run) (after : List ℕ) → AreRuns rs
     → behind_at range_begin after ≡ None → AreSplit listed ranges rs after → ⊥

@@ -1,4 +1,4 @@
--- Sections that were written are read.
+-- Written sections are read back.
 use Rattle.krl.proofs.Words.{Bool, CaPart, IsString, List, None, Option, Range, Run, Some, [], ap, arith}
 use Rattle.krl.proofs.Words.{bytes_eq, cond, false, flat_map, is_short, key_blob, length, length-append, listed_text}
 use Rattle.krl.proofs.Words.{ltb, part_text, range_text, refl, string_text, subst, sym, take, true, ℕ, ◌++◌}
@@ -20,7 +20,7 @@ neither : (t u : Bool) (x : Option (List ℕ)) → u ≡ false → cond t None (
 neither true u x e = refl
 neither false u x e = rw e refl
 
--- what begins with another byte
+-- bytes that begin with another byte
 pub other_front : (a b : ℕ) (xs ys : List ℕ) → a ≢ b → behind_at (a ∷ xs) (b ∷ ys) ≡ None
 other_front a b xs ys apart =
     let front = take (length (a ∷ xs)) (b ∷ ys) in
@@ -28,12 +28,12 @@ other_front a b xs ys apart =
     neither (ltb (length (b ∷ ys)) (length (a ∷ xs))) (bytes_eq front (a ∷ xs))
     (Some (drop (length (a ∷ xs)) (b ∷ ys))) differ
 
--- behind the runs stands no range
+-- no range comes after the runs
 pub no_range : (ids : List ℕ) → behind_at range_begin (part_if_any 0x23 ids) ≡ None
 no_range [] = refl
 no_range (b ∷ ids) = other_front 0x21 0x23 (u32_text 16) (string_text (b ∷ ids)) (λ e. omega arith)
 
--- behind the list of serials stands no other
+-- no list of serials comes after the list of serials
 pub no_list : (rs : List Run) (ids : List ℕ)
     → behind_at (0x20 ∷ []) (flat_map range_text rs ++ part_if_any 0x23 ids) ≡ None
 no_list [] [] = refl
@@ -48,7 +48,7 @@ no_list (r ∷ rs) ids = by_short (is_short r) (no_list rs ids)
         let range = u32_text 16 ++ (u64_text r.lo ++ u64_text r.hi) in
         other_front 0x20 0x21 [] ((range ++ flat_map range_text rs) ++ part_if_any 0x23 ids) (λ e. omega arith)
 
--- the data of a part is read
+-- the data of a part is read back
 pub part_again : (kind : ℕ) (d rest : List ℕ) → IsString d → behind_at (kind ∷ []) rest ≡ None
     → part_at kind (part_if_any kind d ++ rest) ≡ Some (d, rest)
 part_again kind [] rest small none = ap (data_from rest) none
@@ -66,7 +66,7 @@ listed_fits ca (b ∷ listed) ranges small =
     let text = length-append (string_text []) (b ∷ listed) in
     omega arith
 
--- a section is read
+-- a section is read back
 pub section_again : (ca listed ranges rest : List ℕ) → length ca ≡ 32 → IsString (section_bytes ca listed ranges)
     → behind_at (0x20 ∷ []) ranges ≡ None
     → section_at (tagged_text 1 (section_bytes ca listed ranges) ++ rest) ≡ Some ((ca, (listed, ranges)), rest)
@@ -85,13 +85,13 @@ section_again ca listed ranges rest len small none =
     (then (part_at 0x20 parts) (listed, ranges) _ _
     (part_again 0x20 listed ranges (listed_fits ca listed ranges small) none) refl)))))
 
--- the section of a CA is read
+-- the section of a CA is read back
 pub whole_again : (ids rest : List ℕ) (p : CaPart) → IsWhole ids p
     → section_at (whole_text ids p ++ rest) ≡ Some ((p.ca, (listed_bytes p, ranges_bytes ids p)), rest)
 whole_again ids rest p w =
     section_again p.ca (listed_bytes p) (ranges_bytes ids p) rest w.key w.short (no_list p.runs ids)
 
--- what is read of a whole section
+-- the values that are read from a whole section
 pub read_as : (bytes ids rest ca l m r : List ℕ) (p : CaPart) → IsWhole ids p → bytes ≡ whole_text ids p ++ rest
     → Some ((ca, (l, m)), r) ≡ section_at bytes
     → (ca ≡ p.ca) × AreSplit l m p.runs (part_if_any 0x23 ids) × (r ≡ rest)
@@ -105,12 +105,12 @@ read_as bytes ids rest ca l m r p w e is =
       ap (λ (x : (List ℕ × (List ℕ × List ℕ)) × List ℕ). x.1) same,
     )
 
--- where no section is read there is no whole one
+-- if no section is read, there is no whole one
 pub none_whole : (bytes ids rest : List ℕ) (p : CaPart) → IsWhole ids p → bytes ≡ whole_text ids p ++ rest
     → None ≡ section_at bytes → ⊥
 none_whole bytes ids rest p w e is = let both = is ∙ ap section_at e ∙ whole_again ids rest p w in cc
 
--- the data of key ids is short where that of the section is
+-- the length of the key id data fits if that of the section does
 pub ids_fit : (ids : List ℕ) (p : CaPart) → IsString (whole_data ids p) → IsString ids
 ids_fit [] p small = omega arith
 ids_fit (b ∷ ids) p small =
@@ -123,12 +123,12 @@ ids_fit (b ∷ ids) p small =
     let text = length-append (string_text []) (b ∷ ids) in
     omega arith
 
--- the key ids are read behind the runs
+-- the key ids are read after the runs
 pub ids_again : (ids : List ℕ) (p : CaPart) → IsWhole ids p → part_at 0x23 (part_if_any 0x23 ids) ≡ Some (ids, [])
 ids_again ids p w =
     ap (part_at 0x23) (sym (append-nil (part_if_any 0x23 ids))) ∙ part_again 0x23 ids [] (ids_fit ids p w.short) refl
 
--- where nothing is written of runs there are none
+-- if no text is written for the runs, there are none
 no_text : (rs : List Run) → flat_map listed_text rs ≡ [] → flat_map range_text rs ≡ [] → rs ≡ []
 no_text [] e f = refl
 no_text (r ∷ rs) e f = absurd (by_short (is_short r) e f)
@@ -180,7 +180,7 @@ whole_found bytes rest ca l m after ids none rs len text small runs split parts 
       text ∙ ap (λ d. tagged_text 1 d ++ rest) same,
     )
 
--- why a section that was read isn't whole
+-- the reason why a section that was read isn't whole
 pub stopped : (a b c : Bool) → (not c || (a && b)) ≡ true → (c ≡ false) ⊎ ((a ≡ true) × (b ≡ true))
 stopped true true true e = inr (refl, refl)
 stopped true false true e = absurd cc

@@ -1,4 +1,4 @@
--- Parts, sections and lists that are read.
+-- Reading parts, sections and lists.
 use Rattle.krl.proofs.Words.{AllByRecursion, Bool, Certificates, CertificatesFault, FieldFault, FirstFault, Header}
 use Rattle.krl.proofs.Words.{IfNone, IfOk, IfSome, IsCut, IsHeader, IsPart, IsReadPart, IsReadSection, IsSection}
 use Rattle.krl.proofs.Words.{IsString, IsU64, ItemFault, KeyIds, KrlFault, List, MatchOption, None, Option, OtherPart}
@@ -42,7 +42,7 @@ no_key_ids bytes none (Range r) h t e = omega arith
 no_key_ids bytes none (KeyIds ids) h t e = none ids h.0.0 h.0.1 (sym e)
 no_key_ids bytes none (OtherPart u b) h t e = h.0.2 t
 
--- what a serial list's reader answers
+-- the result of reading a serial list
 pub serials_read : (bytes : List ℕ) (serial : ℕ) (key_id : List ℕ) → IsString bytes → (o : Option Bool)
     → IfSome o (AreItems u64_text IsU64 (λ n. serial == n) bytes)
     → IfNone o ((ns : List ℕ) → AllByRecursion IsU64 ns → bytes ≢ flat_map u64_text ns)
@@ -60,7 +60,7 @@ serials_read bytes serial key_id fits (Some b) found none = (
 )
 serials_read bytes serial key_id fits None found none = (tt, (no_serials bytes none, refl))
 
--- what a range's reader answers
+-- the result of reading a range
 pub range_read : (bytes : List ℕ) (serial : ℕ) (key_id : List ℕ) → IsString bytes → (o : Option Bool)
     → IfSome o (λ b. (r : Run) × (r.lo < 2 ^ 64) × (r.hi < 2 ^ 64) × (bytes ≡ u64_text r.lo ++ u64_text r.hi)
     × (b ≡ is_within serial r))
@@ -79,7 +79,7 @@ range_read bytes serial key_id fits (Some b) found none = (
 )
 range_read bytes serial key_id fits None found none = (tt, (no_range bytes none, refl))
 
--- what a key id list's reader answers
+-- the result of reading a key id list
 pub key_ids_read : (bytes : List ℕ) (serial : ℕ) (key_id : List ℕ) → IsString bytes → (o : Option Bool)
     → IfSome o (λ b. bytes ≢ []) → IfSome o (AreItems string_text IsString (λ i. bytes_eq i key_id) bytes)
     → IfNone o ((ids : List (List ℕ)) → ids ≢ [] → AllByRecursion IsString ids → bytes ≢ flat_map string_text ids)
@@ -114,7 +114,7 @@ lawful_sections : (ss : List Section) → AllByRecursion IsReadSection ss
 lawful_sections [] h = (tt, refl)
 lawful_sections (s ∷ ss) h = let more = lawful_sections ss h.1 in ((h.0.lawful, more.0), rw (h.0.supported) (more.1))
 
--- what the reader of a certificates section's data answers
+-- the result of reading a certificates section's data
 pub certificates_read : (bytes ca reserved mid rest blob : List ℕ) (serial : ℕ) (key_id : List ℕ) (mine named : Bool)
     → IsString ca → IsString reserved → bytes ≡ string_text ca ++ mid → mid ≡ string_text reserved ++ rest → rest ≢ []
     → AreItems part_text IsReadPart (names serial key_id) rest named → mine ≡ is_for blob ca
@@ -143,7 +143,7 @@ section_refused old new kind bytes (Err f) fits e one bad =
 
 -- ---- fields of the header
 
--- a fault of a field is one where more comes after it
+-- a fault of the field itself stays its fault if more fields follow
 pub more_after : {X : Type 0} (text : X → List ℕ) (Is : X → Type 0) (cut : KrlFault) (refusal : X → Option KrlFault)
     (After : X → List ℕ → KrlFault → Type 0) (bytes : List ℕ) (f : KrlFault)
     → FieldFault text Is cut refusal NothingAfter bytes f → FieldFault text Is cut refusal After bytes f
@@ -155,7 +155,7 @@ more_after text Is cut refusal After bytes f (inr whole) =
     none None h = absurd h
     none (Some g) h = h
 
--- a lawful field, and a fault after it
+-- the fault of a valid field is the fault after it
 pub later : {X : Type 0} (text : X → List ℕ) (Is : X → Type 0) (cut : KrlFault) (refusal : X → Option KrlFault)
     (After : X → List ℕ → KrlFault → Type 0) (x : X) (bytes rest : List ℕ) (f : KrlFault) → Is x
     → bytes ≡ text x ++ rest → refusal x ≡ None → After x rest f → FieldFault text Is cut refusal After bytes f

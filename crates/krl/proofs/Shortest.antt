@@ -1,4 +1,4 @@
--- No parts that name the set of the runs are shorter than those that are written.
+-- No parts that name the set of the runs are shorter than the written ones.
 use Rattle.krl.proofs.Words.{AreRuns, AreRunsFrom, Bool, IsOneOf, IsRunOf, KeyIds, List, OtherPart, Part, Range, Run}
 use Rattle.krl.proofs.Words.{Serials, [], ap, arith, cases_Bool, cases_lt, cond, contains, eqb, false, if◌then◌else◌}
 use Rattle.krl.proofs.Words.{inl, inr, is_among, is_short, is_within, le-ltb, leb, length, length-append, listed}
@@ -8,7 +8,7 @@ use Rattle.std.proofs.lemmas.Bool.{eqb-true}
 use Rattle.krl.proofs.Booleans.{ltb-yes, is_in, or_true, or_cases, clash}
 use Rattle.krl.proofs.Maximal.{run_of, each_is_run, none_below, member_contains}
 
--- what parts cost at least; parts of key ids and others name no serial
+-- the least length of a part; parts with key ids, and others, name no serial
 abbrev pub part_len : Part → ℕ
 part_len (Serials ns) = 5 + 8 * length ns
 part_len (Range r) = 5 + 16
@@ -27,7 +27,7 @@ abbrev pub how_many : {X : Type 0} → (X → Bool) → List X → ℕ
 how_many p [] = 0
 how_many p (x ∷ xs) = cond (p x) 1 0 + how_many p xs
 
--- the least that a run costs
+-- the least cost of a run
 abbrev pub least_of : Run → ℕ
 least_of r = if nat_lt r.hi (r.lo + 2) then 8 * ((r.hi - r.lo) + 1) else 21
 
@@ -35,14 +35,14 @@ abbrev pub least_of_all : List Run → ℕ
 least_of_all [] = 0
 least_of_all (r ∷ rs) = least_of r + least_of_all rs
 
--- ---- different members count
+-- ---- counting different members
 
 -- the list without a serial
 abbrev without : ℕ → List ℕ → List ℕ
 without a [] = []
 without a (e ∷ es) = cond (eqb a e) (without a es) (e ∷ without a es)
 
--- a serial of the list that passes counts one more than the others that pass
+-- a serial of the list that passes adds one to the number of the others that pass
 one_more : (p : ℕ → Bool) (es : List ℕ) (a : ℕ) → p a ≡ true
     → how_many p (without a es) + cond (has es a) 1 0 ≤ how_many p es
 one_more p [] a pa = omega arith
@@ -83,7 +83,7 @@ three_count p es a b c lt lu ha hb hc pa pb pc =
     (still_has es a c (omega arith) hc) pb pc in
     omega arith
 
--- ---- what one run costs
+-- ---- the cost of one run
 
 member_counts : (p : Run → Bool) (rs : List Run) (s : Run) → IsOneOf s rs → p s ≡ true → 1 ≤ how_many p rs
 member_counts p [] s c e = absurd c
@@ -106,7 +106,7 @@ begins_in set r rs n is inside p q e =
     ] in
     member_counts (λ (t : Run). is_within t.lo r) rs s.0 s.1 (is_in s.0.lo r.lo r.hi from (omega (arith, s.2)))
 
--- where no range begins there, each serial of the run is listed
+-- if no range begins in the run, each of its serials is listed
 each_listed : (r : Run) (es : List ℕ) (rs : List Run) (n : ℕ) → IsRunOf (λ n. has es n || contains rs n) r
     → how_many (λ (q : Run). is_within q.lo r) rs < 1 → r.lo ≤ n → n ≤ r.hi → has es n ≡ true
 each_listed r es rs n is none p q =
@@ -153,7 +153,7 @@ run_costs r es rs is =
       | inr one ↦ let cost = least_small r some in omega arith
     ]
 
--- ---- what all runs cost
+-- ---- the cost of all runs
 
 pub pairwise : {X : Type 0} (p q o : X → Bool) (xs : List X)
     → ((x : X) → cond (p x) 1 0 + cond (q x) 1 0 ≤ cond (o x) 1 0) → how_many p xs + how_many q xs ≤ how_many o xs
@@ -165,7 +165,7 @@ at_most_all p [] = omega arith
 at_most_all p (x ∷ xs) = let more = at_most_all p xs in let one : cond (p x) 1 0 ≤ 1 =
     elim (p x) as (λ b. cond b 1 0 ≤ 1) [ true ↦ omega arith | false ↦ omega arith ] in omega arith
 
--- how many begin in each of the runs, together
+-- the sum, over the runs, of the number of items that begin in each
 abbrev pub in_runs : {X : Type 0} → (X → ℕ) → List Run → List X → ℕ
 in_runs key [] xs = 0
 in_runs key (r ∷ rs) xs = how_many (λ x. is_within (key x) r) xs + in_runs key rs xs
@@ -199,7 +199,7 @@ sum_costs all (r ∷ rs) es qs h =
     let more = sum_costs all rs es qs (λ s c. h s (inr c)) in
     omega arith
 
--- the serials listed and the ranges that name the set of the runs cost at least this
+-- listed serials and ranges that name the set of the runs cost at least this
 pub least : (rs : List Run) (es : List ℕ) (qs : List Run) → AreRuns rs
     → ((n : ℕ) → contains rs n ≡ (has es n || contains qs n))
     → least_of_all rs ≤ 8 * length es + 21 * length qs
@@ -212,7 +212,7 @@ least rs es qs h same =
     let d = at_most_all (λ (q : Run). contains rs q.lo) qs in
     omega arith
 
--- ---- ranges alone
+-- ---- ranges only
 
 runs_begin : (rs qs : List Run) → ((r : Run) → IsOneOf r rs → 1 ≤ how_many (λ (q : Run). is_within q.lo r) qs)
     → length rs ≤ in_runs (λ (q : Run). q.lo) rs qs
@@ -230,7 +230,7 @@ ranges_alone rs qs h same =
     let d = at_most_all (λ (q : Run). contains rs q.lo) qs in
     omega arith
 
--- ---- what is written
+-- ---- the written parts
 
 abbrev pub how_short : List Run → ℕ
 how_short rs = how_many is_short rs

@@ -13,7 +13,7 @@ use Rattle.krl.proofs.Shortest.{lists_len, parts_len-append, written_cost, no_li
 
 -- ---- any parts
 
--- the serials that are listed, the ranges, and the lists
+-- the listed serials, the ranges, and the lists
 abbrev pub serials_in : List Part → List ℕ
 serials_in [] = []
 serials_in (Serials ns ∷ ps) = ns ++ serials_in ps
@@ -45,7 +45,7 @@ parts_cost (Range r ∷ ps) = let more = parts_cost ps in omega arith
 parts_cost (KeyIds ids ∷ ps) = let more = parts_cost ps in omega arith
 parts_cost (OtherPart t bytes ∷ ps) = let more = parts_cost ps in omega arith
 
--- one listed serial wants a list
+-- a listed serial needs a list
 list_cost : (ps : List Part) → 0 < length (serials_in ps)
     → 5 + 8 * length (serials_in ps) + 21 * length (ranges_in ps) ≤ parts_len ps
 list_cost [] lt = absurd (omega arith)
@@ -54,7 +54,7 @@ list_cost (Range r ∷ ps) lt = let more = list_cost ps lt in omega arith
 list_cost (KeyIds ids ∷ ps) lt = let more = list_cost ps lt in omega arith
 list_cost (OtherPart t bytes ∷ ps) lt = let more = list_cost ps lt in omega arith
 
--- ---- no parts that name the same set are shorter than what is written
+-- ---- no parts that name the same set are shorter than the written ones
 
 written_len : (rs : List Run) → AreRuns rs → parts_len (serial_parts rs) ≤ least_of_all rs + 5
 written_len rs h =
@@ -113,7 +113,7 @@ ranges_bytes (r ∷ rs) =
     parts_length (cond b (ranges rs) (Range r ∷ ranges rs)) ≡ parts_len (cond b (ranges rs) (Range r ∷ ranges rs)))
     [ true ↦ more | false ↦ omega arith ]
 
--- the parts that are written cost just their length
+-- the cost of the written parts is exactly their length
 pub serial_bytes : (rs : List Run) → parts_length (serial_parts rs) ≡ parts_len (serial_parts rs)
 serial_bytes rs = by_list (listed rs)
   where
@@ -130,7 +130,7 @@ pub shortest_bytes : (rs : List Run) (others : List Part) → AreRuns rs → ((n
 shortest_bytes rs others h same = let cost = shortest_cost rs others h same in let here = serial_bytes rs in let there =
     parts_bytes others in omega arith
 
--- ---- they name the set
+-- ---- the written parts name the set
 
 run_named : (r : Run) (n : ℕ) → r.lo ≤ r.hi → r.hi < r.lo + 2 → is_among (serials_of r) n ≡ is_within n r
 run_named r n le lt = grind (arith, nat_tests)
@@ -157,7 +157,7 @@ pub serials_named : (rs : List Run) (n : ℕ) → AreRuns rs → named_set (seri
 serials_named rs n h = list_any-append (names_serial n) (serial_list (listed rs)) (ranges rs)
     ∙ ap (λ b. b || named_set (ranges rs) n) (list_named (listed rs) n) ∙ runs_named 0 rs n h
 
--- the parts that are written are shortest
+-- no parts are shorter than the written ones
 pub are_shortest : (rs : List Run) → AreRuns rs → AreShortest (serial_parts rs) rs
 are_shortest rs h = record {
   names = λ n. serials_named rs n h;

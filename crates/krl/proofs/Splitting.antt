@@ -12,11 +12,11 @@ use Rattle.krl.specs.Sets.{is_before, cut_run}
 use Rattle.krl.proofs.Booleans.{ltb-yes}
 use Rattle.krl.proofs.Maximal.{weaken}
 
--- the serials from one on and below a bound
+-- whether a serial is at or above one serial and below a bound
 abbrev pub is_between : ℕ → Option ℕ → ℕ → Bool
 is_between from before n = leb from n && is_before n before
 
--- a run has nothing there, or a run of what it has there
+-- a run has no serial there, or one run of serials
 abbrev pub CutCases : ℕ → Option ℕ → Run → Type 0
 CutCases from before r =
     ((cut_run from before r ≡ None) × ((n : ℕ) → (is_between from before n && is_within n r) ≡ false))
@@ -56,7 +56,7 @@ and_or : (p a b : Bool) → ((p && a) || (p && b)) ≡ (p && (a || b))
 and_or true a b = refl
 and_or false a b = refl
 
--- the runs cut are runs
+-- the cut runs are runs
 pub cut_runs : (at : ℕ) (from : ℕ) (before : Option ℕ) (rs : List Run) → AreRunsFrom at rs
     → AreRunsFrom at (filter_map (cut_run from before) rs)
 cut_runs at from before [] h = tt
@@ -71,7 +71,7 @@ cut_runs at from before (r ∷ rs) h = elim (cut_cases from before r h.1) [
       )
 ]
 
--- and they have what is there
+-- and they contain the serials that are there
 pub contains_cut : (at : ℕ) (from : ℕ) (before : Option ℕ) (rs : List Run) (n : ℕ) → AreRunsFrom at rs
     → contains (filter_map (cut_run from before) rs) n ≡ (is_between from before n && contains rs n)
 contains_cut at from before [] n h = sym (and-false (is_between from before n))
@@ -108,7 +108,7 @@ get_drop zero xs = refl
 get_drop (suc k) [] = refl
 get_drop (suc k) (x ∷ xs) = get_drop k xs
 
--- in numbers that don't descend, the next place tells
+-- in numbers that don't descend, the next place decides
 pub last_reached : (since : List ℕ) (k n : ℕ) → IsNonDecreasing since
     → is_last_reached since k n ≡ is_between (get_or since k 0) (slice_get since (k + 1)) n
 last_reached since k n h =

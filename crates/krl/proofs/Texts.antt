@@ -1,4 +1,4 @@
--- Texts that can be cut off the front of bytes in one way only.
+-- Texts that can be cut off the front of bytes in only one way.
 use Rattle.krl.proofs.Words.{AllByRecursion, Certificates, Header, IsCut, IsHeader, IsPart, IsSection, IsString, IsU32}
 use Rattle.krl.proofs.Words.{IsU64, KeyIds, List, OtherPart, OtherSection, Part, Range, RevocationList, Section}
 use Rattle.krl.proofs.Words.{Serials, [], ap, append_assoc, arith, flat_map, header_text, lit<, magic, part_data}
@@ -9,7 +9,7 @@ use Rattle.wire.proofs.Laws.{wide32, wide64, number_unique, string_unique}
 use Rattle.krl.specs.Format.{section_type}
 use Rattle.krl.specs.Faults.{Tagged, text_of, HasString}
 
--- Texts of which none is empty, and which can be cut off the front of bytes in one way only.
+-- Texts that aren't empty, and that can be cut off the front of bytes in only one way.
 pub record AreTexts {X : Type 0} (text : X → List ℕ) (Is : X → Type 0) : Type 0 where
   pub some : (x : X) (r : List ℕ) → text x ++ r ≢ []
   pub same : (x y : X) (r s : List ℕ) → Is x → Is y → text x ++ r ≡ text y ++ s → (x ≡ y) × (r ≡ s)
@@ -35,7 +35,7 @@ tagged_texts = record {
       ((λ i. (parts.1 i, tail.0 i)), tail.1);
 }
 
--- joined texts are those of one list
+-- joined texts are those of only one list
 pub items_unique : {X : Type 0} {text : X → List ℕ} {Is : X → Type 0} → AreTexts text Is → (xs ys : List X)
     → AllByRecursion Is xs → AllByRecursion Is ys → flat_map text xs ≡ flat_map text ys → xs ≡ ys
 items_unique texts [] [] p q e = refl
@@ -122,7 +122,7 @@ header_unique h k r s p q e =
     let e7 = string_texts.same h.comment k.comment r s p.3 q.3 e6.1 in
     (λ i. record { version = e3.0 i; date = e4.0 i; reserved = e6.0 i; comment = e7.0 i }, e7.1)
 
--- bytes can be cut in one way
+-- bytes can be divided in only one way
 pub cut_unique : (bytes : List ℕ) (l m : RevocationList) → IsCut bytes l → IsCut bytes m → l ≡ m
 cut_unique bytes l m p q =
     let front = header_unique l.header m.header _ _ p.header q.header (sym p.text ∙ q.text) in

@@ -1,4 +1,4 @@
--- Sections that are read one after the other.
+-- Reading sections in order.
 use Rattle.krl.proofs.Words.{AllByRecursion, Bool, CaPart, List, None, Option, Some, [], ap, append_assoc, arith}
 use Rattle.krl.proofs.Words.{bytes_eq}
 use Rattle.krl.proofs.Words.{cond, false, flat_map, inl, inr, length, length-append, list_all, refl, same_Some, subst}
@@ -15,7 +15,7 @@ use Rattle.krl.specs.Fronts.{whole_text}
 use Rattle.krl.proofs.Booleans.{clash}
 use Rattle.krl.proofs.SectionLaws.{none_whole, read_as}
 
--- The sections that were read, and those that are left of every reading of the whole.
+-- The sections read so far, and what every reading of the whole has left after them.
 pub record WholeSoFar (sections ids : List ℕ) (count : ℕ) (rest : List ℕ) : Type 0 where
   pub done : List CaPart
   pub as_many : length done ≡ count
@@ -36,12 +36,12 @@ none_yet sections ids = record {
   left = λ cas are. (cas, omega arith, are.whole, are.text);
 }
 
--- What is read at the front of the sections that are left.
+-- The result of reading the front of the remaining sections.
 abbrev pub Reads : List ℕ → Option (List ℕ × List ℕ) → Type 0
 Reads bytes result = (ids rest : List ℕ) (p : CaPart) → IsWhole ids p → bytes ≡ whole_text ids p ++ rest
     → result ≡ Some (ids, rest)
 
--- some sections are left where bytes are left, and what is read is the first of them
+-- if bytes remain, some sections do, and the one that is read is the first of them
 pub next_whole : (ids rest : List ℕ) (others : List CaPart) (result : Option (List ℕ × List ℕ)) → rest ≢ []
     → AllByRecursion (IsWhole ids) others → rest ≡ flat_map (whole_text ids) others → Reads rest result
     → (p : CaPart) × (ps : List CaPart) × (others ≡ p ∷ ps) × (result ≡ Some (ids, flat_map (whole_text ids) ps))
@@ -59,7 +59,7 @@ text_more : (text : CaPart → List ℕ) (xs : List CaPart) (x : CaPart) (rest :
 text_more text xs x rest =
     ap (λ t. t ++ rest) (sym (flat_map_more text [] xs x)) ∙ append_assoc (flat_map text xs) (text x) rest
 
--- one section more was read
+-- one more section was read
 pub one_whole : (sections ids rest next : List ℕ) (count : ℕ) (p : CaPart) → WholeSoFar sections ids count rest
     → rest ≢ [] → count ≢ 8 → IsWhole ids p → rest ≡ whole_text ids p ++ next → Reads rest (Some (ids, next))
     → WholeSoFar sections ids (count + 1) next
@@ -82,7 +82,7 @@ one_whole sections ids rest next count p so some room whole text reads = record 
       (first.1, omega arith, all.1, after);
 }
 
--- where another list of key ids is read, or none, or a ninth section, the whole is no sections of these key ids
+-- if other key ids are read, or none, or a ninth section, then these aren't whole sections with these key ids
 pub not_whole : (sections ids rest : List ℕ) (count : ℕ) (result : Option (List ℕ × List ℕ))
     → WholeSoFar sections ids count rest → rest ≢ [] → Reads rest result
     → ((next : List ℕ) → result ≡ Some (ids, next) → count ≡ 8) → (cas : List CaPart) → AreWhole sections ids cas → ⊥
@@ -107,13 +107,13 @@ whole_read sections ids rest count so none = (
   },
 )
 
--- ---- sections that are whole, gone through by their fronts
+-- ---- going through whole sections by their fronts
 
 no_section : section_at [] ≡ None
 unfolding section_at
 no_section = refl
 
--- what is read at the front is the first of the sections
+-- the section that is read at the front is the first one
 pub first_section : (ids bytes ca l m r : List ℕ) (left : List CaPart) → AllByRecursion (IsWhole ids) left
     → bytes ≡ flat_map (whole_text ids) left → Some ((ca, (l, m)), r) ≡ section_at bytes
     → (p : CaPart) × (ps : List CaPart) × (left ≡ p ∷ ps) × (ca ≡ p.ca) × AreSplit l m p.runs (part_if_any 0x23 ids)
@@ -124,14 +124,14 @@ first_section ids bytes ca l m r (p ∷ ps) whole text is =
     let read = read_as bytes ids (flat_map (whole_text ids) ps) ca l m r p whole.0 text is in
     (p, ps, refl, read.0, read.1, read.2)
 
--- where none is read none is left
+-- if none is read, none remains
 pub no_more : (ids bytes : List ℕ) (left : List CaPart) → AllByRecursion (IsWhole ids) left
     → bytes ≡ flat_map (whole_text ids) left → None ≡ section_at bytes → left ≡ []
 no_more ids bytes [] whole text is = refl
 no_more ids bytes (p ∷ ps) whole text is =
     absurd (none_whole bytes ids (flat_map (whole_text ids) ps) p whole.0 text is)
 
--- the others are whole
+-- the other sections are whole
 pub others_whole : (ids : List ℕ) (left ps : List CaPart) (p : CaPart) → AllByRecursion (IsWhole ids) left
     → left ≡ p ∷ ps
     → IsWhole ids p × AllByRecursion (IsWhole ids) ps
@@ -172,7 +172,7 @@ runs_found ids ca (p ∷ ps) x e = by_test (bytes_eq p.ca ca) refl (runs_found i
     by_test true holds more e = (p, inl refl, (bytes_eq-Decides p.ca ca).0 holds, sym (same_Some _ _ e))
     by_test false fails more e = let found = more e in (found.0, inr found.1, found.2, found.3)
 
--- where none are found the CA has no part
+-- if none are found, the CA has no part
 pub runs_none : (ids ca : List ℕ) (ps : List CaPart) → runs_under ids ca ps ≡ None → (q : CaPart) → IsCaPartOf q ps
     → q.ca ≢ ca
 runs_none ids ca [] e q c same = absurd c
@@ -206,7 +206,7 @@ module _ {A : Type 0} (ids ca : List ℕ) (ps : List CaPart) (o : Option A) (f :
       by_option None none reads = runs_none ids ca ps (sym reads)
       by_option (Some x) none reads = absurd cc
 
--- where no bytes are written there are no sections
+-- if no bytes are written, there are no sections
 pub no_whole_text : (ids : List ℕ) (cas : List CaPart) → flat_map (whole_text ids) cas ≡ [] → cas ≡ []
 no_whole_text ids [] e = refl
 no_whole_text ids (p ∷ cas) e = absurd cc

@@ -1,4 +1,4 @@
--- The words of the libraries and of the definitions that several proof files speak.
+-- The names from libraries and definitions that several proof files use.
 pub use Rattle.krl.specs.Faults.{CertificatesFault, FieldFault, FirstFault, HeaderFault, IsReadPart, IsReadSection}
 pub use Rattle.krl.specs.Faults.{IsU32, IsU64, ItemFault, SectionFault, accepted}
 pub use Rattle.krl.specs.Format.{Certificates, Header, IsCut, IsHeader, IsPart, IsSection, IsString, KeyIds, OtherPart}

@@ -1,4 +1,4 @@
--- What a published list says, which bytes are published lists, and what one list forgets of another.
+-- What a published list means, which bytes are published lists, and when one list forgets nothing of another.
 use Rattle.std.specs.Prelude.{◌≡◌, ℕ, ◌<◌, ◌≤◌, ◌^◌, List, [], ◌∷◌, length, Bool, true, false}
 use Rattle.std.specs.List.{list_all, list_any, AllByRecursion}
 use Rattle.std.specs.Str.{bytes_eq}
@@ -18,7 +18,7 @@ pub record Contents : Type 0 where
   pub cas : List CaPart
   pub ids : List (List ℕ)
 
--- each key id comes behind the one before it, by bytes, and the first behind this one
+-- the key ids ascend in byte order, and the first comes after `before`
 abbrev pub AscendBehind : List ℕ → List (List ℕ) → Type 0
 AscendBehind before [] = Unit {0}
 AscendBehind before (i ∷ ids) = (slice_cmp nat_cmp before i ≡ Less) × AscendBehind i ids
@@ -27,14 +27,14 @@ abbrev pub Ascend : List (List ℕ) → Type 0
 Ascend [] = Unit {0}
 Ascend (i ∷ ids) = AscendBehind i ids
 
--- a key of 32 bytes, runs, something that is revoked, and a section whose data has a length of 32 bits
+-- a key of 32 bytes, runs, something that is revoked, and section data whose length fits in 32 bits
 pub record IsContentsPart (ids : List (List ℕ)) (p : CaPart) : Type 0 where
   pub key : length p.ca ≡ 32
   pub runs : AreRuns p.runs
   pub busy : is_idle ids p ≡ false
   pub short : IsString (section_data (ca_section ids p))
 
--- numbers of 64 bits, at most eight CAs of which no two are one, and key ids that ascend
+-- 64-bit numbers, at most eight CAs, all different, and ascending key ids
 pub record AreContents (c : Contents) : Type 0 where
   pub version : c.head.version < 2 ^ 64
   pub date : c.head.date < 2 ^ 64
@@ -42,20 +42,20 @@ pub record AreContents (c : Contents) : Type 0 where
   pub parts : AllByRecursion (IsContentsPart c.ids) c.cas
   pub distinct : AreDistinctCas c.cas
   pub ascending : Ascend c.ids
-  -- where no CA has a section no key id is written
+  -- if no CA has a section, no key id is written
   pub unwritten : c.cas ≡ [] → c.ids ≡ []
 
--- the list that is written of these
+-- the list that is written for these contents
 abbrev pub list_of : Contents → RevocationList
 list_of c = published_list c.head c.cas c.ids
 
--- the bytes are the text of these
+-- the bytes are the text of these contents
 pub record Publishes (bytes : List ℕ) (c : Contents) : Type 0 where
   pub lawful : AreContents c
   pub text : bytes ≡ published_text c.head c.cas c.ids
 
--- a head, CA parts and key ids of which the list that is written can be read back: as above, but a CA may have nothing
--- that is revoked
+-- a head, CA parts and key ids whose list, once written, can be read back: as above, but a CA may have nothing
+-- revoked
 pub record AreReadBack (head : KrlHead) (cas : List CaPart) (ids : List (List ℕ)) : Type 0 where
   pub version : head.version < 2 ^ 64
   pub date : head.date < 2 ^ 64
@@ -69,25 +69,25 @@ pub record AreReadBack (head : KrlHead) (cas : List CaPart) (ids : List (List �
 abbrev pub IsPublished : List ℕ → Type 0
 IsPublished bytes = (c : Contents) × Publishes bytes c
 
--- each certificate that the old list revokes, by its serial or its key id, under its CA, the new one revokes too
+-- each certificate that the old list revokes under its CA, by its serial or its key id, is revoked by the new one too
 abbrev pub ForgetsNothing : RevocationList → RevocationList → Type 0
 ForgetsNothing old new =
     (blob : List ℕ) (serial : ℕ) (key_id : List ℕ) → revokes blob serial key_id old ≡ true
     → revokes blob serial key_id new ≡ true
 
--- the serial stands under the CA of this key
+-- the contents revoke the serial under the CA with this key
 abbrev pub NamesSerial : Contents → List ℕ → ℕ → Type 0
 NamesSerial c ca serial = (p : CaPart) × IsCaPartOf p c.cas × (p.ca ≡ ca) × (contains p.runs serial ≡ true)
 
--- the key id stands under the CA of this key
+-- the contents revoke the key id under the CA with this key
 abbrev pub NamesKeyId : Contents → List ℕ → List ℕ → Type 0
 NamesKeyId c ca key_id = (p : CaPart) × IsCaPartOf p c.cas × (p.ca ≡ ca) × (is_key_id c.ids key_id ≡ true)
 
--- each pair of CA and serial, and each pair of CA and key id, stands in the new contents too
+-- each pair of CA and serial, and each pair of CA and key id, is in the new contents too
 pub record KeepsEachPair (old new : Contents) : Type 0 where
   pub serials : (ca : List ℕ) (serial : ℕ) → NamesSerial old ca serial → NamesSerial new ca serial
   pub key_ids : (ca key_id : List ℕ) → NamesKeyId old ca key_id → NamesKeyId new ca key_id
 
--- each CA that has a section is one of these keys
+-- the key of each CA that has a section is one of these
 abbrev pub are_cas_among : List (List ℕ) → Contents → Bool
 are_cas_among keys c = list_all (λ p. list_any (λ k. bytes_eq k p.ca) keys) c.cas

@@ -1,4 +1,4 @@
--- The first fault of a list, after the longest beginning of whole and lawful fields, sections and parts.
+-- The first fault of a list: the fault after the longest prefix of whole, valid fields, sections and parts.
 use Rattle.std.specs.Prelude.{◌≡◌, ◌≢◌, ◌==◌, ℕ, ◌<◌, ◌^◌, List, [], ◌++◌, ◌⊎◌, Bool}
 use Rattle.std.specs.Prelude.{true, ◌||◌, Option, Some, None, MatchOption, if◌then◌else◌}
 use Rattle.std.specs.List.{flat_map, AllByRecursion}
@@ -10,8 +10,8 @@ use Rattle.krl.specs.Format.{Part, part_type, part_data, part_text, tagged_text,
 use Rattle.krl.specs.Format.{section_text, Header, magic, header_text, IsString, IsPart}
 use Rattle.krl.specs.Format.{IsSection, IsHeader, is_supported_part, is_supported_section}
 
--- What fails where a field is read: the field is cut short; or it is whole, and its value is refused; or it is lawful,
--- and what fails comes after it.
+-- The fault of a field: the field is cut short; or it is whole, and its value is refused; or it is valid, and the fault
+-- comes after it.
 abbrev pub FieldFault : {X : Type 0} → (X → List ℕ) → (X → Type 0) → KrlFault → (X → Option KrlFault)
     → (X → List ℕ → KrlFault → Type 0) → List ℕ → KrlFault → Type 0
 FieldFault {X} text IsValue cut refusal After bytes f =
@@ -19,11 +19,11 @@ FieldFault {X} text IsValue cut refusal After bytes f =
     ⊎ ((x : X) × (rest : List ℕ) × IsValue x × (bytes ≡ text x ++ rest)
     × MatchOption (refusal x) (After x rest f) (λ g. f ≡ g))
 
--- nothing fails after the field
+-- there is no fault after the field
 abbrev pub NothingAfter : {X : Type 0} → X → List ℕ → KrlFault → Type 0
 NothingAfter x rest f = ⊥
 
--- What fails after the longest beginning of items that are lawful and supported.
+-- The fault after the longest prefix of valid, supported items.
 abbrev pub ItemFault : {X : Type 0} → (X → List ℕ) → (X → Type 0) → (List ℕ → KrlFault → Type 0)
     → List ℕ → KrlFault → Type 0
 ItemFault {X} text IsItem Fault bytes f =
@@ -51,7 +51,7 @@ is_zero n = n == 0
 abbrev pub is_one : ℕ → Bool
 is_one n = n == 1
 
--- what fails from a field of the header on, each being judged once it was read whole
+-- the fault of the header from one of its fields on; a field's value is judged after the whole field was read
 abbrev pub CommentFault : List ℕ → KrlFault → Type 0
 CommentFault = FieldFault string_text IsString Truncated accepted NothingAfter
 
@@ -73,7 +73,7 @@ VersionFault = FieldFault u32_text IsU32 Truncated (λ n. refused_unless (is_one
 abbrev pub HeaderFault : List ℕ → KrlFault → Type 0
 HeaderFault = FieldFault u64_text IsU64 Truncated (λ n. refused_unless (is_magic n) BadMagic) (λ _. VersionFault)
 
--- a type and data
+-- the type and the data of a section or a part
 abbrev pub Tagged : Type 0
 Tagged = ℕ × List ℕ
 
@@ -83,14 +83,14 @@ text_of x = tagged_text x.0 x.1
 abbrev pub HasString : Tagged → Type 0
 HasString x = IsString x.1
 
--- the data is of no part of the type
+-- no part of this type has this data
 abbrev pub NoPart : Tagged → Type 0
 NoPart x = (p : Part) → IsPart p → part_type p ≡ x.0 → part_data p ≢ x.1
 
 abbrev pub is_part_type : ℕ → Bool
 is_part_type t = t == 0x20 || (t == 0x21 || t == 0x23)
 
--- a part's type is judged once its data was cut
+-- a part's type is judged after its data was read
 abbrev pub PartFault : List ℕ → KrlFault → Type 0
 PartFault =
     FieldFault text_of HasString BadSection (λ x. refused_unless (is_part_type x.0) (Unsupported x.0))
@@ -100,7 +100,7 @@ pub record IsReadPart (p : Part) : Type 0 where
   pub lawful : IsPart p
   pub supported : is_supported_part p ≡ true
 
--- there is no part, or one fails
+-- there are no parts, or one has a fault
 abbrev pub PartsFault : List ℕ → KrlFault → Type 0
 PartsFault bytes f = ((bytes ≡ []) × (f ≡ BadSection)) ⊎ ItemFault part_text IsReadPart PartFault bytes f
 
@@ -109,7 +109,7 @@ CertificatesFault =
     FieldFault string_text IsString BadSection accepted (λ _.
     FieldFault string_text IsString BadSection accepted (λ _. PartsFault))
 
--- a section's type is judged once its data was cut
+-- a section's type is judged after its data was read
 abbrev pub SectionFault : List ℕ → KrlFault → Type 0
 SectionFault =
     FieldFault text_of HasString Truncated (λ x. refused_unless (is_one x.0) (Unsupported x.0))

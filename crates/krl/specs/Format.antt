@@ -21,7 +21,7 @@ part_type (Range r) = 0x21
 part_type (KeyIds ids) = 0x23
 part_type (OtherPart t data_bytes) = t
 
--- uint64 for each serial; uint64 min and max; string for each key id
+-- a uint64 for each serial; uint64 min and max; a string for each key id
 abbrev pub part_data : Part → List ℕ
 part_data (Serials ns) = flat_map u64_text ns
 part_data (Range r) = u64_text r.lo ++ u64_text r.hi
@@ -35,7 +35,7 @@ tagged_text t data_bytes = t ∷ string_text data_bytes
 abbrev pub part_text : Part → List ℕ
 part_text p = tagged_text (part_type p) (part_data p)
 
--- a section: of certificates, with the CA key, the reserved string and the parts, or of another type, with its data
+-- a section: a certificates section with the CA key, the reserved string and the parts, or another type with its data
 pub data Section : Type 0 where
   Certificates : List ℕ → List ℕ → List Part → Section
   OtherSection : ℕ → List ℕ → Section
@@ -52,7 +52,7 @@ section_data (OtherSection t data_bytes) = data_bytes
 abbrev pub section_text : Section → List ℕ
 section_text s = tagged_text (section_type s) (section_data s)
 
--- what the header says: krl_version, generated_date, reserved and comment
+-- the header's values: krl_version, generated_date, reserved and comment
 pub record Header : Type 0 where
   pub version : ℕ
   pub date : ℕ
@@ -77,13 +77,13 @@ pub record RevocationList : Type 0 where
 abbrev pub list_text : RevocationList → List ℕ
 list_text l = header_text l.header ++ flat_map section_text l.sections
 
--- ---- which of these are lists
+-- ---- well-formed lists
 
 -- a string's length is a uint32
 abbrev pub IsString : List ℕ → Type 0
 IsString b = length b < 2 ^ 32
 
--- serials of 64 bits; at least one key id; a type that is none of the three
+-- 64-bit serials; at least one key id; a type other than these three
 abbrev pub IsPartContent : Part → Type 0
 IsPartContent (Serials ns) = AllByRecursion (λ n. n < 2 ^ 64) ns
 IsPartContent (Range r) = (r.lo < 2 ^ 64) × (r.hi < 2 ^ 64)
@@ -93,7 +93,7 @@ IsPartContent (OtherPart t data_bytes) = (t ≢ 0x20) × (t ≢ 0x21) × (t ≢ 
 abbrev pub IsPart : Part → Type 0
 IsPart p = IsPartContent p × IsString (part_data p)
 
--- at least one part; a type that isn't that of certificates
+-- at least one part; a type other than that of certificates sections
 abbrev pub IsSectionContent : Section → Type 0
 IsSectionContent (Certificates ca reserved parts) =
     IsString ca × IsString reserved × (parts ≢ []) × AllByRecursion IsPart parts
@@ -105,13 +105,13 @@ IsSection s = IsSectionContent s × IsString (section_data s)
 abbrev pub IsHeader : Header → Type 0
 IsHeader h = (h.version < 2 ^ 64) × (h.date < 2 ^ 64) × IsString h.reserved × IsString h.comment
 
--- the bytes cut into a header, sections and their parts
+-- the bytes are the list's text: a header, sections and their parts
 pub record IsCut (bytes : List ℕ) (l : RevocationList) : Type 0 where
   pub header : IsHeader l.header
   pub sections : AllByRecursion IsSection l.sections
   pub text : bytes ≡ list_text l
 
--- ---- which are read here
+-- ---- supported lists
 
 abbrev pub is_supported_part : Part → Bool
 is_supported_part (OtherPart t data_bytes) = false
@@ -121,11 +121,11 @@ abbrev pub is_supported_section : Section → Bool
 is_supported_section (Certificates ca reserved parts) = list_all is_supported_part parts
 is_supported_section (OtherSection t data_bytes) = false
 
--- every section is of certificates, and every part of one of the three types
+-- every section is a certificates section, and every part has one of the three types
 abbrev pub is_supported : RevocationList → Bool
 is_supported l = list_all is_supported_section l.sections
 
--- ---- what they revoke
+-- ---- what lists revoke
 
 -- whether the part names the serial or the key id
 abbrev pub names : ℕ → List ℕ → Part → Bool
@@ -134,7 +134,7 @@ names serial key_id (Range r) = is_within serial r
 names serial key_id (KeyIds ids) = list_any (λ i. bytes_eq i key_id) ids
 names serial key_id (OtherPart t data_bytes) = false
 
--- an empty CA key is for every CA
+-- an empty CA key means every CA
 abbrev pub is_for : List ℕ → List ℕ → Bool
 is_for blob ca = length ca == 0 || bytes_eq ca blob
 
@@ -143,6 +143,6 @@ section_revokes blob serial key_id (Certificates ca reserved parts) =
     is_for blob ca && list_any (names serial key_id) parts
 section_revokes blob serial key_id (OtherSection t data_bytes) = false
 
--- whether the list revokes the certificate of this serial and key id under the CA of this blob
+-- whether the list revokes the certificate with this serial and key id under the CA with this blob
 abbrev pub revokes : List ℕ → ℕ → List ℕ → RevocationList → Bool
 revokes blob serial key_id l = list_any (section_revokes blob serial key_id) l.sections

@@ -1,4 +1,4 @@
--- A published list read from the front: what stands there, and the bytes after it.
+-- A published list read from the front: the item at the front of the bytes, and the bytes after it.
 use Rattle.std.specs.Prelude.{◌≡◌, ℕ, ◌+◌, List, [], ◌∷◌, ◌++◌, length, take, drop, nat_lt, ◌==◌, if◌then◌else◌}
 use Rattle.std.specs.Prelude.{Option, Some, None, find, ◌≢◌, ◌≤◌, true}
 use Rattle.std.specs.Option.{option_map}
@@ -21,7 +21,7 @@ abbrev pub ◌>>=◌ : {A B : Type 0} → Option A → (A → Option B) → Opti
 None >>= f = None
 (Some x) >>= f = f x
 
--- what follows these bytes, where they stand at the front
+-- the bytes after `front`, if they begin with it
 abbrev pub behind_at : List ℕ → List ℕ → Option (List ℕ)
 behind_at front bytes =
     if nat_lt (length bytes) (length front) then None
@@ -29,7 +29,7 @@ behind_at front bytes =
 
 -- ---- the header
 
--- the magic number and the version of the format; the flags, and no bytes reserved or as comment
+-- the magic number and the version of the format; the flags, and the empty reserved and comment strings
 abbrev pub head_begin : List ℕ
 head_begin = u64_text magic ++ u32_text 1
 
@@ -49,7 +49,7 @@ head_at bytes = do
 abbrev pub run_of : ℕ → ℕ → Run
 run_of lo hi = record { lo = lo; hi = hi }
 
--- a run of one serial, or of two where the next serial follows it
+-- a run of one serial, or of two if the next serial follows it
 abbrev pub short_from : ℕ → List ℕ → Option (ℕ × List ℕ) → Run × List ℕ
 short_from lo rest None = (run_of lo lo, rest)
 short_from lo rest (Some next) = if next.0 == lo + 1 then (run_of lo next.0, next.1) else (run_of lo lo, rest)
@@ -63,7 +63,7 @@ short_at bytes = do
 abbrev pub range_begin : List ℕ
 range_begin = 0x21 ∷ u32_text 16
 
--- a range of three serials or more
+-- a range of at least three serials
 unfoldable pub long_at : List ℕ → Option (Run × List ℕ)
 long_at bytes = do
   begun ← behind_at range_begin bytes
@@ -71,7 +71,7 @@ long_at bytes = do
   hi ← u64_at lo.1
   if is_short (run_of lo.0 hi.0) then None else Some (run_of lo.0 hi.0, hi.1)
 
--- the lower of a short run that is listed and of a range, with what is left of the list and of the ranges
+-- the lower of a listed short run and a range, with the rest of the list and of the ranges
 abbrev pub lower : List ℕ → List ℕ → Option (Run × List ℕ) → Option (Run × List ℕ) → Option (Run × (List ℕ × List ℕ))
 lower listed ranges None None = None
 lower listed ranges (Some s) None = Some (s.0, (s.1, ranges))
@@ -82,7 +82,7 @@ lower listed ranges (Some s) (Some l) =
 abbrev pub run_at : List ℕ → List ℕ → Option (Run × (List ℕ × List ℕ))
 run_at listed ranges = lower listed ranges (short_at listed) (long_at ranges)
 
--- the list of the serials of the runs, and their ranges with what follows them
+-- the list of the serials of the runs, and their ranges followed by `after`
 pub record AreSplit (listed ranges : List ℕ) (rs : List Run) (after : List ℕ) : Type 0 where
   pub short : listed ≡ flat_map listed_text rs
   pub long : ranges ≡ flat_map range_text rs ++ after
@@ -94,7 +94,7 @@ abbrev pub part_if_any : ℕ → List ℕ → List ℕ
 part_if_any kind [] = []
 part_if_any kind (b ∷ bytes) = tagged_text kind (b ∷ bytes)
 
--- the data of a part of this type at the front, and what follows it; no data where no part of this type is there
+-- the data of a part of this type at the front, and the bytes after it; no data if there is no part of this type
 abbrev pub some_data : Option (List ℕ × List ℕ) → Option (List ℕ × List ℕ)
 some_data None = None
 some_data (Some x) = if length x.0 == 0 then None else Some x
@@ -106,7 +106,7 @@ data_from bytes (Some rest) = some_data (string_at rest)
 abbrev pub part_at : ℕ → List ℕ → Option (List ℕ × List ℕ)
 part_at kind bytes = data_from bytes (behind_at (kind ∷ []) bytes)
 
--- a CA, the list of the serials of its runs with the ranges and what follows them, and what follows the section
+-- a CA, the list of the serials of its runs, its ranges with what follows them, and the bytes after the section
 unfoldable pub section_at : List ℕ → Option ((List ℕ × (List ℕ × List ℕ)) × List ℕ)
 section_at bytes = do
   begun ← behind_at (1 ∷ []) bytes
@@ -117,7 +117,7 @@ section_at bytes = do
   runs ← part_at 0x20 rest
   Some ((ca, runs), data_bytes.1)
 
--- the data of a section: the key of the CA, nothing reserved, the list of serials, and the ranges with what follows
+-- the data of a section: the CA's key, an empty reserved string, the list of serials, and the ranges with what follows
 -- them
 abbrev pub section_bytes : List ℕ → List ℕ → List ℕ → List ℕ
 section_bytes ca listed ranges =
@@ -130,42 +130,42 @@ listed_bytes p = flat_map listed_text p.runs
 abbrev pub ranges_bytes : List ℕ → CaPart → List ℕ
 ranges_bytes ids p = flat_map range_text p.runs ++ part_if_any 0x23 ids
 
--- the section of a CA, with the key ids of this data
+-- the section of a CA, with this key id data
 abbrev pub whole_data : List ℕ → CaPart → List ℕ
 whole_data ids p = section_bytes p.ca (listed_bytes p) (ranges_bytes ids p)
 
 abbrev pub whole_text : List ℕ → CaPart → List ℕ
 whole_text ids p = tagged_text 1 (whole_data ids p)
 
--- a key of 32 bytes, runs, something that is revoked, and data that has a length of 32 bits
+-- a key of 32 bytes, runs, something that is revoked, and data whose length fits in 32 bits
 pub record IsWhole (ids : List ℕ) (p : CaPart) : Type 0 where
   pub key : length p.ca ≡ 32
   pub runs : AreRuns p.runs
   pub busy : p.runs ≡ [] → ids ≢ []
   pub short : IsString (whole_data ids p)
 
--- sections of at most eight CAs, with the key ids of this data
+-- sections of at most eight CAs, with this key id data
 pub record AreWhole (sections ids : List ℕ) (cas : List CaPart) : Type 0 where
   pub few : length cas ≤ 8
   pub whole : AllByRecursion (IsWhole ids) cas
   pub text : sections ≡ flat_map (whole_text ids) cas
 
--- the runs of the first part of a CA, as they are written
+-- the runs of the CA's first part, as they are written
 abbrev pub runs_under : List ℕ → List ℕ → List CaPart → Option (List ℕ × List ℕ)
 runs_under ids ca cas = option_map (λ p. (listed_bytes p, ranges_bytes ids p)) (find (λ p. bytes_eq p.ca ca) cas)
 
--- key ids that ascend behind the last one, if there is one
+-- ascending key ids that come after the last one, if there is one
 abbrev pub AscendNext : Option (List ℕ) → List (List ℕ) → Type 0
 AscendNext None ids = Ascend ids
 AscendNext (Some last) ids = AscendBehind last ids
 
--- the data of a list of key ids that ascend
+-- the data of a list of ascending key ids
 pub record AreIds (bytes : List ℕ) (ids : List (List ℕ)) : Type 0 where
   pub ascending : Ascend ids
   pub short : AllByRecursion IsString ids
   pub text : bytes ≡ flat_map string_text ids
 
--- the header and the sections of a published list, with the data of its key ids
+-- the header and the sections of a published list, and the data of its key ids
 pub record AreListed (head : KrlHead) (sections ids : List ℕ) (c : Contents) : Type 0 where
   pub lawful : AreContents c
   pub head_is : c.head ≡ head
@@ -178,11 +178,11 @@ pub record AreSections (sections bytes : List ℕ) (cas : List CaPart) (ids : Li
   pub distinct : AreDistinctCas cas
   pub key_ids : AreIds bytes ids
 
--- each serial of the part is in the runs of the other one, if it is there
+-- there is another part, and its runs contain each serial of this part
 abbrev pub IsKeptBy : CaPart → Option CaPart → Type 0
 IsKeptBy p None = ⊥
 IsKeptBy p (Some q) = (n : ℕ) → contains p.runs n ≡ true → contains q.runs n ≡ true
 
--- the serials of each part are in the part of the same CA
+-- the serials of each part are in the other list's part for the same CA
 abbrev pub ArePartsKept : List CaPart → List CaPart → Type 0
 ArePartsKept cas others = AllByRecursion (λ p. IsKeptBy p (find (λ q. bytes_eq q.ca p.ca) others)) cas

@@ -28,7 +28,7 @@ named_set ps n = list_any (names_serial n) ps
 abbrev pub parts_length : List Part → ℕ
 parts_length ps = length (flat_map part_text ps)
 
--- one or two serials
+-- whether the run has only one or two serials
 abbrev pub is_short : Run → Bool
 is_short r = nat_lt r.hi (r.lo + 2)
 
@@ -45,7 +45,7 @@ abbrev pub ranges : List Run → List Part
 ranges [] = []
 ranges (r ∷ rs) = if is_short r then ranges rs else Range r ∷ ranges rs
 
--- a list of serials, if there are any
+-- a part that lists the serials, if there are any
 abbrev pub serial_list : List ℕ → List Part
 serial_list [] = []
 serial_list (n ∷ ns) = Serials (n ∷ ns) ∷ []
@@ -58,7 +58,7 @@ serial_parts rs = serial_list (listed rs) ++ ranges rs
 abbrev pub serial_length : List Run → ℕ
 serial_length rs = parts_length (serial_parts rs)
 
--- the parts name the set of the runs, and no parts of serials that name that set have fewer bytes
+-- the parts name the set of the runs, and no other parts with serials that name this set have fewer bytes
 pub record AreShortest (parts : List Part) (rs : List Run) : Type 0 where
   pub names : (n : ℕ) → named_set parts n ≡ contains rs n
   pub shortest : (others : List Part) → ((n : ℕ) → named_set others n ≡ contains rs n)
@@ -66,7 +66,7 @@ pub record AreShortest (parts : List Part) (rs : List Run) : Type 0 where
 
 -- ---- lists
 
--- a list of the key ids, if there are any
+-- a part that lists the key ids, if there are any
 abbrev pub key_id_parts : List (List ℕ) → List Part
 key_id_parts [] = []
 key_id_parts (i ∷ ids) = KeyIds (i ∷ ids) ∷ []
@@ -98,7 +98,7 @@ published_text head cas ids = list_text (published_list head cas ids)
 abbrev pub published_length : List CaPart → List (List ℕ) → ℕ
 published_length cas ids = 44 + length (flat_map section_text (published_sections cas ids))
 
--- whether the data of the CA's section, if there is one, has a length of 32 bits
+-- whether the length of the data of the CA's section, if it has one, fits in 32 bits
 abbrev pub part_fits : List (List ℕ) → CaPart → Bool
 part_fits ids p = is_idle ids p || nat_le (length (section_data (ca_section ids p))) 4294967295
 
@@ -114,12 +114,12 @@ abbrev pub IsCaPartOf : CaPart → List CaPart → Type 0
 IsCaPartOf p [] = ⊥
 IsCaPartOf p (q ∷ qs) = (q ≡ p) ⊎ IsCaPartOf p qs
 
--- no CA has two parts
+-- no two parts have the same CA
 abbrev pub AreDistinctCas : List CaPart → Type 0
 AreDistinctCas [] = Unit {0}
 AreDistinctCas (p ∷ ps) = ((q : CaPart) → IsCaPartOf q ps → q.ca ≢ p.ca) × AreDistinctCas ps
 
--- what a list revokes is what CA parts and key ids name
+-- the list revokes exactly what the CA parts and key ids name
 pub record RevokesExactly (l : RevocationList) (cas : List CaPart) (ids : List (List ℕ)) : Type 0 where
   -- under a CA that has a part: its serials, and each of the key ids
   pub own : (p : CaPart) → IsCaPartOf p cas → (serial : ℕ) (key_id : List ℕ)
@@ -128,7 +128,7 @@ pub record RevokesExactly (l : RevocationList) (cas : List CaPart) (ids : List (
   pub others : (blob : List ℕ) → ((p : CaPart) → IsCaPartOf p cas → key_blob p.ca ≢ blob)
       → (serial : ℕ) (key_id : List ℕ) → revokes blob serial key_id l ≡ false
 
--- bytes that can be cut in one way, as this list, which is supported
+-- the bytes can be divided in only one way, as this list, which is supported
 pub record AreOnly (bytes : List ℕ) (l : RevocationList) : Type 0 where
   pub cut : IsCut bytes l
   pub one : (m : RevocationList) → IsCut bytes m → m ≡ l

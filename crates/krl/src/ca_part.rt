@@ -1,4 +1,4 @@
-//! What is revoked under one CA.
+//! The revoked serials of one CA.
 
 use crate::runs::Runs;
 

@@ -1,4 +1,4 @@
-//! What stands at the front of bytes, and what follows it.
+//! Reads the item at the front of bytes, and the bytes after it.
 
 ghost use Rattle.std.specs.Prelude.{◌≡◌, ◌++◌, ◌<◌, ◌^◌, ℕ, length, IfSome, option_copied};
 ghost use Rattle.std.specs.Option.{option_map};
@@ -12,7 +12,7 @@ use crate::field::is_same;
 use crate::krl_head::KrlHead;
 use wire::Cursor;
 
-// What follows these bytes, where they stand at the front.
+// The bytes after `front`, if they begin with it.
 pub(crate) fn behind<'a>(bytes: &'a [u8], front: &[u8]) -> Option<&'a [u8]>
     ensures reads { option_copied result ≡ behind_at front.now bytes.now }
     ensures found { IfSome result (λ r. bytes.now ≡ front.now ++ r.now) }
@@ -28,7 +28,7 @@ pub(crate) fn behind<'a>(bytes: &'a [u8], front: &[u8]) -> Option<&'a [u8]>
     }
 }
 
-// The number of 8 bytes at the front.
+// The 8-byte number at the front.
 pub(crate) fn u64_front(bytes: &[u8]) -> Option<(u64, &[u8])>
     ensures reads { option_map (λ x. (x.0, x.1.now)) result ≡ u64_at bytes.now }
     ensures found { IfSome result (λ x. bytes.now ≡ u64_text x.0 ++ x.1.now) }

@@ -1,4 +1,4 @@
-//! The key ids of a published list, one after the other.
+//! Goes through the key ids of a published list.
 
 ghost use Rattle.std.specs.Prelude.{◌≡◌, ◌↔◌, [], ◌∷◌, List, ℕ, IsTrue, option_copied, true};
 ghost use Rattle.krl.specs.Published.{is_key_id};
@@ -7,7 +7,7 @@ ghost use Rattle.krl.specs.Fronts.{AreIds, AscendNext};
 use crate::fronts::string_front;
 use std::cmp::Ordering;
 
-// Whether the key id comes behind the last one, if there is one.
+// Whether the key id comes after the last one, if there is one.
 fn comes_behind(last: Option<&[u8]>, id: &[u8]) -> bool
     ensures { IsTrue result ↔ AscendNext (option_copied last.entry) (id.now ∷ []) }
 {
@@ -17,7 +17,7 @@ fn comes_behind(last: Option<&[u8]>, id: &[u8]) -> bool
     }
 }
 
-// Whether the bytes are key ids that ascend, each with its length.
+// Whether the bytes are ascending key ids, each with its length.
 pub(crate) fn are_key_ids(bytes: &[u8]) -> bool
     ensures { IsTrue result ↔ ((ids : List (List ℕ)) × AreIds bytes.now ids) }
 {

@@ -11,8 +11,8 @@ pub enum KrlFault {
     BadVersion,
     /// The flags aren't 0.
     BadFlags,
-    /// A section, or a part of a certificates section, has a type that isn't read here.
+    /// A section, or a part of a certificates section, has an unsupported type.
     Unsupported(u8),
-    /// A section's data isn't of its form.
+    /// A section's data is malformed.
     BadSection,
 }

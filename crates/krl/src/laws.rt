@@ -1,4 +1,4 @@
-//! Laws of runs, and of published lists.
+//! Theorems about runs and published lists.
 
 ghost use Rattle.std.specs.Prelude.{◌≡◌, ◌↔◌, ◌&&◌, ◌+◌, ◌≤◌, ◌^◌, Bool, List, ℕ};
 ghost use Rattle.krl.specs.declared.run.Run.{Run};
@@ -10,7 +10,7 @@ ghost use Rattle.krl.specs.Published.{published_text};
 ghost use Rattle.krl.specs.Contents.{AreContents, AreReadBack, Contents, ForgetsNothing, IsPublished, KeepsEachPair};
 ghost use Rattle.krl.specs.Contents.{Publishes, list_of};
 
-/// The runs of a set are its intervals that can't be made longer, and all of these.
+/// The runs of a set are exactly its maximal intervals.
 pub fn runs_are_maximal()
     ensures each { (rs : List Run) (r : Run) → AreRuns rs → IsOneOf r rs → IsRunOf (contains rs) r }
     ensures all { (rs : List Run) (r : Run) → AreRuns rs → IsRunOf (contains rs) r → IsOneOf r rs }
@@ -21,7 +21,7 @@ pub fn runs_are_one()
     ensures { (rs qs : List Run) → AreRuns rs → AreRuns qs → ((n : ℕ) → contains rs n ≡ contains qs n) → rs ≡ qs }
 {}
 
-/// The serials of a set, `count` of them from `from` on, have their runs, and no others.
+/// The serials of a set, among `count` serials from `from` on, have their runs, and no others.
 pub fn a_set_has_its_runs()
     ensures runs { (set : ℕ → Bool) (from count : ℕ) → from + count ≤ 2 ^ 64 → AreRuns (runs_in set from count) }
     ensures contains { (set : ℕ → Bool) (from count n : ℕ) → from + count ≤ 2 ^ 64
@@ -30,28 +30,28 @@ pub fn a_set_has_its_runs()
         → ((n : ℕ) → contains rs n ≡ (is_counted from count n && set n)) → rs ≡ runs_in set from count }
 {}
 
-/// Bytes publish one list alone: a text tells the head, the parts of the CAs that have a section, and the key ids. The
-/// list tells the text, so lists that are read alike have the same bytes.
+/// Bytes are the text of only one list: a text determines the head, the parts of the CAs that have a section, and the
+/// key ids. The list determines its text, so lists with the same contents have the same bytes.
 pub fn a_text_has_one_list()
     ensures list { (bytes : List ℕ) (c d : Contents) → Publishes bytes c → Publishes bytes d → c ≡ d }
     ensures text { (a b : List ℕ) (c : Contents) → Publishes a c → Publishes b c → a ≡ b }
 {}
 
-/// What is written of at most eight CAs, of which no two are one, and of key ids that ascend by their bytes, is a
-/// published list.
+/// The text that is written for at most eight different CAs and for key ids in ascending byte order is a published
+/// list.
 pub fn what_is_written_is_read()
     ensures { (head : KrlHead) (cas : List CaPart) (ids : List (List ℕ)) → AreReadBack head cas ids
         → IsPublished (published_text head cas ids) }
 {}
 
-/// A list forgets nothing of itself. What forgets nothing of a list forgets nothing of those of which that list forgets
-/// nothing: where each list forgets nothing of the one before it, what is revoked only grows.
+/// A list forgets nothing of itself, and forgetting nothing is transitive: if each list forgets nothing of the one
+/// before it, the set of revocations only grows.
 pub fn revocations_only_grow()
     ensures same { (a : RevocationList) → ForgetsNothing a a }
     ensures on { (a b c : RevocationList) → ForgetsNothing a b → ForgetsNothing b c → ForgetsNothing a c }
 {}
 
-/// To forget nothing is to keep each pair of CA and serial, and each pair of CA and key id.
+/// Forgetting nothing means keeping each pair of CA and serial, and each pair of CA and key id.
 pub fn nothing_is_forgotten_by_pairs()
     ensures { (old new : Contents) → AreContents old → AreContents new
         → ForgetsNothing (list_of old) (list_of new) ↔ KeepsEachPair old new }

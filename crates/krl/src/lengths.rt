@@ -1,4 +1,4 @@
-//! Lengths of what is written.
+//! Lengths of the written list.
 
 ghost use Rattle.std.specs.Prelude.{◌≡◌, ◌==◌, ◌&&◌, ◌+◌, ◌*◌, ◌<◌, ◌≤◌, ℕ, length, IfSome, IsTrue, if◌then◌else◌};
 ghost use Rattle.std.specs.List.{sum_by};
@@ -13,7 +13,7 @@ use crate::run::Run;
 use lines::key_blob_of;
 use text::{Text, Texts};
 
-/// The most data bytes that a section or a part has: its length is a number of 4 bytes.
+/// The most data bytes that a section or a part may have: its length is a 4-byte number.
 const MAX_DATA: u64 = 4294967295;
 
 // The length, if a part or a section may have it.
@@ -23,7 +23,7 @@ fn within_limit(len: u64) -> Option<u64>
     if len > MAX_DATA { None } else { Some(len) }
 }
 
-// The length of a part's type, length and data, where there is data.
+// The length of a part (type, length and data), if there is data.
 fn tagged_len(content: u64) -> u64
     requires { content ≤ 4294967295 }
     ensures value { result ≡ tagged_length content }
@@ -66,7 +66,7 @@ fn key_id_len(id: &Text) -> u64
     4 + id.as_slice().len() as u64
 }
 
-// The length of the key ids, each with its length.
+// The length of the key ids, each with its length field.
 pub(crate) fn key_ids_len(ids: &[Text]) -> Option<u64>
     ensures { SomeIff result (sum_by key_id_length ids.now ≤ 4294967295) (sum_by key_id_length ids.now) }
 {
@@ -133,7 +133,7 @@ fn section_len(part: &CaPart, ids: &[Text]) -> Option<u64>
 }
 
 /// The length in bytes of the list that is written for these CAs and key ids, whatever its version and date. `None`
-/// exactly where a section's data would have more than 4294967295 bytes. At most 8 parts are taken. It takes no
+/// exactly if a section's data would have more than 4294967295 bytes. At most 8 parts are allowed. Allocates no
 /// memory.
 pub fn krl_len(parts: &[CaPart], ids: &Texts) -> Option<u64>
     requires { length parts.now ≤ 8 }

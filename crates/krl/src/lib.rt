@@ -1,4 +1,4 @@
-//! The key revocation list of OpenSSH: sets of serials as runs, the list's writer and its reader.
+//! OpenSSH key revocation lists: sets of serials as runs, and the list's writer and reader.
 #![tactic(auto)]
 
 mod ca_part;

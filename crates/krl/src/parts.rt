@@ -1,4 +1,4 @@
-//! The parts of a certificates section, read.
+//! Reads the parts of a certificates section.
 
 ghost use Rattle.std.specs.Prelude.{◌≡◌, ◌≢◌, ◌==◌, ◌++◌, ◌<◌, ◌^◌, [], List, ℕ, IfSome, IfNone, IfOk, IfErr};
 ghost use Rattle.std.specs.List.{flat_map, AllByRecursion};
@@ -24,7 +24,7 @@ pub(crate) const SERIAL_RANGE: u8 = 0x21;
 /// The type of a part that lists key ids (`KRL_SECTION_CERT_KEY_ID`).
 pub(crate) const KEY_ID_LIST: u8 = 0x23;
 
-// Whether a serial list has the serial. `None` where the data is no serials.
+// Whether a serial list has the serial. `None` if the data isn't a list of serials.
 fn serials_name(bytes: &[u8], serial: u64) -> Option<bool>
     ensures found { IfSome result (λ b. AreItems u64_text IsU64 (λ n. serial == n) bytes.now b) }
     ensures none { IfNone result ((ns : List ℕ) → AllByRecursion IsU64 ns → bytes.now ≢ flat_map u64_text ns) }
@@ -40,7 +40,7 @@ fn serials_name(bytes: &[u8], serial: u64) -> Option<bool>
     Some(named)
 }
 
-// Whether a range has the serial. `None` where the data is no range.
+// Whether a range has the serial. `None` if the data isn't a range.
 fn range_names(bytes: &[u8], serial: u64) -> Option<bool>
     ensures found { IfSome result (λ b. (r : Run) × (r.lo < 2 ^ 64) × (r.hi < 2 ^ 64)
         × (bytes.now ≡ u64_text r.lo ++ u64_text r.hi) × (b ≡ is_within serial r)) }
@@ -60,7 +60,7 @@ fn range_names(bytes: &[u8], serial: u64) -> Option<bool>
     Some(Run { lo, hi }.has(serial))
 }
 
-// Whether a key id list has the key id. `None` where the data is no key ids, one or more.
+// Whether a key id list has the key id. `None` if the data isn't a list of at least one key id.
 fn key_ids_name(bytes: &[u8], key_id: &[u8]) -> Option<bool>
     ensures some { IfSome result (λ b. bytes.now ≢ []) }
     ensures found { IfSome result (λ b. AreItems string_text IsString (λ i. bytes_eq i key_id.now) bytes.now b) }
@@ -81,7 +81,7 @@ fn key_ids_name(bytes: &[u8], key_id: &[u8]) -> Option<bool>
     Some(named)
 }
 
-// Whether the part of this type and data names the serial or the key id.
+// Whether the part with this type and data names the serial or the key id.
 fn data_names(kind: u8, bytes: &[u8], serial: u64, key_id: &[u8]) -> Result<bool, KrlFault>
     requires { IsString bytes.now }
     ensures found { IfOk result (ReadsPartData kind bytes.now serial key_id.now) }
@@ -107,7 +107,7 @@ fn read_part(cursor: &mut Cursor<'_>, serial: u64, key_id: &[u8]) -> Result<bool
     data_names(kind, data, serial, key_id)
 }
 
-// Reads parts, one or more, to the end: whether one of them names the serial or the key id.
+// Reads one or more parts, to the end: whether one of them names the serial or the key id.
 pub(crate) fn read_parts(
     cursor: &mut Cursor<'_>,
     serial: u64,

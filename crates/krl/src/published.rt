@@ -1,4 +1,4 @@
-//! Published lists, read where they lie, and compared.
+//! Published lists, read in place and compared.
 
 ghost use Rattle.std.specs.Prelude.{◌≡◌, ◌↔◌, [], List, ℕ, IfSome, IsSome, IsTrue, option_copied};
 ghost use Rattle.std.specs.List.{flat_map, AllByRecursion};
@@ -13,8 +13,8 @@ use crate::runs_left::keeps_runs;
 use crate::sections::{are_among, are_distinct, are_whole, runs_of_ca, section_front, whole_front};
 use std::marker::Model;
 
-/// A published list, read where its bytes lie. Contracts see it as these bytes: `Publishes` says what they publish, and
-/// there is one list alone that they do (`a_text_has_one_list`).
+/// A published list, read in place. Contracts see it as its bytes: `Publishes` says what they publish, and they publish
+/// only one list (`a_text_has_one_list`).
 #[derive(Drop)]
 pub struct PublishedList<'a> {
     head: KrlHead,
@@ -47,7 +47,7 @@ impl<'a> PublishedList<'a> {
         self.head
     }
 
-    /// Whether each CA that has a section is one of these, of whose keys the 32 bytes are given.
+    /// Whether each CA that has a section is one of these, given by the 32 bytes of their keys.
     pub fn has_only(&self, keys: &[[u8; 32]]) -> bool
         ensures { (c : Contents) → Publishes self.now c → result ≡ are_cas_among keys.now c }
     {
@@ -55,7 +55,7 @@ impl<'a> PublishedList<'a> {
     }
 }
 
-// The data of the key ids of the first section, and none where there is no section.
+// The data of the key ids of the first section; no data if there is no section.
 fn first_key_ids(sections: &[u8]) -> Option<&[u8]>
     ensures none { sections.now ≡ [] → option_copied result ≡ Some [] }
     ensures only { (ids : List ℕ) (cas : List CaPart) → AreWhole sections.now ids cas → (cas ≡ [] → ids ≡ [])
@@ -68,7 +68,7 @@ fn first_key_ids(sections: &[u8]) -> Option<&[u8]>
     Some(key_ids)
 }
 
-// Whether these are the sections of a published list with the key ids of this data.
+// Whether these are the sections of a published list with this key id data.
 fn are_sections(sections: &[u8], key_ids: &[u8]) -> bool
     ensures { IsTrue result ↔ ((cas : List CaPart) × (ids : List (List ℕ))
         × AreSections sections.now key_ids.now cas ids) }
@@ -76,9 +76,9 @@ fn are_sections(sections: &[u8], key_ids: &[u8]) -> bool
     are_whole(sections, key_ids) && are_distinct(sections) && are_key_ids(key_ids)
 }
 
-/// Reads a list that was published: what `write_krl` writes of at most eight CAs, of which no two are one, and of key
-/// ids that ascend by their bytes. The CAs that are read are those that have a section. Any other bytes are `None`, and
-/// so are lists of OpenSSH that say the same in another way. The bytes are borrowed; it takes no memory.
+/// Reads a published list: what `write_krl` writes for at most eight different CAs and for key ids in ascending byte
+/// order. The CAs that it returns are those that have a section. It returns `None` for any other bytes, including
+/// OpenSSH lists that revoke the same in another form. The bytes are borrowed, and no memory is allocated.
 pub fn read_published(bytes: &[u8]) -> Option<PublishedList<'_>>
     ensures found { IfSome result (λ l. l ≡ bytes.now) }
     ensures exact { IsSome result ↔ IsPublished bytes.now }
@@ -115,7 +115,7 @@ fn keeps_sections(old: &[u8], new: &[u8]) -> bool
 }
 
 /// Whether the new list revokes each pair of CA and serial, and each pair of CA and key id, that the old one revokes.
-/// It takes no memory, and a time that grows with the lengths of both.
+/// Allocates no memory; the time grows with the lengths of both.
 pub fn forgets_nothing(old: &PublishedList<'_>, new: &PublishedList<'_>) -> bool
     ensures { (o n : Contents) → Publishes old.now o → Publishes new.now n
         → IsTrue result ↔ ForgetsNothing (list_of o) (list_of n) }

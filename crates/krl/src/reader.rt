@@ -72,7 +72,7 @@ fn read_section(
     read_certificates(data, blob, serial, key_id)
 }
 
-// Reads a number of 8 bytes that has to be this one.
+// Reads an 8-byte number that has to be this one.
 fn expect_u64(cursor: &mut Cursor<'_>, wanted: u64, refusal: KrlFault) -> Result<(), KrlFault>
     ensures found { OnOk result (cursor.old ≡ u64_text wanted ++ cursor.new) }
     ensures fault { IfErr result (FieldFault u64_text IsU64 KrlFault.Truncated
@@ -102,7 +102,7 @@ fn expect_version(cursor: &mut Cursor<'_>) -> Result<(), KrlFault>
     Ok(())
 }
 
-// Reads any number of 8 bytes.
+// Reads any 8-byte number.
 fn skip_u64(cursor: &mut Cursor<'_>) -> Result<u64, KrlFault>
     ensures found { IfOk result (λ n. cursor.old ≡ u64_text n ++ cursor.new) }
     ensures fault { IfErr result (FieldFault u64_text IsU64 KrlFault.Truncated accepted NothingAfter cursor.old) }
@@ -169,15 +169,15 @@ fn read_list(bytes: &[u8], blob: &[u8], serial: u64, key_id: &[u8]) -> Result<bo
     read_sections(&mut cursor, blob, serial, key_id)
 }
 
-/// Whether the list (OpenSSH PROTOCOL.krl) revokes the certificate of this serial and key id under this CA, of whose
-/// key the 32 bytes are given. The whole list is read before the answer. It takes no memory.
+/// Whether the list (OpenSSH PROTOCOL.krl) revokes the certificate with this serial and key id under this CA, given by
+/// the 32 bytes of its key. The whole list is read before the result is returned. Allocates no memory.
 ///
 /// A list may have any version and date, and any bytes in its reserved and comment strings. Sections and parts may
-/// repeat. An empty serial list and a range that ends before it begins name nothing.
+/// repeat. An empty serial list, and a range that ends before it begins, name nothing.
 ///
 /// # Errors
 ///
-/// The list's first fault from the left. `KrlFault` says what each is.
+/// The list's first fault from the left. See `KrlFault` for each.
 pub fn check(bytes: &[u8], ca: &[u8; 32], serial: u64, key_id: &[u8]) -> Result<bool, KrlFault>
     ensures found { IfOk result (ReadsList bytes.now (key_blob ca.now) serial key_id.now) }
     ensures only { (l : RevocationList) → IsCut bytes.now l → is_supported l ≡ true

@@ -59,7 +59,7 @@ impl Run {
         self.hi < other.lo && other.lo - self.hi > 1
     }
 
-    /// What the run has from one serial on and below the bound.
+    /// The part of the run that is at or above one serial and below the bound.
     pub(crate) fn cut_to(self, from: u64, before: Option<u64>) -> Option<Run>
         ensures { result ≡ cut_run from before self }
     {

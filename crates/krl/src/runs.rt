@@ -37,8 +37,8 @@ impl Model for Runs {
 impl Runs {
     ghost use Rattle.krl.specs.Published.{serial_length};
 
-    /// The runs of a vector, which is taken and not copied. `None`, the vector being dropped, exactly where one of
-    /// them ends before it begins, or they don't ascend with a serial between any two.
+    /// The runs of a vector, which is moved and not copied. `None`, with the vector dropped, exactly if one of them
+    /// ends before it begins, or if they don't ascend with a serial between any two.
     pub fn from_runs(runs: Vec<Run>) -> Option<Runs>
         ensures kept { IfSome result (λ r. r ≡ runs.items) }
         ensures lawful { IsSome result ↔ AreRuns runs.items }
@@ -59,14 +59,14 @@ impl Runs {
     }
 
     /// The length in bytes of the parts that a list writes for these serials, with types and lengths. `None` exactly
-    /// where it is over 4294967295.
+    /// if it is over 4294967295.
     pub fn serial_len(&self) -> Option<u64>
         ensures { SomeIff result (serial_length self.now ≤ 4294967295) (serial_length self.now) }
     {
         serials_len(self.runs.as_slice())
     }
 
-    /// Whether each serial from `lo` to `hi`, both included, is in the set. `lo` is at most `hi`.
+    /// Whether each serial from `lo` to `hi`, both included, is in the set. Requires `lo` ≤ `hi`.
     pub fn has_all(&self, lo: u64, hi: u64) -> bool
         requires { lo ≤ hi }
         ensures { IsTrue result ↔ HasAll (contains self.now) lo hi }
@@ -74,12 +74,12 @@ impl Runs {
         covers(self.runs.as_slice(), lo, hi)
     }
 
-    /// Adds the serials from `lo` to `hi`, both included, where 1 ≤ `lo` ≤ `hi` ≤ 9223372036854775806. Answers whether
+    /// Adds the serials from `lo` to `hi`, both included, with 1 ≤ `lo` ≤ `hi` ≤ 9223372036854775806. Returns whether
     /// the set changed.
     ///
     /// # Errors
     ///
-    /// `NoMemory`, where a growth was refused. The set is as it was.
+    /// `NoMemory`, if an allocation was refused. The set is unchanged.
     pub fn add_range(&mut self, alloc: Global, lo: u64, hi: u64) -> Result<bool, NoMemory>
         requires low { 1 ≤ lo }
         requires order { lo ≤ hi }
@@ -98,12 +98,12 @@ impl Runs {
         Ok(true)
     }
 
-    /// The set cut at the numbers of `since`, which don't descend: for each place the serials that reach its number and
-    /// the number of no later place. A serial below all of them goes to no place.
+    /// The set cut at the numbers of `since`, which don't descend: for each place the serials that reach its number but
+    /// the number of no later place. A serial below all of them belongs to no place.
     ///
     /// # Errors
     ///
-    /// `NoMemory`, where a growth was refused.
+    /// `NoMemory`, if an allocation was refused.
     pub fn split(&self, alloc: Global, since: &[u64]) -> Result<Vec<Runs>, NoMemory>
         requires { IsNonDecreasing since.now }
         ensures places { IfOk result (λ v. vec_len v ≡ length since.now) }
@@ -121,7 +121,7 @@ impl Runs {
     }
 }
 
-// The serials that reach the number at the place, and the number of no later place.
+// The serials that reach the number at the place, but the number of no later place.
 fn part_at(alloc: Global, runs: &[Run], since: &[u64], place: usize) -> Result<Vec<Run>, NoMemory>
     requires runs { AreRuns runs.now }
     requires ascending { IsNonDecreasing since.now }
@@ -139,7 +139,7 @@ fn number_at(numbers: &[u64], place: usize) -> Option<u64>
     numbers.get(place).copied()
 }
 
-// What the runs have from one serial on and below the bound.
+// The parts of the runs that are at or above one serial and below the bound.
 fn between(
     alloc: Global,
     runs: &[Run],
@@ -177,7 +177,7 @@ fn count_begun(runs: &[Run], serial: u64) -> usize
     runs.partition_point(|run| run.lo <= serial)
 }
 
-// Whether one of the runs has the whole interval: that is the last of those that begin at or below it.
+// Whether one of the runs covers the whole interval: that can only be the last one that begins at or below it.
 fn covers(runs: &[Run], lo: u64, hi: u64) -> bool
     requires { AreRuns runs.now }
     ensures { result ≡ list_any (λ r. nat_le r.lo lo && nat_le hi r.hi) runs.now }
@@ -205,7 +205,7 @@ fn are_runs(runs: &[Run]) -> bool
     true
 }
 
-// The runs of the set that has the interval too.
+// The runs of the set with the interval added.
 fn joined(alloc: Global, runs: &[Run], with: Run) -> Result<Vec<Run>, NoMemory>
     requires runs { AreRuns runs.now }
     requires order { with.lo ≤ with.hi }
@@ -231,11 +231,11 @@ fn joined(alloc: Global, runs: &[Run], with: Run) -> Result<Vec<Run>, NoMemory>
     Ok(out)
 }
 
-/// The set of serials that ascend strictly.
+/// The set of strictly ascending serials.
 ///
 /// # Errors
 ///
-/// `NoMemory`, where a growth was refused.
+/// `NoMemory`, if an allocation was refused.
 pub fn runs_of(alloc: Global, serials: &[u64]) -> Result<Runs, NoMemory>
     requires { IsStrictlyIncreasing serials.now }
     ensures { IfOk result (λ r. (n : ℕ) → contains r n ≡ is_among serials.now n) }

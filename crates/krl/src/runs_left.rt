@@ -1,4 +1,4 @@
-//! The runs of a published section, one after the other.
+//! Reads the runs of a published section.
 
 ghost use Rattle.std.specs.Prelude.{◌≡◌, ◌++◌, ◌+◌, ◌<◌, ◌≤◌, ◌^◌, ◌↔◌, List, ℕ, length, true, false};
 ghost use Rattle.std.specs.Prelude.{IfSome, IsTrue};
@@ -13,7 +13,7 @@ ghost use Rattle.krl.specs.Fronts.{AreSplit, behind_at, long_at, range_begin, ru
 use crate::fronts::{behind, u64_front};
 use crate::run::Run;
 
-// The runs that are left: the list of the serials of the short ones, and the ranges of the others with what follows
+// The runs that remain: the list of the serials of the short ones, and the ranges of the others with what follows
 // them.
 #[derive(Clone, Copy)]
 pub(crate) struct RunsLeft<'a> {
@@ -37,7 +37,7 @@ fn short_front(bytes: &[u8]) -> Option<(Run, &[u8])>
     }
 }
 
-// The range of three serials or more at the front.
+// The range of at least three serials at the front.
 #[tactic(auto, unfolding(crate::specs::Fronts::long_at))]
 fn long_front(bytes: &[u8]) -> Option<(Run, &[u8])>
     ensures reads { option_map (λ x. (x.0, x.1.now)) result ≡ long_at bytes.now }
@@ -57,7 +57,7 @@ fn long_front(bytes: &[u8]) -> Option<(Run, &[u8])>
     }
 }
 
-// The lowest run that is left, and the others.
+// The lowest run that remains, and the others.
 pub(crate) fn next_run(left: RunsLeft<'_>) -> Option<(Run, RunsLeft<'_>)>
     ensures reads { option_map (λ x. (x.0, (x.1.listed.now, x.1.ranges.now))) result
         ≡ run_at left.entry.listed.now left.entry.ranges.now }
@@ -81,7 +81,7 @@ pub(crate) fn next_run(left: RunsLeft<'_>) -> Option<(Run, RunsLeft<'_>)>
     }
 }
 
-// Whether the run may come behind the last one, if there is one.
+// Whether the run may come after the last one, if there is one.
 fn may_follow(last: Option<Run>, run: Run) -> bool
     ensures { IsTrue result ↔ (option_map_or (λ r. r.hi + 2) last 0 ≤ run.lo) }
 {
@@ -91,7 +91,7 @@ fn may_follow(last: Option<Run>, run: Run) -> bool
     }
 }
 
-// What follows the runs, where all are runs that ascend with a serial between any two.
+// The bytes after the runs, if all are runs that ascend with a serial between any two.
 pub(crate) fn behind_runs(left: RunsLeft<'_>) -> Option<&[u8]>
     ensures found { IfSome result (λ after. (rs : List Run) × AreRuns rs
         × AreSplit left.entry.listed.now left.entry.ranges.now rs after.now) }

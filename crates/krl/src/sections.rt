@@ -1,4 +1,4 @@
-//! The sections of a published list, one after the other.
+//! Goes through the sections of a published list.
 
 ghost use Rattle.std.specs.Prelude.{◌≡◌, ◌++◌, ◌<◌, ◌↔◌, List, ℕ, length, IfSome, IsTrue};
 ghost use Rattle.std.specs.Option.{option_map};
@@ -17,17 +17,17 @@ use crate::reader::CERTIFICATES;
 use crate::runs_left::{RunsLeft, behind_runs};
 use lines::read_key_blob;
 
-/// The most CAs that a published list has sections of.
+/// The largest number of CAs whose sections a published list has.
 const MAX_CAS: usize = 8;
 
-// A section that was cut off: its CA, and its runs with what follows them.
+// A section that was cut off the front: its CA, and its runs with what follows them.
 #[derive(Clone, Copy)]
 pub(crate) struct Section<'a> {
     pub ca: [u8; 32],
     pub runs: RunsLeft<'a>,
 }
 
-// The data of a part of this type at the front, or no data where no part of this type is there.
+// The data of a part of this type at the front; no data if there is no part of this type.
 pub(crate) fn part_front(bytes: &[u8], kind: u8) -> Option<(&[u8], &[u8])>
     ensures reads { option_map (λ x. (x.0.now, x.1.now)) result ≡ part_at kind bytes.now }
     ensures found { IfSome result (λ x. bytes.now ≡ part_if_any kind x.0.now ++ x.1.now) }
@@ -63,7 +63,7 @@ pub(crate) fn section_front(bytes: &[u8]) -> Option<(Section<'_>, &[u8])>
     Some((Section { ca, runs }, rest))
 }
 
-// The section at the front, read to its end: the data of its key ids, and what follows the section.
+// The section at the front, read to its end: the data of its key ids, and the bytes after the section.
 pub(crate) fn whole_front(bytes: &[u8]) -> Option<(&[u8], &[u8])>
     ensures found { IfSome result (λ x. (p : CaPart) × IsWhole x.0.now p
         × (bytes.now ≡ whole_text x.0.now p ++ x.1.now)) }
@@ -81,7 +81,7 @@ pub(crate) fn whole_front(bytes: &[u8]) -> Option<(&[u8], &[u8])>
     Some((key_ids, rest))
 }
 
-// Whether these are whole sections with the key ids of this data, of at most eight CAs.
+// Whether these are whole sections with this key id data, of at most eight CAs.
 pub(crate) fn are_whole(sections: &[u8], key_ids: &[u8]) -> bool
     ensures { IsTrue result ↔ ((cas : List CaPart) × AreWhole sections.now key_ids.now cas) }
 {
@@ -100,7 +100,7 @@ pub(crate) fn are_whole(sections: &[u8], key_ids: &[u8]) -> bool
     true
 }
 
-// The runs of the first section of the CA.
+// The runs of the CA's first section.
 pub(crate) fn runs_of_ca<'a>(sections: &'a [u8], ca: &[u8; 32]) -> Option<RunsLeft<'a>>
     ensures { (ids : List ℕ) (cas : List CaPart) → AllByRecursion (IsWhole ids) cas
         → sections.now ≡ flat_map (whole_text ids) cas
@@ -131,7 +131,7 @@ pub(crate) fn are_distinct(sections: &[u8]) -> bool
     true
 }
 
-// Whether each section is of one of these CAs.
+// Whether each section belongs to one of these CAs.
 pub(crate) fn are_among(sections: &[u8], keys: &[[u8; 32]]) -> bool
     ensures { (ids : List ℕ) (cas : List CaPart) → AllByRecursion (IsWhole ids) cas
         → sections.now ≡ flat_map (whole_text ids) cas

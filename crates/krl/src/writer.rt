@@ -252,16 +252,16 @@ fn write_list<W: Sink>(
 }
 
 /// Writes a key revocation list (OpenSSH PROTOCOL.krl): a header, and a section for each CA that has revoked serials,
-/// or for every CA once a key id is revoked. In a section one list has the serials of the runs of one or two serials,
-/// each longer run is a range, and one list has the key ids, in the order given. It takes no memory, and writes in many
-/// small pieces: let the writer collect them.
+/// or for every CA once a key id is revoked. In a section, one list has the serials of the runs of one or two serials,
+/// each longer run is a range, and one list has the key ids, in the given order. It allocates no memory, and writes
+/// many small pieces: let the writer buffer them.
 ///
 /// No section's data may have more than 4294967295 bytes, which `krl_len` tests. Two parts of one CA become two
 /// sections.
 ///
 /// # Errors
 ///
-/// `Write`, exactly where the writer failed in this call. The writer then took a beginning of the list.
+/// `Write`, exactly if the writer failed in this call. The writer then took a prefix of the list.
 pub fn write_krl<W: Sink>(
     head: &KrlHead,
     parts: &[CaPart],
@@ -277,17 +277,17 @@ pub fn write_krl<W: Sink>(
         (AppendsBeginning (W.taken sink.old) (W.taken sink.new) (published_text head.now parts.now ids.now)) }
     ensures failed { W.failed sink.new ≡ (if is_ok result then W.failed sink.old else W.failed sink.old + 1) }
 
-    // A writer that has the room does not fail.
+    // A writer that has the room doesn't fail.
     ensures sure { published_length parts.now ids.now ≤ W.room sink.old → IsOk result }
 
     // What was written has as many bytes as `krl_len` says.
     ensures len { length (published_text head.now parts.now ids.now) ≡ published_length parts.now ids.now }
 
-    // It can be cut in one way, and that is supported.
+    // It can be divided in only one way, and as a supported list.
     ensures one_cut { OnOk result
         (AreOnly (published_text head.now parts.now ids.now) (published_list head.now parts.now ids.now)) }
 
-    // It revokes just the serials and key ids that were given, each under its CA.
+    // It revokes exactly the given serials and key ids, each under its CA.
     ensures exact { AreDistinctCas parts.now
         → OnOk result (RevokesExactly (published_list head.now parts.now ids.now) parts.now ids.now) }
 

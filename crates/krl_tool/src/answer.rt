@@ -1,4 +1,4 @@
-//! What is answered of a certificate.
+//! The answer for a certificate.
 
 use krl::KrlFault;
 use std::fmt;

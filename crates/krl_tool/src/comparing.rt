@@ -1,4 +1,4 @@
-//! Lists compared.
+//! Comparing lists.
 
 ghost use Rattle.std.specs.Prelude.{◌≡◌, ◌↔◌, IfSome, IsTrue, option_copied, Some};
 ghost use Rattle.krl.specs.Contents.{Contents, ForgetsNothing, Publishes, list_of};
@@ -8,7 +8,7 @@ use krl::{forgets_nothing, read_published};
 use std::fs;
 use std::rt::Files;
 
-/// Whether the new list keeps all that the old one revokes. `None` where one of the two is no published list.
+/// Whether the new list keeps everything that the old one revokes. `None` if one of the two isn't a published list.
 fn keeps(old: &[u8], new: &[u8]) -> Option<bool>
     ensures { IfSome result (λ kept. (o n : Contents) → Publishes old.now o → Publishes new.now n
         → IsTrue kept ↔ ForgetsNothing (list_of o) (list_of n)) }
@@ -18,8 +18,8 @@ fn keeps(old: &[u8], new: &[u8]) -> Option<bool>
     Some(forgets_nothing(&old, &new))
 }
 
-/// Prints a line for each list but the first: `keeps` if it revokes all that the one before it does, `forgets` if it
-/// doesn't, and `not published` if one of the two is no published list.
+/// Prints a line for each list but the first: `keeps` if it revokes everything that the one before it does, `forgets`
+/// if it doesn't, and `not published` if one of the two isn't a published list.
 pub(crate) fn compare<R: Files + Print + AllocGlobal>(rt: &R, files: &[&str]) -> Result<()> {
     let Some((first, others)) = files.split_first() else {
         bail!("no list");

@@ -1,4 +1,4 @@
-//! Sets of serials gathered at once.
+//! Sets of serials, gathered in one step.
 
 ghost use Rattle.std.specs.List.Sorted.{IsStrictlyIncreasing};
 
@@ -6,7 +6,7 @@ use anyhow::{Result, bail};
 use krl::runs_of;
 use text::NoMemory;
 
-// Each serial once, ascending.
+// Sorts the serials, ascending, and removes duplicates.
 fn sort_once(serials: &mut Vec<u64>)
     ensures { IsStrictlyIncreasing serials.new.items }
 {
@@ -14,8 +14,8 @@ fn sort_once(serials: &mut Vec<u64>)
     serials.dedup();
 }
 
-/// Prints the runs of these serials, given in any order, ascending: each as `LO-HI` on a line of its own. Where memory
-/// is refused, nothing is printed.
+/// Prints the runs of these serials, which are given in any order: ascending, one `LO-HI` per line. If memory is
+/// refused, nothing is printed.
 pub(crate) fn gather<R: Print + AllocGlobal>(rt: &R, words: &[&str]) -> Result<()> {
     let mut serials: Vec<u64> = Vec::with_capacity(rt.alloc(), words.len())?;
     for word in words {

@@ -9,10 +9,10 @@ use std::alloc::Global;
 use text::Texts;
 use wire::VecSink;
 
-/// The most CAs of which a list is made.
+/// The largest number of CAs in a list.
 const MAX_CAS: usize = 8;
 
-/// The bytes of a list. It is refused for more than eight CAs, and where a section would be too long.
+/// The bytes of a list. It is refused for more than eight CAs, and if a section would be too long.
 pub(crate) fn list_of(
     alloc: Global,
     head: &KrlHead,

@@ -1,4 +1,4 @@
-//! Key revocation lists made, asked and timed from the command line.
+//! Makes, checks, compares and times key revocation lists from the command line.
 //!
 //!     krl_tool list SPECIFICATION VERSION DATE
 //!     krl_tool check LIST KEY SERIAL KEYID
@@ -8,10 +8,10 @@
 //!     krl_tool gather SERIAL..
 //!
 //! `list` writes the list of a specification to standard output. `check` prints whether a list revokes the certificate
-//! of this serial and key id under the CA of a public key, or why the list is refused. `compare` prints of each list but
-//! the first whether it keeps all that the one before it revokes. `time` writes a list of so many runs into memory and
-//! reads it again, and `add` adds so many serials to a set; how long that took goes to standard error. `gather` prints
-//! the runs of the serials that it is given. Files and the clock are the system's, and nothing is proved of them.
+//! with this serial and key id under the CA of a public key, or why the list is refused. `compare` prints for each list
+//! but the first whether it keeps everything that the one before it revokes. `time` writes a list of RUNS runs and
+//! reads it back, and `add` adds SERIALS serials to a set; both print the time taken to standard error. `gather`
+//! prints the runs of the given serials. Files and the clock are the system's, and nothing is proved about them.
 #![tactic(auto)]
 
 mod answer;

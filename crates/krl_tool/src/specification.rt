@@ -6,19 +6,19 @@ use lines::read_key_line;
 use std::alloc::Global;
 use text::{Text, Texts};
 
-/// What a list is to revoke.
+/// The revocations that a list is to have.
 #[derive(Drop)]
 pub(crate) struct Specification {
-    /// The serials of each CA.
+    /// The serials under each CA.
     pub parts: Vec<CaPart>,
-    /// The key ids, of every CA.
+    /// The key ids, which apply to every CA.
     pub key_ids: Texts,
 }
 
 // One line.
 #[derive(Clone, Copy)]
 enum Line<'a> {
-    // The CA of the serials that follow.
+    // The CA of the serials that follow it.
     Ca([u8; 32]),
     Serials(Run),
     KeyId(&'a str),
@@ -31,14 +31,14 @@ struct Draft {
     key_ids: Vec<Text>,
 }
 
-// The serials of one CA, as they were read.
+// The serials of one CA, in the order in which they were read.
 #[derive(Drop)]
 struct Section {
     ca: [u8; 32],
     runs: Vec<Run>,
 }
 
-/// The key of the line of a public key.
+/// The key of a public-key line.
 pub(crate) fn read_key(alloc: Global, line: &str) -> Result<[u8; 32]> {
     match read_key_line(alloc, line.as_bytes()) {
         Ok(read) => Ok(read.key),
@@ -96,8 +96,8 @@ fn parts_of(alloc: Global, sections: Vec<Section>) -> Result<Vec<CaPart>> {
     Ok(parts)
 }
 
-/// Reads a specification, in the form of `ssh-keygen -k` but for the CAs: lines `ca: KEY` with the line of a public
-/// key, `serial: NUMBER` and `serial: NUMBER-NUMBER` for the CA before them, ascending with a gap between any two, and
+/// Reads a specification. The form is that of `ssh-keygen -k` except for the CAs: lines `ca: KEY` with a public-key
+/// line, `serial: NUMBER` and `serial: NUMBER-NUMBER` for the CA before them, ascending with a gap between any two, and
 /// `id: KEYID`.
 pub(crate) fn read_specification(alloc: Global, text: &str) -> Result<Specification> {
     let mut draft = Draft {

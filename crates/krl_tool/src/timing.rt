@@ -1,4 +1,4 @@
-//! Lists timed.
+//! Timing lists.
 
 use crate::answer::Answer;
 use crate::listing::list_of;
@@ -15,10 +15,10 @@ const HEAD: KrlHead = KrlHead {
     date: 3000,
 };
 
-/// From the first serial of a run to that of the next: so far that ssh-keygen makes no bitmaps of the same set.
+/// The distance between the first serials of two runs: so large that ssh-keygen makes no bitmaps for the same set.
 const STEP: u64 = 100;
 
-// Runs of one, two and three serials by turns.
+// Runs of one, two and three serials in turn.
 fn spaced_runs(alloc: Global, count: u32) -> Result<Vec<Run>, AllocError> {
     let mut runs = Vec::with_capacity(alloc, count as usize)?;
     for place in 0..u64::from(count) {
@@ -31,8 +31,8 @@ fn spaced_runs(alloc: Global, count: u32) -> Result<Vec<Run>, AllocError> {
     Ok(runs)
 }
 
-/// Writes a list of so many runs into memory and reads it for a serial that it doesn't have. Prints the list's length
-/// and what was answered, and to standard error how long each took.
+/// Writes a list of `count` runs to memory and checks a serial that it doesn't have. Prints the list's length and the
+/// answer, and to standard error how long each step took.
 pub(crate) fn time<R: Clock + Print + Eprint + AllocGlobal>(rt: &R, count: u32) -> Result<()> {
     let Some(runs) = Runs::from_runs(spaced_runs(rt.alloc(), count)?) else {
         bail!("runs that touch");
@@ -53,7 +53,7 @@ pub(crate) fn time<R: Clock + Print + Eprint + AllocGlobal>(rt: &R, count: u32) 
     Ok(())
 }
 
-/// Adds so many serials one by one to an empty set: at places that are `stride` apart, round and round. Prints how many
+/// Adds `count` serials one by one to an empty set, at places that are `stride` apart, wrapping around. Prints how many
 /// runs they make, and to standard error how long it took.
 pub(crate) fn add<R: Clock + Print + Eprint + AllocGlobal>(
     rt: &R,

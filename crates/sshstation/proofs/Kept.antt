@@ -18,7 +18,7 @@ use Rattle.station_jobs.specs.declared.station_fault.StationFault.{StationFault}
 use Rattle.guard_restart.specs.Images.{HoldsKept}
 use Rattle.sshstation.specs.GuardFiles.{AreSettled, EndsGuard, FindsGuard, HaveGuard, HaveOne, MakesGuard}
 
--- what went well was no fault
+-- a success isn't a fault
 pub is_no_fault : {X E : Type 0} (x : X) (e : E) → Ok x ≡ Err e → ⊥
 is_no_fault x e same = absurd cc
 

@@ -1,4 +1,4 @@
--- A job over the files of a guard, as a run in their life.
+-- A job over the files of a guard, as a run in their lifetime.
 use Rattle.std.proofs.Common.{◌≡◌, ◌⊎◌, ◌<◌, ◌^◌, ◌∙◌, ℕ, List, Option, Some, None, Result, Ok, Err, ap, arith, inl, inr, refl, subst}
 use Rattle.std.proofs.Common.{map, sym}
 use Rattle.std.specs.Prelude.{IfOk, IfSome, IsSomeAnd, OnOk, string_bytes}
@@ -47,7 +47,7 @@ use Rattle.sshstation.proofs.Saying.{Lasts, backs_none, given_last, next_still, 
 
 -- ---- the next state
 
--- the one after a lawful state is lawful
+-- the state after a valid one is valid
 next_lawful : (s next : State) → IsGuard s → IsNext s next → IsGuard next
 next_lawful s next guard (inl same) = subst IsGuard (sym same) guard
 next_lawful s next guard (inr (inl (q, same))) =
@@ -86,7 +86,7 @@ module _ (Dk : Type 0) (g : Ghosts Dk) (image : Image) where
   Comes before said files =
       (after : Standing) × Stays before after × Backs after said × Holds files after
 
-  -- a guard that stayed, or the next one
+  -- the files hold a guard that stayed, or the next one
   one_of : (s t next : State) (said : Said) (files : Image) → IsStill s t → Backs (Some t) said → IsGuard t
       → IsNext t next → HoldsGuard files t ⊎ HoldsGuard files next → Comes (Some s) said files
   one_of s t next said files still backs guard is (inl it) = (Some t, still, backs, (guard, it))
@@ -98,7 +98,7 @@ module _ (Dk : Type 0) (g : Ghosts Dk) (image : Image) where
         (next_lawful t next guard is, it),
       )
 
-  -- the guard of this state is in the files; or it is after a fault, or the next one
+  -- the guard with this state is in the files; after a fault, this one or the next one is
   abbrev Filed : Option Left → Store → Result (Unit {0}) StationFault → State → Type 0
   Filed o last (Ok done) t = IsSomeAnd o (HaveGuard last t)
   Filed o last (Err e) t = (next : State) × IsNext t next × IsSomeAnd o (HaveOne last t next)
@@ -110,7 +110,7 @@ module _ (Dk : Type 0) (g : Ghosts Dk) (image : Image) where
   comes left last (Err e) s t said still backs (next, is, filed) files may =
       ∥∥₁_map (filed.1 files may) (λ which. one_of s t next said files still backs filed.0 is which)
 
-  -- a guard that was opened, with which this was done, and closed
+  -- a guard that was opened, worked on and closed
   opened_lived : (o : Option Left) (first last : Store) (closing : Result (Unit {0}) StationFault) (said : Said)
       → FindsGuard image first → IsSomeAnd o (EndsGuard last closing)
       → (HasCleanDisk (file_state last.conn) → HasCleanDisk (file_state first.conn))
@@ -132,7 +132,7 @@ module _ (Dk : Type 0) (g : Ghosts Dk) (image : Image) where
       by_standing settled clean files may (Some s) holds =
           let it = did settled s holds in comes left last closing s it.0 said it.1 it.2 it.3 files may
 
-  -- the guard that was made is in the files, whole
+  -- the new guard is in the files, whole
   abbrev FiledNew : Option Left → Store → Result (Unit {0}) StationFault → State → Type 0
   FiledNew o it (Ok done) t = IsSomeAnd o (HaveGuard it t)
   FiledNew o it (Err e) t = IsSomeAnd o (HaveOne it t t)
@@ -171,7 +171,7 @@ module _ (Dk : Type 0) (g : Ghosts Dk) (image : Image) where
   -- ---- jobs
 
   module _ {D : Type 0} (guard : register.Ghosts Store) (file : file.Ghosts D Store) (left_of : D → Option Left) where
-    -- the guard of the file is one of such files
+    -- the guards of `file` are those over such files
     pub record IsOver : Type 0 where
       pub opens : (db after : D) (path : List ℕ) (found : Result Store StationFault) → file.opens db path found after
           → IfOk found (FindsGuard image) × (left_of after ≡ left_of db)
@@ -294,7 +294,7 @@ module _ (Dk : Type 0) (g : Ghosts Dk) (image : Image) where
         job_lived (job.Lists path) input held holds result is = same_db Said.none is
         job_lived (job.List words) input held holds result is = same_db Said.none is
 
-        -- what the words name was a run
+        -- the job that the words name was a run
         pub words_lived : {L K : Type 0} (keeper : lister.Ghosts K) (file_of : lists.Ghosts L K) (l l' : L)
             (words : List (List ℕ)) (input held holds : Option (List ℕ)) (answered : ℕ) (left : Option Left)
             → left ≡ left_of db'

@@ -1,4 +1,4 @@
--- What a job said of bodies, and the guard that backs it.
+-- What a job said about unsigned certificates (bodies), and the guard that backs it.
 use Rattle.std.proofs.Common.{◌≡◌, ◌++◌, ◌∷◌, ◌∙◌, [], ℕ, List, All, Bool, Option, Some, None, Result, Ok, Err, ap, append_assoc}
 use Rattle.std.proofs.Common.{arith, drop, false, inl, inr, length, map, refl, subst, sym, take, true}
 use Rattle.std.specs.Prelude.{OnOk}
@@ -57,7 +57,7 @@ same_lines : (js : List Judgement) → flat_map (λ (a : Answered). answer_line 
 same_lines [] = refl
 same_lines (j ∷ js) = ap (λ (t : List ℕ). answer_line j.answer ++ t) (same_lines js)
 
--- the beginning of a second text after a first one is a beginning of both
+-- a first text and a prefix of a second one are a prefix of both
 begins_both : (a b : List ℕ) (n : ℕ) → take (length (a ++ take n b)) (a ++ b) ≡ a ++ take n b
 begins_both a b n =
     ap (λ (t : List ℕ). take (length (a ++ take n b)) t)
@@ -103,7 +103,7 @@ backs_none t = ([], refl, All-nil (λ (a : Answered). IsBacked (Some t) a.0 a.1)
 
 -- ---- what a job did with a guard
 
--- Each body of it stayed, what was said is so, and this is left.
+-- Each of its bodies stayed, what was said is backed, and this is left.
 pub record Lasts {A : Type 0} (s : State) (said : Said) (Left : State → Result A StationFault → Type 0) : Type 0 where
   pub t : State
   pub outcome : Result A StationFault

@@ -1,5 +1,5 @@
--- What each job does with the files that it names and with the guard of a database, and what the words are answered
--- with.
+-- What each job does with the files that it names and with the guard in a database, and the result for the words of a
+-- command line.
 use Rattle.std.specs.Prelude.{◌≡◌, ◌⊎◌, ◌≢◌, ℕ, List, IfErr, IfSome, OnOk, Option, Result, Ok, Err, map, string_bytes}
 use Rattle.guard.specs.declared.register.Register as register
 use Rattle.guard.specs.declared.scope.Scope.{Scope}
@@ -23,15 +23,15 @@ use Rattle.station_jobs.specs.Policy.{PrintsNames}
 use Rattle.station_jobs.specs.Whole.{Begins, Follows, JudgesIn, RunsIn}
 use Rattle.sshstation.specs.Ending.{status}
 
--- Files are found by their paths, and are left to read so.
+-- Files are found by their paths; `remaining` is what can be read from a file.
 module _ {E F : Type 0} (world : surroundings.Ghosts E F) (around : E) (remaining : F → Option (List ℕ)) where
   -- the scope with the key of a file at the path, or why there is none
   abbrev pub BeginsAt : (path : List ℕ) → (first last : ℕ) → Result Scope StationFault → Type 0
   BeginsAt path first last scope =
       ((file : F) × world.has around path file × Begins (remaining file) first last scope) ⊎ IfErr scope IsOfAFile
 
-  -- The names of the departments of a file at the path are printed. Or it is no policy, and nothing is printed; only
-  -- where the output fails something may be.
+  -- The names of the departments in a file at the path are printed. Or the file isn't a policy, and nothing is
+  -- printed; only if the output fails, something may have been printed.
   pub record PrintsPolicyOf (file : F) (held holds : Option (List ℕ)) (result : Result (Unit {0}) StationFault)
       : Type 0 where
     pub ok : OnOk result (IfSome (remaining file) (λ bytes. PrintsNames bytes held holds))
@@ -43,9 +43,9 @@ module _ {E F : Type 0} (world : surroundings.Ghosts E F) (around : E) (remainin
       ((file : F) × world.has around path file × PrintsPolicyOf file held holds result)
       ⊎ (IfErr result IsOfAFile × (holds ≡ held))
 
-  -- The database of a guard is made, opened and closed so. As it was before it is `db`, and as it is afterwards `db'`.
+  -- `file` says how a guard's database is made, opened and closed. It is `db` before the job, and `db'` after it.
   module _ {D G : Type 0} (guard : register.Ghosts G) (file : file.Ghosts D G) (db db' : D) where
-    -- the guard with the key of the file was made, or the file has none, and then nothing was made or printed
+    -- the guard with the key in the file was made; or the file has no key, and nothing was made or printed
     pub record InitsAt (path ca : List ℕ) (first last : ℕ) (held holds : Option (List ℕ))
         (result : Result (Unit {0}) StationFault) : Type 0 where
       pub scope : Result Scope StationFault
@@ -53,7 +53,7 @@ module _ {E F : Type 0} (world : surroundings.Ghosts E F) (around : E) (remainin
       pub made : Follows (λ scope. InitsIn guard file db db' path scope held holds) ((db' ≡ db) × (holds ≡ held)) scope
           result
 
-    -- the job was done, whole, with this result
+    -- the whole job was done, with this result
     abbrev pub DoesJob : StationJob → (input held holds : Option (List ℕ)) → Result (Unit {0}) StationFault → Type 0
     DoesJob (Init path ca first last) input held holds result =
         InitsAt (string_bytes path) (string_bytes ca) first last held holds result
@@ -73,7 +73,7 @@ module _ {E F : Type 0} (world : surroundings.Ghosts E F) (around : E) (remainin
     DoesJob (Lists path) input held holds result = db' ≡ db
     DoesJob (Listed words) input held holds result = db' ≡ db
 
-    -- So it is of a file for lists, which only the jobs on lists open.
+    -- The same for a file with a guard of lists, which only the jobs on lists open.
     module _ {L K : Type 0} (keeper : lister.Ghosts K) (file_of : lists.Ghosts L K) (l l' : L) where
       abbrev pub DoesList : StationJob → (held holds : Option (List ℕ)) → Result (Unit {0}) StationFault → Type 0
       DoesList (Lists path) held holds result = MakesLists file_of l l' (string_bytes path) held holds result
@@ -82,7 +82,7 @@ module _ {E F : Type 0} (world : surroundings.Ghosts E F) (around : E) (remainin
           words.begins (string_bytes words.list) held holds result
       DoesList other held holds result = l' ≡ l
 
-      -- The job that the words name was done, and its status is answered. Or they name none, and no database was opened.
+      -- The job that the words name was done, and its status returned. Or they name none, and no database was opened.
       abbrev pub DoesWords : (words : List (List ℕ)) → (input held holds : Option (List ℕ)) → (answered : ℕ) → Type 0
       DoesWords words input held holds answered =
           ((job : StationJob) × (result : Result (Unit {0}) StationFault) × Names words job

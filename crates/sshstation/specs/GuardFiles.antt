@@ -1,4 +1,4 @@
--- A guard in the two files of a database: as it is made and opened, and what its end leaves of them.
+-- A guard in the two files of a database: how it is made and opened, and what closing it leaves of them.
 use Rattle.std.specs.Prelude.{◌≡◌, Result, Ok, Err}
 use Rattle.sqlite_disk.specs.declared.Disk.{Ghosts}
 use Rattle.sqlite_disk.specs.declared.Files.{Files}
@@ -26,18 +26,18 @@ use Rattle.station_jobs.specs.declared.station_fault.StationFault.TheVariants.{D
 
 -- ---- faults
 
--- of a database that was not opened or closed
+-- the fault of a database that wasn't opened or closed
 abbrev pub of_database : Error → StationFault
 of_database (SqliteFailure OutOfMemory) = NoMemory
 of_database other = Device
 
--- what came of the end of a connection
+-- the result of ending a connection
 abbrev pub of_ending : Result (Unit {0}) EndFault → Result (Unit {0}) StationFault
 of_ending (Ok done) = Ok done
 of_ending (Err (GivenUp error)) = Err (of_database error)
 of_ending (Err (Uncopied error)) = Err (of_database error)
 
--- the log was copied, or nobody began to copy it
+-- the log was copied, or copying it had not begun
 abbrev pub IsWhole : Result (Unit {0}) EndFault → Type 0
 IsWhole (Ok done) = Unit {0}
 IsWhole (Err (GivenUp error)) = Unit {0}
@@ -50,16 +50,16 @@ abbrev pub HasOne : Connection → Type 0
 HasOne c = (s : State) × HasGuard s c
 
 module _ {D : Type 0} {g : Ghosts D} where
-  -- It is new. If its disk has returned what was written, it has each guard that the files held, and is blank if they
-  -- held none.
+  -- The connection is new. If its disk has returned what was written, it has each guard that the files held, and is
+  -- blank if they held none.
   pub record OpensFiles (image : Image) (conn : Held (FileStore D g)) : Type 0 where
     pub new : IsNew conn
     pub opened : HasCleanDisk (file_state conn) → IsOpened conn
     pub held : HasCleanDisk (file_state conn) → HasWhatIsHeld image (file_state conn)
     pub blank : HasCleanDisk (file_state conn) → IsBlankIfNone image (file_state conn)
 
-  -- A connection to the files was opened so, which wasn't of the wrong sort, and this is the guard over it. If the disk
-  -- has returned what was written, it has found what the connection had.
+  -- A connection to the files was opened like this, whose tables weren't of the wrong sort, and this is the guard over
+  -- it. If the disk has returned what was written, the guard has found what the connection had.
   pub record OpensGuard (image : Image) (Wrong : Connection → Type 0) (Found : Connection → Connection → Type 0)
       (guard : GuardStore (FileStore D g)) : Type 0 where
     pub conn : Held (FileStore D g)
@@ -68,25 +68,25 @@ module _ {D : Type 0} {g : Ghosts D} where
     pub honest : HasCleanDisk (file_state guard.conn) → HasCleanDisk (file_state conn)
     pub found : HasCleanDisk (file_state guard.conn) → Found (file_state conn) (file_state guard.conn)
 
-  -- the guard of the tables is opened, which are there
+  -- the guard in the tables is opened, if there are any
   abbrev pub FindsGuard : Image → GuardStore (FileStore D g) → Type 0
   FindsGuard image guard = OpensGuard image IsBlank (Finds guard.scope) guard
 
-  -- a guard of this scope that has approved nothing yet is made in blank tables, which have none
+  -- a guard with this scope that has approved nothing yet is made in blank tables, which have none
   abbrev pub MakesGuard : Image → Scope → GuardStore (FileStore D g) → Type 0
   MakesGuard image scope guard = OpensGuard image HasOne (Founds scope) guard × (guard.scope ≡ scope)
 
-  -- ---- files that were closed or given up: how that went, and the files
+  -- ---- files that were closed or abandoned: the result, and the files
 
   abbrev pub EndsGuard : GuardStore (FileStore D g) → Result (Unit {0}) StationFault
       → Result (Unit {0}) EndFault × Files D → Type 0
   EndsGuard guard done left = EndsWell guard.conn left.0 left.1 × (done ≡ of_ending left.0)
 
-  -- the disk has returned what was written, and the log was copied, or nobody began to copy it
+  -- the disk has returned what was written, and the log was copied, or copying it had not begun
   abbrev pub AreSettled : GuardStore (FileStore D g) → Result (Unit {0}) EndFault × Files D → Type 0
   AreSettled guard left = AreClean g left.1.log left.1.db × IsWhole left.0
 
-  -- whatever a crash makes of the files, they hold this guard, or one of these two, of which tables may keep the first
+  -- whatever a crash leaves of the files, they hold this guard, or one of these two, the first of which tables can keep
   abbrev pub HaveGuard : GuardStore (FileStore D g) → State → Result (Unit {0}) EndFault × Files D → Type 0
   HaveGuard guard s left = (image : Image) → outcomes g left.1.log left.1.db image → HoldsKept image s
 

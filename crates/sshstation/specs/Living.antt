@@ -1,4 +1,4 @@
--- What the words come to over the files of a database: a job over the files of a guard is a run in their life.
+-- The effect of the words over the files of a database: a job over the files of a guard is a run in their lifetime.
 use Rattle.std.specs.Prelude.{◌≡◌, ◌⊎◌, ℕ, List, IfSome, Option, None, Result}
 use Rattle.sqlite_disk.specs.declared.Disk.{Ghosts}
 use Rattle.sqlite_disk.specs.declared.Files.{Files}
@@ -22,13 +22,13 @@ use Rattle.guard_restart.specs.Runs.{RunsOn}
 use Rattle.sshstation.specs.Doing.{DoesWords}
 use Rattle.sshstation.specs.GuardFiles.{IsWhole}
 
--- what a job says of bodies, with this output before and after it: only one that judges says anything
+-- what a job says about unsigned certificates (bodies), by its output before and after it; only judging says anything
 abbrev pub said_by : StationJob → (held holds : Option (List ℕ)) → Said
 said_by (Judge words) held holds = Said.judging held holds
 said_by other held holds = Said.none
 
--- The files are left so. If the disk has returned what was written, and the log was copied, or nobody began to copy it,
--- the job was a run in the life of the files.
+-- The files are left like this. If the disk has returned what was written, and the log was copied or copying it had not
+-- begun, the job was a run in the lifetime of the files.
 abbrev pub IsLived : {D : Type 0} (g : Ghosts D) → Image → Said → Result (Unit {0}) EndFault × Files D → Type 0
 IsLived g image said left =
     AreClean g left.1.log left.1.db → IsWhole left.0 → RunsOn image said (outcomes g left.1.log left.1.db)
@@ -45,8 +45,8 @@ AreLived g image words held holds left =
     ((job : StationJob) × Names words job × IfSome left (IsLived g image (said_by job held holds)))
     ⊎ ((fault : WordsFault) × IsFaultOf words fault × (left ≡ None))
 
--- This came of the words in a world, with files of which this holds afterwards. What the files of a guard held before is
--- the image, and they are left so.
+-- The effect of the words in a world, with files for which `Is` holds afterwards. The files of a guard held `image`
+-- before, and are left as in `left`.
 pub record RunsWords {E F D L K H : Type 0} {g : Ghosts H} (world : surroundings.Ghosts E F)
     (remaining : F → Option (List ℕ)) (guard : register.Ghosts (GuardStore (FileStore H g)))
     (file : file.Ghosts D (GuardStore (FileStore H g))) (keeper : lister.Ghosts K) (file_of : lists.Ghosts L K)

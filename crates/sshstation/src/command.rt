@@ -1,4 +1,4 @@
-//! Jobs done.
+//! Doing the jobs.
 
 ghost use Rattle.std.specs.Prelude.{◌≡◌, ◌≤◌, IfErr, map, string_bytes};
 ghost use Rattle.office.specs.Openings.{are_serials};
@@ -20,10 +20,10 @@ use station_jobs::{
 use std::alloc::Global;
 use std::io::{BufRead, ErrorKind, Read, Write};
 
-/// The status of bad words.
+/// The exit status for invalid words.
 pub const BAD_WORDS: u8 = 2;
 
-/// Makes a guard with the key of a file in a new database.
+/// Makes a guard with the key in a file, in a new database.
 fn init<
     F: Read + Drop,
     P: Surroundings<File = F>,
@@ -54,7 +54,7 @@ fn init<
     }
 }
 
-/// Prints the names of the departments of a policy at a path.
+/// Prints the names of the departments in the policy at a path.
 fn policy<F: Read + Drop, P: Surroundings<File = F>, O: Write>(
     alloc: Global,
     around: &P,
@@ -70,7 +70,7 @@ fn policy<F: Read + Drop, P: Surroundings<File = F>, O: Write>(
     }
 }
 
-/// What is to be judged, as the words say it.
+/// What to judge, according to the words.
 fn judging_of(words: &JudgingWords) -> Judging<'_>
     ensures policy { result.policy.now ≡ string_bytes words.now.policy }
     ensures ahead { result.ahead ≡ words.now.ahead }
@@ -83,7 +83,7 @@ fn judging_of(words: &JudgingWords) -> Judging<'_>
     }
 }
 
-/// The list that is to be judged, as the words say it.
+/// The list to judge, according to the words.
 fn listing_of(words: &ListingWords) -> Listing<'_>
     ensures cas { result.cas.now ≡ words.now.cas.items }
     ensures begins { result.begins ≡ words.now.begins }
@@ -96,7 +96,7 @@ fn listing_of(words: &ListingWords) -> Listing<'_>
     }
 }
 
-/// Does a job, whole: what it gives is written to `out`.
+/// Does a whole job, and writes its output to `out`.
 ///
 /// # Errors
 ///
@@ -169,7 +169,7 @@ pub(crate) fn do_job<
     }
 }
 
-// What is answered to words that ask for no job: the text of clap, or a fault.
+// The answer to words that ask for no job: clap's text, or a fault.
 fn answer_words<O: Write, E: Write>(fault: WordsFault, out: &mut O, err: &mut E) -> u8
     ensures status { result ≤ BAD_WORDS }
     ensures bad { result ≡ BAD_WORDS → IsOfBadWords fault }
@@ -187,8 +187,8 @@ fn answer_words<O: Write, E: Write>(fault: WordsFault, out: &mut O, err: &mut E)
     }
 }
 
-/// Does the job that the words ask for, or shows the text of clap. What it gives is written to `out`, and the name of a
-/// fault to `err`. Answers the status.
+/// Does the job that the words ask for, or shows clap's text. Output is written to `out`, and the name of a fault to
+/// `err`. Returns the exit status.
 pub(crate) fn do_words<
     F: Read + Drop,
     P: Surroundings<File = F>,
@@ -209,7 +209,7 @@ pub(crate) fn do_words<
     out: &mut O,
     err: &mut E,
 ) -> u8
-    // What is opened is what the files held, and what is closed is what they hold then.
+    // The opened guard is the one that the files held, and the closed one is what they hold then.
     requires { KeepsFiles G.Register D.GuardFile }
     ensures status { result ≤ BAD_WORDS }
     ensures bad { result ≡ BAD_WORDS → AreBad (map string_bytes words.now) }
@@ -227,7 +227,7 @@ pub(crate) fn do_words<
     }
 }
 
-/// The status where the words can't be had: memory was refused, or a word isn't UTF-8.
+/// The exit status if the words are unavailable: memory was refused, or a word isn't UTF-8.
 pub(crate) fn do_no_words<E: Write>(fault: ErrorKind, err: &mut E) -> u8
     ensures { result ≤ BAD_WORDS }
 {

@@ -1,4 +1,4 @@
-//! Guards in the files of databases: looked for, made, opened and closed.
+//! Guards in the files of databases: finding, making, opening and closing them.
 
 ghost use Rattle.std.specs.Prelude.{◌≡◌, IfOk, IsSomeAnd, IsTrue, None};
 ghost use Rattle.office.specs.Openings.{are_serials};
@@ -20,7 +20,7 @@ use std::fs::{OpenOptions, Permissions};
 use std::io::{self, ErrorKind};
 use std::os::unix::fs::{OpenOptionsExt, PermissionsExt};
 
-/// The mode of a file that its owner alone may read and write.
+/// The mode of a file that only its owner may read and write.
 const OWNER_ALONE: u32 = 0o600;
 
 /// A connection to the files at a path.
@@ -32,7 +32,7 @@ pub(crate) type FilesLeft<S> = (Result<(), EndFault>, Files<FileFrom<S>>);
 /// A guard in the files at a path.
 pub(crate) type FileGuard<S> = GuardStore<FileStore<FileFrom<S>>>;
 
-/// The fault of a database that was not opened or closed.
+/// The fault of a database that wasn't opened or closed.
 fn database_fault(error: Error) -> StationFault
     ensures { result ≡ of_database error }
 {
@@ -42,7 +42,7 @@ fn database_fault(error: Error) -> StationFault
     }
 }
 
-/// The fault of a database that nobody can look for, or that can't be made.
+/// The fault of a database that can't be looked for or made.
 fn unfound_fault(error: &io::Error) -> StationFault {
     match error.kind() {
         ErrorKind::OutOfMemory => StationFault::NoMemory,
@@ -50,7 +50,7 @@ fn unfound_fault(error: &io::Error) -> StationFault {
     }
 }
 
-/// The fault of a guard that isn't opened or made.
+/// The fault of a guard that wasn't opened or made.
 fn unopened_fault(fault: OpeningFault) -> StationFault {
     match fault {
         OpeningFault::AlreadyAGuard => StationFault::AlreadyAGuard,
@@ -62,7 +62,7 @@ fn unopened_fault(fault: OpeningFault) -> StationFault {
     }
 }
 
-/// Opens the database at a path, or makes one without tables. `start` stands for what its files hold.
+/// Opens the database at a path, or makes one without tables. `start` represents what its files hold.
 pub(crate) fn open_database<S: Start>(
     rt: &HostRuntime,
     path: &str,
@@ -76,7 +76,7 @@ pub(crate) fn open_database<S: Start>(
     }
 }
 
-/// What came of the end of a connection.
+/// The result of ending a connection.
 pub(crate) fn of_ending(ended: Result<(), EndFault>) -> Result<(), StationFault>
     ensures { result ≡ of_ending ended }
 {
@@ -87,12 +87,12 @@ pub(crate) fn of_ending(ended: Result<(), EndFault>) -> Result<(), StationFault>
     }
 }
 
-/// Whether SQLite takes this for something else than a path, so that opening it refuses it. Then no file is made.
+/// Whether SQLite takes this as something other than a path, so that opening it is refused. Then no file is made.
 fn is_no_path(path: &str) -> bool {
     path == ":memory:" || path.starts_with("file:")
 }
 
-/// Makes an empty file that its owner alone may read and write, if nothing has the name. What is there stays as it is.
+/// Makes an empty file that only its owner may read and write, if nothing has this name. An existing file is unchanged.
 fn make_file(rt: &HostRuntime, path: &str) -> io::Result<()> {
     if is_no_path(path) {
         return Ok(());
@@ -103,14 +103,14 @@ fn make_file(rt: &HostRuntime, path: &str) -> io::Result<()> {
         .mode(OWNER_ALONE)
         .open(rt, path)
     {
-        // The umask may have taken away what the owner is to have.
+        // The umask may have removed permissions that the owner needs.
         Ok(file) => file.set_permissions(Permissions::from_mode(OWNER_ALONE)),
         Err(error) if error.kind() == ErrorKind::AlreadyExists => Ok(()),
         Err(error) => Err(error),
     }
 }
 
-/// Makes the file of a guard, if it isn't there.
+/// Makes the file of a guard, if it doesn't exist.
 pub(crate) fn made(rt: &HostRuntime, path: &str) -> Result<(), StationFault> {
     match make_file(rt, path) {
         Ok(()) => Ok(()),
@@ -131,14 +131,14 @@ pub(crate) fn looked_for(rt: &HostRuntime, path: &str) -> Result<(), StationFaul
 #[derive(Drop)]
 pub(crate) struct GuardDatabase<'a, S: Start> {
     rt: &'a HostRuntime,
-    // What stands for what the files hold, until they are opened.
+    // Represents what the files hold, until they are opened.
     start: Option<S>,
-    // Set once the connection has ended.
+    // Set after the connection has ended.
     left: Option<FilesLeft<S>>,
 }
 
 impl<'a, S: Start> GuardDatabase<'a, S> {
-    /// The guard in files that hold what `start` stands for, before they are opened.
+    /// The guard in files that hold what `start` represents, before they are opened.
     pub(crate) fn new(rt: &'a HostRuntime, start: S) -> GuardDatabase<'a, S>
         ensures { result.left ≡ None }
     {
@@ -169,7 +169,7 @@ impl<'a, S: Start> GuardDatabase<'a, S> {
     }
 }
 
-/// A guard over a new connection is made.
+/// Makes a guard over a new connection.
 fn make_over<S: Start>(
     alloc: Global,
     conn: FileConnection<S>,
@@ -190,7 +190,7 @@ fn make_over<S: Start>(
     }
 }
 
-/// The guard of a new connection is opened.
+/// Opens the guard of a new connection.
 fn open_over<S: Start>(alloc: Global, conn: FileConnection<S>) -> Result<FileGuard<S>, StationFault>
     requires { OpensFiles (image_at S.Start) conn }
     ensures { IfOk result (FindsGuard (image_at S.Start)) }

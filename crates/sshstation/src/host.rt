@@ -1,4 +1,4 @@
-//! The system's files and its clock, and what the words ask for done with them.
+//! The system's files and its clock, and doing what the words ask for with them.
 
 ghost use Rattle.std.specs.Prelude.{◌≡◌, ◌≤◌, IfSome, map, string_bytes};
 ghost use Rattle.values.specs.declared.limits.TheConstants.{LATEST_MOMENT};
@@ -21,14 +21,14 @@ use std::io::{Read, Write};
 use std::time::{Clock, SystemTime, UNIX_EPOCH};
 use values::LATEST_MOMENT;
 
-/// The system, of whose files and clock nothing is told.
+/// The system. Nothing is stated about its files and its clock.
 #[derive(Drop)]
 pub(crate) struct Host<'a> {
     /// The program's runtime.
     pub rt: &'a HostRuntime,
 }
 
-/// The clock's moment, in seconds since 1970-01-01 00:00:00 UTC, or none if the clock fails or is past the latest.
+/// The time in seconds since 1970-01-01 00:00:00 UTC, or `None` if the clock fails or is past the latest time.
 fn moment_of<C: Clock>(clock: &C) -> Option<u64>
     ensures { IfSome result (λ moment. moment ≤ LATEST_MOMENT) }
 {
@@ -60,9 +60,9 @@ impl Surroundings for Host<'_> {
     }
 }
 
-/// Does what the words ask for, with the system's files and clock, and answers the status and the files of a guard as
-/// they are left, if any were closed. `start` stands for what the files of a guard hold, and `lists` for what those of a
-/// list guard hold: a job opens the ones or the others.
+/// Does what the words ask for, with the system's files and clock. Returns the exit status, and the files of a guard as
+/// they are left, if any were closed. `start` represents what the files of a guard hold, and `lists` what those of a
+/// guard of lists hold: a job opens the ones or the others.
 pub(crate) fn run<S: Start, T: Start, O: Write, E: Write>(
     rt: &HostRuntime,
     start: S,
@@ -74,7 +74,7 @@ pub(crate) fn run<S: Start, T: Start, O: Write, E: Write>(
     ensures status { result.0 ≤ BAD_WORDS }
     ensures bad { result.0 ≡ BAD_WORDS → AreBad (map string_bytes words.now) }
 
-    // This came of the words, and a job over the files of a guard was a run in their life.
+    // This is the effect of the words, and a job over the files of a guard was a run in their lifetime.
     ensures runs { RunsWords ⟦<Host<'static> as Surroundings>⟧ ⟦<fs::File as Read>⟧.remaining
         ⟦<GuardStore<FileStore<FileFrom<S>>> as Register>⟧ ⟦<GuardDatabase<'static, S> as GuardFile>⟧
         ⟦<ListStore<FileStore<FileFrom<T>>> as ListRegister>⟧ ⟦<ListDatabase<'static, T> as ListFile>⟧

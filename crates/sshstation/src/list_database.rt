@@ -1,4 +1,4 @@
-//! List guards in the files of databases: looked for, made, opened and closed.
+//! Guards of lists in the files of databases: finding, making, opening and closing them.
 
 ghost use Rattle.std.specs.Prelude.{◌≡◌, IfOk, IsSomeAnd};
 ghost use Rattle.sqlite_wal.specs.Files.{image_at};
@@ -14,10 +14,10 @@ use sqlite::{FileFrom, FileStore, Files, Start};
 use station_jobs::StationFault;
 use std::alloc::Global;
 
-/// A list guard in the files at a path.
+/// A guard of lists in the files at a path.
 type FileLists<S> = ListStore<FileStore<FileFrom<S>>>;
 
-/// The fault of a list guard that isn't opened or made.
+/// The fault of a guard of lists that wasn't opened or made.
 fn unopened_fault(fault: OpeningFault) -> StationFault {
     match fault {
         OpeningFault::AlreadyAGuard => StationFault::AlreadyAGuard,
@@ -29,18 +29,18 @@ fn unopened_fault(fault: OpeningFault) -> StationFault {
     }
 }
 
-/// The list guard in the files of a database, which are opened once.
+/// The guard of lists in the files of a database, which are opened once.
 #[derive(Drop)]
 pub(crate) struct ListDatabase<'a, S: Start> {
     rt: &'a HostRuntime,
-    // What stands for what the files hold, until they are opened.
+    // Represents what the files hold, until they are opened.
     start: Option<S>,
     // How the connection ended, and its files as they were left.
     left: Option<(Result<(), EndFault>, Files<FileFrom<S>>)>,
 }
 
 impl<'a, S: Start> ListDatabase<'a, S> {
-    /// The list guard in files that hold what `start` stands for, before they are opened.
+    /// The guard of lists in files that hold what `start` represents, before they are opened.
     pub(crate) fn new(rt: &'a HostRuntime, start: S) -> ListDatabase<'a, S> {
         ListDatabase {
             rt,
@@ -60,7 +60,7 @@ impl<'a, S: Start> ListDatabase<'a, S> {
     }
 }
 
-/// A list guard over a new connection is made.
+/// Makes a guard of lists over a new connection.
 fn make_over<S: Start>(alloc: Global, conn: FileConnection<S>) -> Result<FileLists<S>, StationFault>
     requires { OpensFiles (image_at S.Start) conn }
     ensures { IfOk result (MakesList (image_at S.Start)) }
@@ -74,7 +74,7 @@ fn make_over<S: Start>(alloc: Global, conn: FileConnection<S>) -> Result<FileLis
     }
 }
 
-/// The list guard of a new connection is opened.
+/// Opens the guard of lists of a new connection.
 fn open_over<S: Start>(alloc: Global, conn: FileConnection<S>) -> Result<FileLists<S>, StationFault>
     requires { OpensFiles (image_at S.Start) conn }
     ensures { IfOk result (FindsList (image_at S.Start)) }

@@ -1,10 +1,10 @@
-//! The program `sshstation`: words, and what each command does.
+//! The program `sshstation`: its command line, and what each command does.
 //!
 //! What a command does with a guard is proved in `station_jobs`, over any register, files, input and output: `run_in`
-//! does it, from the opening of the guard's file to its closing. Here `do_words` reads the words and does the job that
-//! they name, and `run` has it done over the tables of a database: it shows that the guard which is opened is the one
-//! that the files held, and that they hold the one which is closed. Other files, the console and the clock are the
-//! system's, and nothing is proved of them.
+//! does it, from opening the guard's file to closing it. Here `do_words` reads the words and does the job that they
+//! name, and `run` does this over the tables of a database: it shows that an opened guard is the one that the files
+//! held, and that they hold the one that is closed. Other files, the console and the clock are the system's, and
+//! nothing is proved about them.
 #![tactic(auto)]
 
 mod command;

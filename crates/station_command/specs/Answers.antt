@@ -8,7 +8,7 @@ use Rattle.station_command.specs.Asked.{asked, asked_of}
 use Rattle.station_command.specs.Command.{station_command}
 use Rattle.station_command.specs.declared.job.StationJob.{StationJob}
 
--- The words are valid by clap's meaning of the command, and ask for the job.
+-- The words are valid according to clap's meaning of the command, and ask for the job.
 abbrev pub Names : List Text → StationJob → Type 0
 Names words job = (fault_of station_command words ≡ []) × (asked_of words ≡ Some (asked job))
 
@@ -16,7 +16,7 @@ Names words job = (fault_of station_command words ≡ []) × (asked_of words ≡
 abbrev pub AreBad : List Text → Type 0
 AreBad words = HaveMistake station_command words ⊎ (asked_of words ≡ None)
 
--- what a fault in place of a job implies of the words
+-- what a fault in place of a job implies about the words
 abbrev pub IsFaultOf : List Text → WordsFault → Type 0
 IsFaultOf words (Help text) = AskForTextOf station_command words
 IsFaultOf words (BadWords text) = AreBad words

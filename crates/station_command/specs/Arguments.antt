@@ -16,6 +16,6 @@ several name = record (new_rule name) { long = Some name; value_names = 1; requi
 abbrev pub with_more : Shape → Rule → Shape
 with_more shape rule = record shape { rules = shape.rules ++ rule ∷ [] }
 
--- whether a flag was given: clap's value of it is then this text
+-- whether a flag was given: then clap's value for it is this text
 abbrev pub is_set : List Row → Text → Bool
 is_set rows name = option_map_or (λ text. bytes_eq text (codes "true")) (first_of name rows) false

@@ -10,7 +10,7 @@ use Rattle.station_command.specs.declared.job.StationJob.TheVariants as job
 use Rattle.station_command.specs.Arguments.{is_set}
 use Rattle.station_command.specs.Command.{station_command}
 
--- a job without the places of its texts in memory
+-- a job by the values of its texts, wherever they are in memory
 pub data Asked : Type 0 where
   init : Text → Text → ℕ → ℕ → Asked
   judge : Text → Text → ℕ → List Text → Asked
@@ -41,7 +41,7 @@ init_in rows = do
   last ← number_at rows (codes "last") 0 most
   Some (init db ca first last)
 
--- the seconds ahead: an hour by default
+-- what `judge` asks for; without `--ahead`, the time ahead is an hour
 abbrev pub judge_in : List Row → Option Asked
 judge_in rows = do
   db ← first_of (codes "db") rows
@@ -79,7 +79,7 @@ list_in rows = do
   file ← first_of (codes "LIST") rows
   Some (list db cas (is_set rows (codes "begin")) file)
 
--- what the subcommand of this name asks for, by the values that clap found for it
+-- what the subcommand with this name asks for, with the values that clap found for it
 abbrev pub asked_by : Text → List Row → Option Asked
 asked_by name rows =
     if bytes_eq name (codes "init") then init_in rows

@@ -30,7 +30,7 @@ pub(crate) fn several<'a>(alloc: Global, name: &'a str, value: &'a str, help: &'
         .action(ArgAction::Append)
 }
 
-/// A command with one more option, unless memory was refused for one of them.
+/// Adds an option to a command, unless memory was refused for one of them.
 pub(crate) fn with_option<'a>(
     command: Result<Command<'a>, AllocError>,
     option: Arg<'a>,

@@ -3,7 +3,7 @@
 /// What the program is.
 pub const STATION: &str = "Decides which SSH certificates a CA's key may sign";
 
-/// The crate's version, and the toolchain that proved it.
+/// What `--version` prints after the program's name: the program's version, and the Rattle toolchain that proved it.
 pub const VERSION: &str = "1.0.0 (rattle-kit-13b)";
 
 /// The end of the program's help.
@@ -102,19 +102,19 @@ It prints one line: list SHA256 VERSION TIME or refuse NAME.
 A KRL is refused if it is older than the last approved one, has the same version but other bytes, or
 takes a revocation back. Approving the first KRL requires --begin.";
 
-/// What `--db` is of a command that opens a guard.
+/// What `--db` is, for a command that opens a guard.
 pub const DATABASE: &str = "The guard's database, created by init";
 
-/// What `--db` of `init` is.
+/// What `--db` is, for `init`.
 pub const NEW_DATABASE: &str = "The database to create";
 
-/// What `--init` of `lists` is.
+/// What `--init` is, for `lists`.
 pub const INIT_LISTS: &str = "Creates the database; required";
 
-/// What `--db` of `list` is.
+/// What `--db` is, for `list`.
 pub const LIST_DATABASE: &str = "The database of the guard of lists, created by lists --init";
 
-/// What `--ca` of `list` is.
+/// What `--ca` is, for `list`.
 pub const LIST_CA: &str =
     "The file with the public-key line of a CA whose certificates the KRL may revoke; one --ca per CA";
 
@@ -124,16 +124,16 @@ pub const BEGIN: &str = "Allows a first KRL; without effect once one is approved
 /// What `LIST` is.
 pub const LIST_FILE: &str = "The file with the KRL";
 
-/// What `--ca` is.
+/// What `--ca` is, for `init`.
 pub const CA_FILE: &str = "The file with the CA's public-key line";
 
 /// What `--first` is.
 pub const FIRST: &str = "The first serial, at least 1";
 
-/// What `--last` is.
+/// What `--last` is, for `init`.
 pub const LAST: &str = "The last serial, at most 9223372036854775806";
 
-/// What `--last` of `retire` is.
+/// What `--last` is, for `retire`.
 pub const NEW_LAST: &str = "The new last serial, not below any approved one";
 
 /// What `--policy` is.

@@ -1,4 +1,4 @@
--- Which faults are met.
+-- The faults of a step are faults of the steps that it is part of.
 use Rattle.station_jobs.specs.declared.station_fault.StationFault.{StationFault}
 use Rattle.station_jobs.specs.declared.station_fault.StationFault.TheVariants.{File, NoMemory}
 use Rattle.lines.specs.declared.key_line.LineFault.{LineFault}

@@ -1,4 +1,4 @@
--- From the guard that files held to the one that they hold.
+-- From the guard that files held before a job to the one that they hold after it.
 use Rattle.std.proofs.Common.{◌≡◌, ◌<◌, ◌^◌, ◌∷◌, [], ℕ, List, Bool, true, false, Option, Result, Ok, Err, refl}
 use Rattle.std.specs.Prelude.{OnOk}
 use Rattle.guard.specs.declared.register.Register as register
@@ -17,7 +17,7 @@ use Rattle.station_jobs.specs.Whole.{closed}
 use Rattle.station_jobs.proofs.Judgements.{judged_so}
 
 module _ {D G : Type 0} (guard : register.Ghosts G) (file : file.Ghosts D G) (keeps : KeepsFiles guard file) where
-  -- what was left of an open guard is left of its files
+  -- what is left of an open guard is left in its files
   leaves_files : {A : Type 0} (db db' : D) (first last : G) (s t : State) (outcome : Result A StationFault)
       (closing : Result (Unit {0}) StationFault) → file.closes db last closing db' → file.is_settled db' last
       → guard.leaves first s s → Leaves guard first last s t outcome → LeavesFiles guard file db' last closing t outcome
@@ -84,7 +84,7 @@ module _ {D G : Type 0} (guard : register.Ghosts G) (file : file.Ghosts D G) (ke
       filed stores (Err e) closes settled =
           keeps.gives_up made db' g e closes settled (opened scope) (opened scope) stores.0 stores.1
 
--- ---- what is said of a job says as much of what is left
+-- ---- what a job does, with a weaker statement about what is left
 
 pub given_so : (b : Bool) (s : State) (Left Left' : State → Result (Unit {0}) StationFault → Type 0)
     (Asked : List ℕ → Question → Type 0) (bodies : List (List ℕ)) (input held holds : Option (List ℕ))

@@ -1,4 +1,4 @@
--- Bodies judged one after the other.
+-- Judging unsigned certificates (bodies) in order.
 use Rattle.std.proofs.Common.{◌≡◌, ◌≤◌, ◌<◌, ◌++◌, ◌∷◌, [], ℕ, List, All, Option, Some, None, Result, Ok, Err, length, map, take}
 use Rattle.std.proofs.Common.{IfSome, append_assoc, arith, drop, get_or, ◌+◌, refl, sym, ap, subst, ◌∙◌, ◌⊎◌, inl, inr}
 use Rattle.std.specs.Io.KnownBytes.{Appends}
@@ -44,7 +44,7 @@ paths_append : (a b : List Judgement) → map (λ j. j.path) (a ++ b) ≡ map (�
 paths_append [] b = refl
 paths_append (j ∷ a) b = ap (λ ps. j.path ∷ ps) (paths_append a b)
 
--- what is kept stays
+-- a stored body stays stored
 kept_once : (a : Answer) (s : State) (q : Question) (body : List ℕ) → IsKept a s body → IsKept a (after s q) body
 kept_once (answer.Sign serial digest) s q body k = one_kept serial body s q k
 kept_once (answer.NotABody e) s q body k = tt
@@ -82,7 +82,7 @@ module _ (Left : State → Result (Unit {0}) StationFault → Type 0)
     printed = Appends-nil held;
   }
 
-  -- a fault was met before anything was judged
+  -- a fault occurred before anything was judged
   pub fault_first : (s : State) (paths : List (List ℕ)) (held : Option (List ℕ)) (e : StationFault) → Left s (Err e)
       → Judges s Left Asked paths held held (Err e)
   fault_first s paths held e left = record {
@@ -95,7 +95,7 @@ module _ (Left : State → Result (Unit {0}) StationFault → Type 0)
     printed = ([], [], 0, refl, omega arith, Appends-nil held);
   }
 
-  -- after a fault more paths may have been given
+  -- after a fault, more paths may have been given
   pub more_given : (s : State) (paths more : List (List ℕ)) (held holds : Option (List ℕ)) (e : StationFault)
       → Judges s Left Asked paths held holds (Err e) → Judges s Left Asked (paths ++ more) held holds (Err e)
   more_given s paths more held holds e is = record {
@@ -158,7 +158,7 @@ judged_on between then Left Asked s a b held mid holds r first second leads = re
   printed = prints Left Asked held mid holds first.judged second.judged r first.printed second.printed;
 }
 
--- so it is over a register, which has kept the scope
+-- the same over a register, because a question doesn't change the scope
 one_scope : (s : State) (q : Question) → (after s q).scope ≡ s.scope
 one_scope s q = after_or_before (λ t. t.scope ≡ s.scope) s q refl (λ c new. refl)
 
@@ -176,7 +176,7 @@ judged_then guard old between new Asked s a b held mid holds r first second =
     Asked s a b held mid holds r first second
     (λ t is. leaves_then guard old between new s (left_by s first.judged) t r (same_scope s first.judged) first.left is)
 
--- the same judgements, of what asks less and of what is left
+-- the same judgements, with a weaker statement about what is left or about the questions
 pub judged_so : (Left Left' : State → Result (Unit {0}) StationFault → Type 0) (Asked : List ℕ → Question → Type 0)
     (s : State) (paths : List (List ℕ)) (held holds : Option (List ℕ)) (r : Result (Unit {0}) StationFault)
     → ((t : State) → Left t r → Left' t r) → Judges s Left Asked paths held holds r
@@ -208,7 +208,7 @@ asked_so Left Asked Asked' s paths held holds r leads is = record {
 
 -- ---- one body
 
--- a question that was answered is a judgement
+-- an answered question is a judgement
 pub one_judged : (Left : State → Result (Unit {0}) StationFault → Type 0) (Asked : List ℕ → Question → Type 0) (s : State)
     (path : List ℕ) (q : Question) (held holds : Option (List ℕ)) (r : Result (Unit {0}) StationFault) → Asked path q
     → AnswersOne s Left q held holds r → Judges s Left Asked (path ∷ []) held holds r
@@ -252,9 +252,9 @@ one_judged Left Asked s path q held holds r asks (inr is) = go r is
         subst (λ (h : Option (List ℕ)). Judges s Left Asked (path ∷ []) held h (Err e)) (sym is.2)
         (fault_first Left Asked s (path ∷ []) held e is.1)
 
--- ---- what is asked of a file
+-- ---- questions about a file
 
--- a body was read from a file at the path and judged, at a moment
+-- a body was read from a file at the path and judged, at a time of the clock
 pub one_weighed : {E F : Type 0} (world : Ghosts E F) (around : E) (remaining : F → Option (List ℕ))
     (policy : List Department) (ahead : ℕ) (path read body : List ℕ) (moment : ℕ) → body ≡ read
     → Weighs world around remaining path read moment
@@ -270,7 +270,7 @@ one_weighed world around remaining policy ahead path read body moment same is Le
     (record { file = is.file; found = is.found; body = all.1; policy = refl; moment = is.moment_of; ahead_of = refl })
     all.2
 
--- by the policy that a file has
+-- by the policy in a file
 pub asks_now : {E F : Type 0} (world : Ghosts E F) (around : E) (remaining : F → Option (List ℕ)) (policy : List Department)
     (at : List ℕ) (ahead : ℕ) → IsPolicyAt world around remaining at policy → (path : List ℕ) (q : Question)
     → Asks world around remaining (λ p. p ≡ policy) ahead path q → AsksNow world around remaining at ahead path q

@@ -1,4 +1,4 @@
--- What calls over a register leave, one after the other.
+-- What calls over a register leave, in sequence.
 use Rattle.std.proofs.Common.{◌≡◌, ◌<◌, ◌^◌, ◌∷◌, ℕ, List, [], Option, Result, Ok, Err, refl, sym, subst, inl, inr}
 use Rattle.std.specs.Prelude.{IfErr, OnErr, OnOk}
 use Rattle.std.specs.Io.KnownBytes.{Appends}
@@ -20,7 +20,7 @@ use Rattle.station_jobs.specs.Faults.{IsOfABody, IsOfAFile, IsOfAnAnswer, IsOfAP
 use Rattle.station_jobs.specs.Leaving.{HasCause, IsNext, Leaves, Stays}
 use Rattle.station_jobs.specs.Steps.{AnswersOne}
 
--- ---- faults that no register tells
+-- ---- faults that don't come from a register
 
 pub body_cause : (failed : Type 0) (e : StationFault) → IsOfABody e → HasCause failed e
 body_cause failed fault.File h = tt
@@ -44,7 +44,7 @@ answer_cause failed fault.Write h = tt
 answer_cause failed fault.NoMemory h = tt
 answer_cause failed other h = absurd h
 
--- one of a register has its cause
+-- a fault of a register has its cause
 pub register_cause : (failed : Type 0) (e : RegisterFault) → IsRegisters e failed → HasCause failed (of_register e)
 register_cause failed register.Device h = h
 register_cause failed register.Damaged h = absurd h

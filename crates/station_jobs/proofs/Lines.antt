@@ -1,4 +1,4 @@
--- Paths that an input gives, and the bodies at them judged.
+-- Paths from an input, and judging the unsigned certificates (bodies) at them.
 use Rattle.std.proofs.Common.{◌≡◌, ◌≢◌, ◌++◌, ◌∷◌, [], ◌⊎◌, ℕ, List, Bool, true, false, cond, Option, Some, None, Result, Ok, Err}
 use Rattle.std.proofs.Common.{IfSome, arith, length, refl, sym, ap, subst, ◌∙◌, inl, inr, ◌==◌}
 use Rattle.std.specs.Io.BufRead.{drop_through, first_piece, strip_last, take_through}
@@ -33,7 +33,7 @@ has_line (b ∷ text) e = by_test (b == 10) e
     by_test true e = absurd cc
     by_test false e = absurd cc
 
--- a line that isn't empty is a path's
+-- a line that isn't empty has a path
 pub takes_path : (old new : Option (List ℕ)) (line : List ℕ) → TakesLine old new line → (length line ≡ 0 → ⊥)
     → TakesPath old new (strip_last 10 line)
 takes_path None new line is some = tt
@@ -43,15 +43,15 @@ takes_path (Some text) new line is some = (
   is.1,
 )
 
--- an empty one is the end
+-- an empty line means the end of the input
 pub takes_none : (old new : Option (List ℕ)) (line : List ℕ) → TakesLine old new line → length line ≡ 0 → IsAtEnd old
 takes_none None new line is none = tt
 takes_none (Some text) new [] is none = has_line text (sym is.0)
 takes_none (Some text) new (b ∷ line) is none = absurd (omega (arith, none))
 
--- ---- bodies judged in turn
+-- ---- judging bodies in turn
 
--- these lines were taken, and no more
+-- exactly these lines were taken
 abbrev Taken : (input now : Option (List ℕ)) → List (List ℕ) → Type 0
 Taken input now paths = IfSome input (λ text. (left : List ℕ) × (now ≡ Some left) × Begins paths text left)
 
@@ -151,7 +151,7 @@ fails A guard old between new Asked s input mid now held so_far holds e first (i
     t : State
     t = left_by s first.judges.judged
 
--- the input was never at its end
+-- the end of the input was never reached
 pub stops : {G : Type 0} (guard : Ghosts G) (old new : G) (Asked : List ℕ → Question → Type 0) (s : State)
     (input now held holds : Option (List ℕ)) (first : Underway s (Leaves guard old new s) Asked input now held holds)
     → JudgesInput s (Leaves guard old new s) Asked input held holds (Err File)

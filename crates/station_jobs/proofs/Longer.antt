@@ -1,4 +1,4 @@
--- A file that is longer than any body: its beginning is answered as the whole of it would be.
+-- A file that is longer than any unsigned certificate: its prefix gets the answer that the whole file would get.
 use Rattle.std.proofs.Common.{◌≡◌, ◌≤◌, ◌<◌, ◌^◌, ◌⊎◌, ℕ, List, Option, Some, None, Result, arith, inl, inr, length, refl, subst}
 use Rattle.std.proofs.Common.{ap, sym, take, ◌∙◌}
 use Rattle.std.specs.Prelude.{IfSome}
@@ -59,7 +59,7 @@ module _ (s : State) (q : Question) (bytes : List ℕ) (short : 16384 < length q
   })
   answers_one Left held holds r (inr not) = inr not
 
--- the question is answered as that about the whole of what a file holds, of which so much was read
+-- the answer is also that to the question about the whole content of a file, of which a prefix was read
 pub of_all : (o : Option (List ℕ)) (s : State) (q : Question) (Left : State → Result (Unit {0}) StationFault → Type 0)
     (held holds : Option (List ℕ)) (r : Result (Unit {0}) StationFault) → IfSome o (λ all. q.body ≡ take 16385 all)
     → AnswersOne s Left q held holds r

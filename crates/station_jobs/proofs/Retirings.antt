@@ -1,4 +1,4 @@
--- A last serial that was lowered over a register.
+-- Lowering a last serial over a register.
 use Rattle.std.proofs.Common.{◌≡◌, ◌<◌, ◌^◌, ◌||◌, ℕ, Bool, true, false, cond, Result, Ok, Err, inl, inr, refl}
 use Rattle.std.specs.Prelude.{nat_lt}
 use Rattle.std.proofs.lemmas.Bool.{ltb-false}
@@ -15,7 +15,7 @@ use Rattle.station_jobs.specs.Leaving.{HasCause, IsNext, Leaves}
 use Rattle.station_jobs.specs.Whole.{Retires, RetiresTo}
 use Rattle.station_jobs.proofs.Leavings.{fails_same, register_cause}
 
--- what may be left is the next state
+-- the state that may be left is a next state
 next_retired : (s : State) (last : ℕ) → IsNext s (if_retired s (retirement s last))
 next_retired s last = by_range (nat_lt last s.scope.first) (nat_lt s.scope.last last) refl refl
   where
@@ -40,7 +40,7 @@ retire_cause failed (retiring.Register e) h = register_cause failed e h
 retire_cause failed retiring.BadSerials h = tt
 retire_cause failed retiring.SerialApproved h = tt
 
--- what is kept after a fault
+-- the state that is kept after a fault
 still_kept : (s : State) (last : ℕ) (keeps : State → Type 0) (e : RetireFault) → IsRetired s last keeps (Err e) → keeps s
 still_kept s last keeps (retiring.Register e) is = is
 still_kept s last keeps retiring.BadSerials is = is.1
@@ -75,7 +75,7 @@ module _ {G : Type 0} (guard : Ghosts G) (last : ℕ) (old new : G) (s : State) 
         cause = λ low. retire_cause (guard.has_failed new) e cause;
       })
 
-  -- where the register didn't tell its scope
+  -- if the register didn't return its scope
   pub retires_none : (e : RegisterFault) → Leaves {A = ℕ} guard old new s s (Err (of_register e))
       → RetiresTo last s (λ t. Leaves {A = ℕ} guard old new s t (Err (of_register e))) (Err (of_register e))
   retires_none register.Device left = left

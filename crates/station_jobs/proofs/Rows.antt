@@ -1,4 +1,4 @@
--- The rows of a register, by their serials.
+-- The rows of a register, in order of their serials.
 use Rattle.std.proofs.Common.{◌≡◌, ◌+◌, ◌++◌, ◌∷◌, [], ℕ, List, Option, Some, None, refl, sym, ap, subst, ◌∙◌, append_assoc}
 use Rattle.std.specs.List.{flat_map}
 use Rattle.std.specs.Io.KnownBytes.{Appends}
@@ -19,7 +19,7 @@ lines_append [] b = refl
 lines_append (x ∷ a) b =
     ap (λ t. row_line x ++ t) (lines_append a b) ∙ sym (append_assoc (row_line x) (flat_map row_line a) (flat_map row_line b))
 
--- the lines of the first rows are printed
+-- the lines of the first rows have been printed
 pub record Listed (s : State) (held holds : Option (List ℕ)) (next : ℕ) : Type 0 where
   pub rows : List Approved
   pub in_order : Follow s 0 rows next

@@ -1,4 +1,4 @@
--- What is printed of the bodies that are approved.
+-- Printing approved unsigned certificates (bodies).
 use Rattle.std.specs.Prelude.{◌≡◌, ◌+◌, ◌++◌, ◌∷◌, [], ℕ, List, decimal, Option, Some, None, Result, Ok, Err}
 use Rattle.std.specs.List.{flat_map}
 use Rattle.std.specs.Option.{option_map_or}
@@ -10,29 +10,29 @@ use Rattle.guard.specs.Retiring.{IsRowFrom}
 use Rattle.station_jobs.specs.declared.station_fault.StationFault.{StationFault}
 use Rattle.station_jobs.specs.declared.station_fault.StationFault.TheVariants.{UnknownSerial}
 
--- SERIAL DIGEST MOMENT KEYID
+-- a line SERIAL DIGEST TIME KEYID
 abbrev pub named_line : Approved → (key_id : List ℕ) → List ℕ
 named_line a key_id =
     decimal a.serial
     ++ (32 ∷ (digest_text a.body ++ (32 ∷ (decimal a.moment ++ (32 ∷ (key_id ++ (10 ∷ [])))))))
 
--- the same, with the key id of the body
+-- the same, with the body's key id
 abbrev pub row_line : Approved → List ℕ
 row_line a = named_line a (option_map_or (λ c. c.key_id) (fields_of a.body) [])
 
--- these rows, by their serials: each is the first from there on, and the next one is looked for from that serial on
+-- these rows in order of their serials: each is the first one from `from` on, and the next is looked for from `next` on
 abbrev pub Follow : State → (from : ℕ) → List Approved → (next : ℕ) → Type 0
 Follow s from [] next = next ≡ from
 Follow s from (a ∷ rows) next = IsRowFrom s from (Some a) × Follow s (a.serial + 1) rows next
 
--- The line of the first row from there on is printed, and the next serial answered. Or there is no row, and nothing is
--- printed.
+-- The line of the first row from `from` on is printed, and the serial after it is returned. Or there is no such row,
+-- and nothing is printed.
 abbrev pub PrintsFrom : State → (from : ℕ) → (held holds : Option (List ℕ)) → Option ℕ → Type 0
 PrintsFrom s from held holds (Some next) =
     (a : Approved) × IsRowFrom s from (Some a) × (next ≡ a.serial + 1) × Appends held holds (row_line a)
 PrintsFrom s from held holds None = IsRowFrom s from None × (holds ≡ held)
 
--- the line of each row that is kept is printed, by their serials
+-- the line of each stored row is printed, in order of the serials
 pub record ListsBodies (s : State) (held holds : Option (List ℕ)) : Type 0 where
   pub rows : List Approved
   pub next : ℕ

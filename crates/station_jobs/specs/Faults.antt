@@ -1,4 +1,4 @@
--- The fault of a job by the fault that it met.
+-- Which fault of a job each underlying fault becomes, and which faults each step may have.
 use Rattle.lines.specs.declared.key_line.LineFault.{LineFault}
 use Rattle.lines.specs.declared.key_line.LineFault.TheVariants as line
 use Rattle.guard.specs.declared.policy_fault.PolicyFault.{PolicyFault}
@@ -10,56 +10,56 @@ use Rattle.guard.specs.declared.retiring.RetireFault.TheVariants as retiring
 use Rattle.station_jobs.specs.declared.station_fault.StationFault.{StationFault}
 use Rattle.station_jobs.specs.declared.station_fault.StationFault.TheVariants as fault
 
--- of a register that did not answer
+-- the fault of a register that didn't answer
 abbrev pub of_register : RegisterFault → StationFault
 of_register register.Device = fault.Device
 of_register register.Damaged = fault.Damaged
 of_register register.NoMemory = fault.NoMemory
 
--- of a last serial that was not lowered
+-- the fault of a last serial that wasn't lowered
 abbrev pub of_retiring : RetireFault → StationFault
 of_retiring (retiring.Register e) = of_register e
 of_retiring retiring.BadSerials = fault.BadSerials
 of_retiring retiring.SerialApproved = fault.SerialApproved
 
--- of a file that is no policy
+-- the fault of a file that isn't a policy
 abbrev pub of_policy : PolicyFault → StationFault
 of_policy policy.TooLong = fault.File
 of_policy (policy.BadPolicy line) = fault.BadPolicy line
 of_policy policy.NoMemory = fault.NoMemory
 
--- of a text that is no key line
+-- the fault of a text that isn't a public-key line
 abbrev pub of_line : LineFault → StationFault
 of_line line.NoMemory = fault.NoMemory
 of_line other = fault.Line other
 
--- What is met where a file is read.
+-- The faults of reading a file.
 abbrev pub IsOfAFile : StationFault → Type 0
 IsOfAFile fault.File = Unit {0}
 IsOfAFile fault.NoMemory = Unit {0}
 IsOfAFile other = ⊥
 
--- What is met where a body is read and its moment looked up.
+-- The faults of reading an unsigned certificate (body) and the clock.
 abbrev pub IsOfABody : StationFault → Type 0
 IsOfABody fault.File = Unit {0}
 IsOfABody fault.NoMemory = Unit {0}
 IsOfABody fault.Clock = Unit {0}
 IsOfABody other = ⊥
 
--- What is met where an answer is printed.
+-- The faults of printing an answer.
 abbrev pub IsOfAnAnswer : StationFault → Type 0
 IsOfAnAnswer fault.Write = Unit {0}
 IsOfAnAnswer fault.NoMemory = Unit {0}
 IsOfAnAnswer other = ⊥
 
--- What is met where a policy is read.
+-- The faults of reading a policy.
 abbrev pub IsOfAPolicy : StationFault → Type 0
 IsOfAPolicy fault.File = Unit {0}
 IsOfAPolicy fault.NoMemory = Unit {0}
 IsOfAPolicy (fault.BadPolicy line) = Unit {0}
 IsOfAPolicy other = ⊥
 
--- What is met where a key is read.
+-- The faults of reading a key.
 abbrev pub IsOfAKey : StationFault → Type 0
 IsOfAKey fault.File = Unit {0}
 IsOfAKey fault.NoMemory = Unit {0}

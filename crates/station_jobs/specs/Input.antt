@@ -1,4 +1,4 @@
--- Paths that an input gives, one a line.
+-- Paths from an input, one per line.
 use Rattle.std.specs.Prelude.{◌≡◌, ◌≢◌, ◌⊎◌, [], ◌∷◌, ℕ, List, Option, Some, None, IfSome, Result, Ok, Err}
 use Rattle.std.specs.Io.KnownBytes.{IsAtEnd}
 use Rattle.std.specs.Io.BufRead.{drop_through, first_piece, take_through}
@@ -6,11 +6,11 @@ use Rattle.guard.specs.Machine.{State, Question}
 use Rattle.station_jobs.specs.declared.station_fault.StationFault.{StationFault}
 use Rattle.station_jobs.specs.Judging.{Judges}
 
--- the line is the first of the input, with its line feed if it has one, and the input has lost it; at its end it is empty
+-- `line` is the first line, with its line feed if it has one, and is removed from the input; at the end it is empty
 abbrev pub TakesLine : (old new : Option (List ℕ)) → List ℕ → Type 0
 TakesLine old new line = IfSome old (λ text. (line ≡ take_through 10 text) × (new ≡ Some (drop_through 10 text)))
 
--- the text begins with these lines, and that is left
+-- the text consists of these lines, followed by `left`
 abbrev pub Begins : (lines : List (List ℕ)) → (text left : List ℕ) → Type 0
 Begins [] text left = text ≡ left
 Begins (line ∷ lines) text left =
@@ -21,12 +21,12 @@ abbrev pub AreLines : (lines : List (List ℕ)) → List ℕ → Result (Unit {0
 AreLines lines text (Ok done) = Begins lines text []
 AreLines lines text (Err e) = (left : List ℕ) × Begins lines text left
 
--- the path is the first line of the input without its line feed, and the input has lost the line
+-- the path is the first line of the input without its line feed, and this line is removed from the input
 abbrev pub TakesPath : (old new : Option (List ℕ)) → List ℕ → Type 0
 TakesPath old new path =
     IfSome old (λ text. (text ≢ []) × (path ≡ first_piece 10 text) × (new ≡ Some (drop_through 10 text)))
 
--- The body at the next path was judged. Or the input is at its end, or has no such path, and then nothing was judged.
+-- The body at the next path was judged. Or the input is at its end, or has no such path, and nothing was judged.
 abbrev pub JudgesNext : {A : Type 0} (s : State) (Left : State → Result (Unit {0}) StationFault → Type 0)
     (Asked : List ℕ → Question → Type 0) (old new held holds : Option (List ℕ)) → Result (Option A) StationFault
     → Type 0

@@ -1,4 +1,4 @@
--- What each job does with the guard of a file, from its opening to its closing.
+-- What each job does with the guard in a file, from opening it to closing it.
 use Rattle.std.specs.Prelude.{◌≡◌, ◌⊎◌, ℕ, List, IsTrue, map, string_bytes, OnOk, Option, Result, Ok, Err}
 use Rattle.std.specs.Io.KnownBytes.{Appends}
 use Rattle.wire.specs.Streams.{AppendsBeginning}
@@ -14,33 +14,33 @@ use Rattle.station_jobs.specs.declared.station_fault.StationFault.TheVariants.{N
 use Rattle.station_jobs.specs.Bodies.{ListsBodies, PrintsBody}
 use Rattle.station_jobs.specs.Whole.{Follows, JudgesIn, MakesIn, Retires, RunsIn, ready_text, retired_text}
 
--- a guard is made of lawful serials
+-- a guard is only made with valid serials
 abbrev pub IsLawful : GuardJob → Type 0
 IsLawful (Init scope) = IsTrue (are_serials scope.first scope.last)
 IsLawful other = Unit {0}
 
--- this was printed; or a beginning of it, and the output failed, or memory was refused
+-- this was printed; or a prefix of it, and the output failed or memory was refused
 abbrev pub Prints : (told : List ℕ) → (held holds : Option (List ℕ)) → Result (Unit {0}) StationFault → Type 0
 Prints told held holds (Ok done) = Appends held holds told
 Prints told held holds (Err e) = ((e ≡ Write) ⊎ (e ≡ NoMemory)) × AppendsBeginning held holds told
 
--- A file is made, opened and closed so. As it was before it is `db`, and as it is afterwards `db'`.
+-- `file` says how a file is made, opened and closed. `db` is the file before the job, and `db'` the file after it.
 module _ {D G : Type 0} (guard : register.Ghosts G) (file : file.Ghosts D G) (db db' : D) (path : List ℕ) where
-  -- the guard was made, and is told of
+  -- the guard was made, and the text about it was printed
   pub record InitsIn (scope : Scope) (held holds : Option (List ℕ)) (result : Result (Unit {0}) StationFault)
       : Type 0 where
     pub made : Result (Unit {0}) StationFault
     pub is_made : MakesIn guard file db db' path scope made
     pub told : Follows (λ _. Prints (ready_text scope) held holds) (holds ≡ held) made result
 
-  -- the last serial was lowered, and is told of
+  -- the last serial was lowered, and the text about it was printed
   pub record LowersIn (last : ℕ) (held holds : Option (List ℕ)) (result : Result (Unit {0}) StationFault)
       : Type 0 where
     pub lowered : Result ℕ StationFault
     pub is_lowered : RunsIn guard file db db' path (Retires last) (Unit {0}) lowered
     pub told : Follows (λ first. Prints (retired_text first last) held holds) (holds ≡ held) lowered result
 
--- the job was done, whole, with this result
+-- the whole job was done, with this result
 abbrev pub RunsJob : {E F D G : Type 0} → surroundings.Ghosts E F → E → (remaining : F → Option (List ℕ))
     → register.Ghosts G → file.Ghosts D G → (db db' : D) → (path : List ℕ) → GuardJob
     → (input held holds : Option (List ℕ)) → Result (Unit {0}) StationFault → Type 0

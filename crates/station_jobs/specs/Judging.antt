@@ -1,4 +1,4 @@
--- Bodies judged one after the other, and what is printed of them.
+-- Judging unsigned certificates (bodies) in order, and printing the answers.
 use Rattle.std.specs.Prelude.{◌≡◌, ◌≤◌, ◌++◌, ◌∷◌, [], ℕ, List, All, length, map, take, Option, IfSome, Result, Ok, Err}
 use Rattle.std.specs.List.{flat_map}
 use Rattle.std.specs.Io.KnownBytes.{Appends}
@@ -11,9 +11,9 @@ use Rattle.guard.specs.Policies.{policy_at}
 use Rattle.station_jobs.specs.declared.surroundings.Surroundings.{Ghosts}
 use Rattle.station_jobs.specs.declared.station_fault.StationFault.{StationFault}
 
--- ---- what is asked
+-- ---- questions
 
--- Files are found by their paths, and a clock is there. A file is left to read so.
+-- Files are found by their paths, and there is a clock. `remaining` is what can be read from a file.
 module _ {E F : Type 0} (world : Ghosts E F) (around : E) (remaining : F → Option (List ℕ)) where
   -- a file at the path is read as this policy
   pub record IsPolicyAt (path : List ℕ) (policy : List Department) : Type 0 where
@@ -21,7 +21,7 @@ module _ {E F : Type 0} (world : Ghosts E F) (around : E) (remaining : F → Opt
     pub found : world.has around path file
     pub read : IfSome (remaining file) (λ bytes. policy_at bytes ≡ Ok policy)
 
-  -- the question is about all that a file at the path holds, at a moment of the clock
+  -- the question is about the whole content of a file at the path, at a time of the clock
   pub record Asks (ByPolicy : List Department → Type 0) (ahead : ℕ) (path : List ℕ) (q : Question) : Type 0 where
     pub file : F
     pub found : world.has around path file
@@ -34,42 +34,42 @@ module _ {E F : Type 0} (world : Ghosts E F) (around : E) (remaining : F → Opt
   abbrev pub AsksNow : (policy : List ℕ) → (ahead : ℕ) → (path : List ℕ) → Question → Type 0
   AsksNow policy ahead = Asks (IsPolicyAt policy) ahead
 
--- ---- what is answered
+-- ---- answers
 
--- a body that was judged: where it was found, the question, and what was answered
+-- a body that was judged: its path, the question, and the answer
 pub record Judgement : Type 0 where
   pub path : List ℕ
   pub question : Question
   pub answer : Answer
 
--- each answer is the plain guard's, after those before it
+-- each answer is the reference model's, after the earlier questions
 abbrev pub AreAnswered : State → List Judgement → Type 0
 AreAnswered s [] = Unit {0}
 AreAnswered s (j ∷ js) = Answers j.answer s j.question × AreAnswered (after s j.question) js
 
--- the state that the questions leave
+-- the state after the questions
 abbrev pub left_by : State → List Judgement → State
 left_by s [] = s
 left_by s (j ∷ js) = left_by (after s j.question) js
 
--- the line of each answer
+-- the lines of the answers
 abbrev pub lines_of : List Judgement → List ℕ
 lines_of js = flat_map (λ j. answer_line j.answer) js
 
--- These paths were judged of those that were given: all, or after a fault the first ones.
+-- The judged paths are those that were given: all, or after a fault the first ones.
 abbrev pub Covers : (paths judged : List (List ℕ)) → Result (Unit {0}) StationFault → Type 0
 Covers paths judged (Ok done) = judged ≡ paths
 Covers paths judged (Err e) = (rest : List (List ℕ)) × (paths ≡ judged ++ rest)
 
--- The lines of all are printed; after a fault maybe not the last one, or a beginning of it.
+-- All lines are printed; after a fault, the last one may be missing or cut short.
 abbrev pub IsPrinted : List Judgement → (held holds : Option (List ℕ)) → Result (Unit {0}) StationFault → Type 0
 IsPrinted js held holds (Ok done) = Appends held holds (lines_of js)
 IsPrinted js held holds (Err e) =
     (whole : List Judgement) × (last : List Judgement) × (count : ℕ) × (js ≡ whole ++ last) × (length last ≤ 1)
     × Appends held holds (lines_of whole ++ take count (lines_of last))
 
--- The bodies at these paths were judged one after the other, from this state on, and printed. What is left then is what
--- the plain guard keeps, and each body that was answered as signed is among it.
+-- The bodies at these paths were judged in order, from this state on, and the answers were printed. What is left is
+-- what the model keeps, and this includes each body whose answer was to sign it.
 pub record Judges (s : State) (Left : State → Result (Unit {0}) StationFault → Type 0)
     (Asked : List ℕ → Question → Type 0) (paths : List (List ℕ)) (held holds : Option (List ℕ))
     (result : Result (Unit {0}) StationFault) : Type 0 where

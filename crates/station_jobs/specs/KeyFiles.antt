@@ -1,9 +1,9 @@
--- Files with a key line.
+-- Files with a public-key line.
 use Rattle.std.specs.Prelude.{◌≡◌, ◌⊎◌, ◌++◌, ◌∷◌, [], ℕ, List, IsTrue}
 use Rattle.lines.specs.declared.key_line.KeyLine.{KeyLine}
 use Rattle.lines.specs.KeyLines.{is_key_line, key_line_text}
 
--- the text is this lawful key line, with a line feed at its end or without
+-- the text is this valid public-key line, with or without a line feed at its end
 pub record IsKeyText (text : List ℕ) (k : KeyLine) : Type 0 where
   pub lawful : IsTrue (is_key_line k)
   pub line : (text ≡ key_line_text k) ⊎ (text ≡ key_line_text k ++ 10 ∷ [])

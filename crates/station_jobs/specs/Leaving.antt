@@ -1,4 +1,4 @@
--- What a call over a register leaves: as it returns, and after a crash.
+-- What a call over a register leaves: when it returns, and after a crash.
 use Rattle.std.specs.Prelude.{ℕ, ◌≡◌, ◌⊎◌, ◌<◌, ◌^◌, IfErr, Result, Ok, Err}
 use Rattle.guard.specs.declared.register.Register.{Ghosts}
 use Rattle.guard.specs.Machine.{State, Question, after}
@@ -6,7 +6,7 @@ use Rattle.guard.specs.Retiring.{IsLowered, with_last}
 use Rattle.station_jobs.specs.declared.station_fault.StationFault.{StationFault}
 use Rattle.station_jobs.specs.declared.station_fault.StationFault.TheVariants.{Damaged, Device}
 
--- the same state, the one after a question, or one with a lower last serial: each body stays
+-- the same state, the state after a question, or one with a lower last serial: each body stays
 abbrev pub IsNext : State → State → Type 0
 IsNext s next =
     (next ≡ s)
@@ -17,20 +17,20 @@ abbrev pub Outlasts : {A : Type 0} → (leaves : State → State → Type 0) →
 Outlasts leaves t (Ok x) = leaves t t
 Outlasts leaves t (Err e) = (next : State) × IsNext t next × leaves t next
 
--- the database is said to have failed only if it has, and no damage is told
+-- the database is reported as failed only if it has failed, and no damage is reported
 abbrev pub HasCause : (failed : Type 0) → StationFault → Type 0
 HasCause failed Device = failed
 HasCause failed Damaged = ⊥
 HasCause failed other = Unit {0}
 
--- A register that kept the state `s` keeps `t`. If a crash left `s`, it leaves `t`, or after a fault perhaps the next
--- state. A fault has its cause, since the serials of a guard are below 2^63.
+-- A register that kept the state `s` now keeps `t`. If a crash would have left `s`, it now leaves `t`, or after a fault
+-- perhaps the next state. A fault has its cause, since the serials of a guard are below 2^63.
 pub record Leaves {G A : Type 0} (guard : Ghosts G) (old new : G) (s t : State) (result : Result A StationFault)
     : Type 0 where
   pub kept : guard.keeps new t
   pub lasts : guard.leaves old s s → Outlasts (guard.leaves new) t result
   pub cause : s.scope.last < 2 ^ 63 → IfErr result (HasCause (guard.has_failed new))
 
--- it keeps what it kept, and a crash leaves that
+-- it keeps the state that it kept, and a crash leaves this state too
 abbrev pub Stays : {G : Type 0} → Ghosts G → (old new : G) → State → Type 0
 Stays guard old new s = Leaves {A = Unit {0}} guard old new s s (Ok tt)

@@ -1,4 +1,4 @@
--- Whole jobs, from the opening of a guard's file to its closing.
+-- Whole jobs, from opening a guard's file to closing it.
 use Rattle.std.specs.Prelude.{◌≡◌, ◌⊎◌, ◌<◌, ◌^◌, ◌++◌, ◌∷◌, [], ℕ, List, Bool, false, true, codes, decimal, bytes_eq}
 use Rattle.std.specs.Prelude.{Option, Some, None, IfSome, Result, Ok, Err}
 use Rattle.std.specs.Io.KnownBytes.{Appends}
@@ -27,13 +27,13 @@ use Rattle.station_jobs.specs.Leaving.{Leaves, Outlasts}
 
 -- ---- steps
 
--- Two steps: what the first gave was used by the second. Where the first met a fault, that is what came of both.
+-- Two steps: the second one used the result of the first. If the first one failed, its fault is the result of both.
 abbrev pub Follows : {A B : Type 0} → (Used : A → Result B StationFault → Type 0) → (Nothing : Type 0)
     → Result A StationFault → Result B StationFault → Type 0
 Follows Used Nothing (Ok x) result = Used x result
 Follows Used Nothing (Err e) result = (result ≡ Err e) × Nothing
 
--- A fault of the job is kept, and where the job went well, one of the closing is told.
+-- A fault of the job is kept; if the job succeeded, a fault of closing is returned.
 abbrev pub closed : {A : Type 0} → Result A StationFault → (closing : Result (Unit {0}) StationFault) → Result A StationFault
 closed (Err e) closing = Err e
 closed (Ok x) (Ok done) = Ok x
@@ -41,14 +41,14 @@ closed (Ok x) (Err e) = Err e
 
 -- ---- what the files of a guard keep
 
--- an open register keeps this state, and a crash leaves it
+-- an open register keeps this state, and a crash leaves it too
 abbrev pub Stores : {G : Type 0} → register.Ghosts G → G → State → Type 0
 Stores guard g s = guard.keeps g s × guard.leaves g s s
 
 module _ {D G : Type 0} (guard : register.Ghosts G) (file : file.Ghosts D G) where
-  -- What is opened is the guard that the files held, and what is made has approved nothing yet. After a good close the
-  -- files hold what was kept, whatever a crash makes of them. If a guard was given up they hold what a crash left. All of
-  -- this is said of a disk that has returned what was written.
+  -- An opened guard is the one that the files held, and a new one has approved nothing yet. After a successful close
+  -- the files hold what was kept, whatever a crash leaves of them. After a guard was abandoned, they hold what a crash
+  -- left. All of this assumes a disk that has returned what was written.
   pub record KeepsFiles : Type 0 where
     pub opens : (db db' : D) (path : List ℕ) (g : G) → file.opens db path (Ok g) db' → guard.is_honest g
         → (s : State) → file.held s → Stores guard g s
@@ -61,8 +61,8 @@ module _ {D G : Type 0} (guard : register.Ghosts G) (file : file.Ghosts D G) whe
     pub gives_up : (db db' : D) (g : G) (e : StationFault) → file.closes db g (Err e) db' → file.is_settled db' g
         → (s t : State) → guard.keeps g s → guard.leaves g s t → file.has_one db' g s t
 
-  -- After a good close the files hold the guard of this state, whatever a crash makes of them. If the guard was given
-  -- up, they hold that one, or after a fault perhaps one that still has each body of it.
+  -- After a successful close the files hold the guard with this state, whatever a crash leaves of them. If the guard
+  -- was abandoned, they hold this guard, or after a fault perhaps one that still has each of its bodies.
   abbrev pub LeavesFiles : {A : Type 0} → D → G → (closing : Result (Unit {0}) StationFault) → State
       → Result A StationFault → Type 0
   LeavesFiles db' last (Ok done) t outcome = file.has db' last t
@@ -70,7 +70,7 @@ module _ {D G : Type 0} (guard : register.Ghosts G) (file : file.Ghosts D G) whe
 
 -- ---- a guard opened and closed
 
--- what is done over a guard, from each state that it keeps: an honest guard was honest before
+-- what is done over a guard, from each state that it keeps; if its disk has been faithful, it was so before
 abbrev pub Does : {G A : Type 0} → register.Ghosts G
     → (State → (Left : State → Result A StationFault → Type 0) → Result A StationFault → Type 0) → G → G
     → Result A StationFault → Type 0
@@ -78,10 +78,10 @@ Does guard Did old new result =
     (guard.is_honest new → guard.is_honest old)
     × (guard.is_honest new → (s : State) → guard.keeps old s → Did s (Leaves guard old new s) result)
 
--- A file is made, opened and closed so. As it was before it is `db`, and as it is afterwards `db'`.
+-- `file` says how a file is made, opened and closed. `db` is the file before the job, and `db'` the file after it.
 module _ {D G : Type 0} (guard : register.Ghosts G) (file : file.Ghosts D G) (db db' : D) where
-  -- This was done over the guard, and what it left was closed. So it was done from the guard that the files held to the
-  -- one that they hold, if the disk has returned what was written.
+  -- `Did` was done over the guard, which was then closed. So it was done from the guard that the files held to the one
+  -- that they hold now, if the disk has returned what was written.
   pub record RunsOver {A : Type 0}
       (Did : State → (Left : State → Result A StationFault → Type 0) → Result A StationFault → Type 0) (opened : D)
       (g : G) (result : Result A StationFault) : Type 0 where
@@ -94,7 +94,7 @@ module _ {D G : Type 0} (guard : register.Ghosts G) (file : file.Ghosts D G) (db
     pub files : file.is_settled db' last → (s : State) → file.held s
         → Did s (LeavesFiles guard file db' last closing) outcome
 
-  -- The guard at the path was opened, once, and this was done over it. Or it wasn't opened, and nothing was done.
+  -- The guard at the path was opened once, and `Did` was done over it. Or it wasn't opened, and nothing was done.
   pub record RunsIn {A : Type 0} (path : List ℕ)
       (Did : State → (Left : State → Result A StationFault → Type 0) → Result A StationFault → Type 0)
       (Nothing : Type 0) (result : Result A StationFault) : Type 0 where
@@ -103,13 +103,13 @@ module _ {D G : Type 0} (guard : register.Ghosts G) (file : file.Ghosts D G) (db
     pub is_opened : file.opens db path found opened
     pub ran : Follows (RunsOver Did opened) ((db' ≡ opened) × Nothing) found result
 
-  -- The guard that was made was closed. If the files held none, they hold it.
+  -- The new guard was closed. If the files held none before, they hold it now.
   pub record ClosesNew (scope : Scope) (made : D) (g : G) (result : Result (Unit {0}) StationFault) : Type 0 where
     pub is_closed : file.closes made g result db'
     pub files : file.is_settled db' g → file.is_blank
         → LeavesFiles guard file {A = Unit {0}} db' g result (opened scope) (Ok tt)
 
-  -- a guard of this scope was made at the path, and closed
+  -- a guard with this scope was made at the path, and closed
   pub record MakesIn (path : List ℕ) (scope : Scope) (result : Result (Unit {0}) StationFault) : Type 0 where
     pub found : Result G StationFault
     pub made : D
@@ -123,14 +123,14 @@ abbrev pub is_input : (bodies : List (List ℕ)) → Bool
 is_input (body ∷ []) = bytes_eq body (codes "-")
 is_input bodies = false
 
--- what was judged: the bodies that are named, or those at the paths of the input
+-- what was judged: the named bodies, or those at the paths of the input
 abbrev pub JudgesGiven : Bool → State → (Left : State → Result (Unit {0}) StationFault → Type 0)
     → (Asked : List ℕ → Question → Type 0) → (bodies : List (List ℕ)) → (input held holds : Option (List ℕ))
     → Result (Unit {0}) StationFault → Type 0
 JudgesGiven true s Left Asked bodies input held holds r = JudgesInput s Left Asked input held holds r
 JudgesGiven false s Left Asked bodies input held holds r = Judges s Left Asked bodies held holds r
 
--- the policy of a file at the path, or why it has none
+-- the policy in a file at the path, or why there is none
 abbrev pub IsReadAs : {E F : Type 0} → surroundings.Ghosts E F → E → (remaining : F → Option (List ℕ)) → (path : List ℕ)
     → Result (List Department) StationFault → Type 0
 IsReadAs world around remaining path (Ok policy) = IsPolicyAt world around remaining path policy
@@ -138,12 +138,12 @@ IsReadAs {E} {F} world around remaining path (Err e) =
     IsOfAPolicy e × ((line : ℕ) → e ≡ BadPolicy line
     → (file : F) × world.has around path file × IfSome (remaining file) (λ bytes. policy_at bytes ≡ Err line))
 
--- the departments, without the text that they were read from
+-- the departments, without the text from which they were read
 abbrev pub departments_of : Result PolicyText StationFault → Result (List Department) StationFault
 departments_of (Ok known) = Ok known.policy
 departments_of (Err e) = Err e
 
--- The policy was read, and then the guard opened and the bodies judged. Or there is no policy, and then no guard was
+-- The policy was read, then the guard was opened and the bodies were judged. Or there is no policy; then no guard was
 -- looked for or opened, and nothing is printed.
 pub record JudgesIn {E F D G : Type 0} (world : surroundings.Ghosts E F) (around : E) (remaining : F → Option (List ℕ))
     (guard : register.Ghosts G) (file : file.Ghosts D G) (db db' : D) (path policy : List ℕ) (ahead : ℕ)
@@ -159,7 +159,7 @@ pub record JudgesIn {E F D G : Type 0} (world : surroundings.Ghosts E F) (around
 
 -- ---- the last serial
 
--- The last serial was lowered, and the first one answered. Or what was kept is left.
+-- The last serial was lowered, and the first one was returned. Or what was kept is left.
 abbrev pub RetiresTo : ℕ → State → (Left : State → Type 0) → Result ℕ StationFault → Type 0
 RetiresTo last s Left (Ok first) =
     (retirement s last ≡ Ok (with_last s last)) × Left (with_last s last) × (first ≡ s.scope.first)
@@ -174,7 +174,7 @@ Retires last s Left result = s.scope.last < 2 ^ 63 → RetiresTo last s (λ t. L
 abbrev pub retired_text : ℕ → ℕ → List ℕ
 retired_text first last = codes "retired " ++ (decimal first ++ (32 ∷ (decimal last ++ (10 ∷ []))))
 
--- ---- a guard made
+-- ---- making a guard
 
 -- the scope with the key of this file, or why there is none
 abbrev pub Begins : Option (List ℕ) → (first last : ℕ) → Result Scope StationFault → Type 0
@@ -184,12 +184,12 @@ Begins file first last (Err e) =
     IsOfAKey e
     ⊎ ((k : KeyLine) × IfSome file (λ text. IsKeyText text k) × (made_scope k.key first last ≡ None) × (e ≡ BadSerials))
 
--- the serials, and a fingerprint
+-- the text with these serials and this fingerprint
 abbrev pub ready_line : ℕ → ℕ → (fingerprint : List ℕ) → List ℕ
 ready_line first last fingerprint =
     codes "guard ready "
     ++ (decimal first ++ (32 ∷ (decimal last ++ (codes "\nca " ++ (fingerprint ++ (10 ∷ []))))))
 
--- those of a guard, with the fingerprint of its CA
+-- the text for a guard, with the fingerprint of its CA
 abbrev pub ready_text : Scope → List ℕ
 ready_text s = ready_line s.first s.last (fingerprint_text s.ca)

@@ -1,4 +1,4 @@
-//! The bodies that are approved, printed.
+//! Printing approved unsigned certificates (bodies).
 
 ghost use Rattle.std.specs.Prelude.{◌≡◌, ◌++◌, ◌∷◌, [], decimal, IfOk, OnOk};
 ghost use Rattle.std.specs.Io.KnownBytes.{Appends};
@@ -15,7 +15,7 @@ use std::io::Write;
 use text::NoMemory;
 use values::put_decimal;
 
-/// Puts a number and a space.
+/// Appends a number and a space.
 fn put_number(line: &mut Vec<u8>, number: u64) -> Result<(), NoMemory>
     ensures { OnOk result (line.new.items ≡ line.old.items ++ (decimal number ++ 32 ∷ [])) }
 {
@@ -24,7 +24,7 @@ fn put_number(line: &mut Vec<u8>, number: u64) -> Result<(), NoMemory>
     Ok(())
 }
 
-/// Puts the line of a row with this key id.
+/// Appends the line of a row with this key id.
 fn put_row(line: &mut Vec<u8>, row: &Approved, key_id: &[u8]) -> Result<(), NoMemory>
     ensures { OnOk result (line.new.items ≡ line.old.items ++ named_line row.now key_id.now) }
 {
@@ -62,7 +62,7 @@ fn print_row<W: Write>(alloc: Global, row: &Approved, out: &mut W) -> Result<(),
     print(out, line.as_slice())
 }
 
-/// Prints the line of the first row from a serial on, and answers the serial that follows; none if there is no row.
+/// Prints the line of the first row from a serial on, and returns the serial after it; `None` if there is no row.
 fn print_from<G: Register, W: Write>(
     alloc: Global,
     register: &mut G,
@@ -91,7 +91,7 @@ fn print_from<G: Register, W: Write>(
     }
 }
 
-/// Prints a line for each body that is approved, by its serial.
+/// Prints a line for each approved body, in order of the serials.
 pub fn print_bodies<G: Register, W: Write>(
     alloc: Global,
     register: &mut G,

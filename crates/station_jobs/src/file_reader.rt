@@ -1,4 +1,4 @@
-//! What files hold.
+//! Reading files.
 
 ghost use Rattle.std.specs.Prelude.{◌≡◌, ◌<◌, ◌≤◌, IfErr, IfOk, IfSome, take, vec_len};
 ghost use Rattle.station_jobs.specs.Faults.{IsOfAFile};
@@ -19,7 +19,7 @@ pub fn file_fault(error: &io::Error) -> StationFault
     }
 }
 
-/// The first bytes that a reader gives, `most` of them where it gives so many.
+/// The first `most` bytes that a reader gives, or all of them if there are fewer.
 fn read_first<R: Read + Drop>(alloc: Global, reader: R, most: u64) -> Result<Vec<u8>, StationFault>
     ensures first { IfOk result (λ v. IfSome (R.remaining reader) (λ bytes. v.items ≡ take most bytes)) }
     ensures only { IfErr result IsOfAFile }
@@ -31,7 +31,7 @@ fn read_first<R: Read + Drop>(alloc: Global, reader: R, most: u64) -> Result<Vec
     }
 }
 
-/// All that a reader gives. It is a fault of the file if that is more than `most` bytes.
+/// All bytes that a reader gives. More than `most` bytes are a fault of the file.
 pub fn read_whole<R: Read + Drop>(
     alloc: Global,
     reader: R,
@@ -49,7 +49,7 @@ pub fn read_whole<R: Read + Drop>(
     Ok(bytes)
 }
 
-/// The bytes of a body's file, or of a longer one than any body's so many that it is none.
+/// The bytes of a file with an unsigned certificate (body); if it is too long for one, its first 16385 bytes.
 pub fn read_body<R: Read + Drop>(alloc: Global, reader: R) -> Result<Vec<u8>, StationFault>
     ensures first { IfOk result (λ v. IfSome (R.remaining reader) (λ bytes. v.items ≡ take 16385 bytes)) }
     ensures only { IfErr result IsOfAFile }

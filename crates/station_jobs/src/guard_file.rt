@@ -1,4 +1,4 @@
-//! The file of a guard: made, opened and closed.
+//! The file of a guard: making, opening and closing it.
 
 ghost use Rattle.std.specs.Prelude.{ℕ, IsTrue, List, Result};
 ghost use Rattle.office.specs.Openings.{are_serials};
@@ -12,31 +12,31 @@ use std::alloc::Global;
 
 /// The file of a guard, with the file of its log.
 pub trait GuardFile {
-    /// The guard, as it is open.
+    /// The guard while it is open.
     type Guard;
 
-    // What each call below may give, with the file before it and after it.
+    // What each call below may return, with the file before it and after it.
     ghost makes: { Self → List ℕ → Made → Result Self.Guard Fault → Self → Type 0 };
 
     ghost opens: { Self → List ℕ → Result Self.Guard Fault → Self → Type 0 };
 
     ghost closes: { Self → Self.Guard → Result (Unit {0}) Fault → Self → Type 0 };
 
-    // What the files held before they were opened: the guard of this state, or none.
+    // What the files held before they were opened: the guard with this state, or none.
     ghost held: { State → Type 0 };
 
     ghost is_blank: { Type 0 };
 
-    // Of a guard that was closed or given up: the disk had returned what was written, and the log was copied, or nobody
-    // began to copy it.
+    // For a guard that was closed or abandoned: the disk had returned what was written, and the log was copied, or
+    // copying it had not begun.
     ghost is_settled: { Self → Self.Guard → Type 0 };
 
-    // Whatever a crash makes of the files then, they hold the guard of this state, or that of one of these two.
+    // Whatever a crash then leaves of the files, they hold the guard with this state, or with one of these two.
     ghost has: { Self → Self.Guard → State → Type 0 };
 
     ghost has_one: { Self → Self.Guard → State → State → Type 0 };
 
-    /// Makes a guard at a path that has approved nothing yet, and its file if it isn't there.
+    /// Makes a guard that has approved nothing yet, at a path, and its file if it doesn't exist.
     ///
     /// # Errors
     ///
@@ -50,7 +50,7 @@ pub trait GuardFile {
         requires { IsTrue (are_serials scope.now.first scope.now.last) }
         ensures { makes self.old path.now scope.now result self.new };
 
-    /// Opens the guard that the file at a path has.
+    /// Opens the guard in the file at a path.
     ///
     /// # Errors
     ///
@@ -62,7 +62,7 @@ pub trait GuardFile {
     ///
     /// # Errors
     ///
-    /// Why it can't be closed well. It is closed or given up all the same.
+    /// Why closing it failed. It is closed or abandoned in any case.
     fn close(&mut self, guard: Self::Guard) -> Result<(), StationFault>
         ensures { closes self.old guard result self.new };
 }

@@ -1,4 +1,4 @@
-//! Paths from an input, one a line.
+//! Paths from an input, one per line.
 
 ghost use Rattle.std.specs.Prelude.{◌≡◌, ◌∷◌, [], IfErr, IfOk, IfSome, Ok};
 ghost use Rattle.std.specs.Io.BufRead.{strip_last};
@@ -20,7 +20,7 @@ use std::alloc::Global;
 use std::io::{BufRead, Read, Write};
 use std::str;
 
-/// The next line of an input, with its LF if it has one. At the end of the input it is empty.
+/// The next line of an input, with its LF if it has one; empty at the end of the input.
 fn next_line<I: BufRead>(alloc: Global, input: &mut I) -> Result<Vec<u8>, StationFault>
     ensures taken { IfOk result (λ line. TakesLine (I.remaining input.old) (I.remaining input.new) line.items) }
     ensures only { IfErr result IsOfAFile }
@@ -32,7 +32,7 @@ fn next_line<I: BufRead>(alloc: Global, input: &mut I) -> Result<Vec<u8>, Statio
     }
 }
 
-/// What stands before the LF of a line.
+/// A line without its LF.
 fn without_end(line: &[u8]) -> &[u8]
     ensures { result.now ≡ strip_last 10 line.now }
 {
@@ -42,7 +42,7 @@ fn without_end(line: &[u8]) -> &[u8]
     }
 }
 
-/// The path of a line: what stands before its LF, if that is a text.
+/// The path in a line: the line without its LF, if that is valid text.
 fn path_in(line: &[u8]) -> Result<&str, StationFault>
     ensures path { IfOk result (λ path. path.now ≡ strip_last 10 line.now) }
     ensures only { IfErr result IsOfAFile }
@@ -53,8 +53,8 @@ fn path_in(line: &[u8]) -> Result<&str, StationFault>
     }
 }
 
-/// Judges the body of a file, by the policy that its own file has now, and prints the line of the answer. The policy is
-/// given back.
+/// Judges the unsigned certificate (body) in a file by the policy that its own file has now, and prints the line of the
+/// answer. Returns the policy.
 fn judge_now<F: Read + Drop, P: Surroundings<File = F>, G: Register, W: Write>(
     alloc: Global,
     around: &P,
@@ -84,7 +84,7 @@ fn judge_now<F: Read + Drop, P: Surroundings<File = F>, G: Register, W: Write>(
     }
 }
 
-/// Judges the body at the path of a line, as `judge_now` does.
+/// Judges the body at the path in a line, in the same way as `judge_now`.
 fn judge_line<F: Read + Drop, P: Surroundings<File = F>, G: Register, W: Write>(
     alloc: Global,
     around: &P,
@@ -112,7 +112,7 @@ fn judge_line<F: Read + Drop, P: Surroundings<File = F>, G: Register, W: Write>(
     }
 }
 
-/// Judges the body at the next path of an input, as `judge_now` does. At the end of the input none is given back.
+/// Judges the body at the next path of an input, in the same way as `judge_now`. Returns `None` at the input's end.
 fn judge_next<F: Read + Drop, P: Surroundings<File = F>, G: Register, I: BufRead, W: Write>(
     alloc: Global,
     around: &P,
@@ -150,14 +150,14 @@ fn judge_next<F: Read + Drop, P: Surroundings<File = F>, G: Register, I: BufRead
     }
 }
 
-/// Judges the bodies at the paths that an input gives, one a line, and prints the line of each before it reads the next.
-/// The policy's file is read again before each body. `policy` is its path, `known` what was read there, and `ahead` the
-/// seconds ahead.
+/// Judges the bodies at the paths from an input, one per line, and prints each answer before it reads the next path.
+/// The policy's file is read again before each body. `policy` is its path, `known` what was read from it, and `ahead`
+/// the number of seconds ahead.
 ///
 /// # Errors
 ///
-/// The first fault that is met ends it: that of the input, of the policy, or one of those of `judge_files`. What was
-/// printed before stands.
+/// The first fault ends it: that of the input, of the policy, or one of those of `judge_files`. Lines printed before it
+/// remain.
 pub fn judge_lines<F: Read + Drop, P: Surroundings<File = F>, G: Register, I: BufRead, W: Write>(
     alloc: Global,
     around: &P,

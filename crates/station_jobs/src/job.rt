@@ -1,4 +1,4 @@
-//! What is asked of the guard of a file, whole.
+//! Whole jobs over the guard in a file.
 
 ghost use Rattle.std.specs.Prelude.{◌≡◌, ℕ, List, IfOk, IsTrue};
 ghost use Rattle.office.specs.Openings.{are_serials};
@@ -16,14 +16,14 @@ use std::alloc::Global;
 use std::io::{BufRead, Read, Write};
 use text::NoMemory;
 
-/// What is asked of the guard of a file.
+/// A job for the guard in a file.
 #[derive(Clone, Copy)]
 pub enum GuardJob<'a> {
-    /// Makes a guard of this scope.
+    /// Makes a guard with this scope.
     Init(Scope),
-    /// Judges bodies, and prints the line of each.
+    /// Judges unsigned certificates (bodies), and prints the line of each answer.
     Judge(Judging<'a>),
-    /// Prints a line for each body that is approved.
+    /// Prints a line for each approved body.
     Bodies,
     /// Prints the body that is approved under a serial.
     Body(u64),
@@ -31,7 +31,7 @@ pub enum GuardJob<'a> {
     Retire(u64),
 }
 
-/// Prints what is told of a job that was done.
+/// Prints the text about a job that was done.
 fn tell<W: Write>(text: Result<Vec<u8>, NoMemory>, out: &mut W) -> Result<(), StationFault>
     ensures { (told : List ℕ) → IfOk text (λ v. v.items ≡ told)
         → Prints told (W.contents out.old) (W.contents out.new) result }
@@ -42,7 +42,7 @@ fn tell<W: Write>(text: Result<Vec<u8>, NoMemory>, out: &mut W) -> Result<(), St
     }
 }
 
-/// Makes a guard in a file, and tells of it.
+/// Makes a guard in a file, and prints the text about it.
 fn init_in<G: Register, D: GuardFile<Guard = G>, W: Write>(
     alloc: Global,
     db: &mut D,
@@ -61,7 +61,7 @@ fn init_in<G: Register, D: GuardFile<Guard = G>, W: Write>(
     }
 }
 
-/// Lowers the last serial of the guard of a file, and tells of it.
+/// Lowers the last serial of the guard in a file, and prints the text about it.
 fn lower_in<G: Register, D: GuardFile<Guard = G>, W: Write>(
     alloc: Global,
     db: &mut D,
@@ -79,11 +79,11 @@ fn lower_in<G: Register, D: GuardFile<Guard = G>, W: Write>(
     }
 }
 
-/// Does what is asked of the guard at a path, from its opening to its closing.
+/// Does a job with the guard at a path, from opening it to closing it.
 ///
 /// # Errors
 ///
-/// Why it wasn't done, or, where it was done, why the file couldn't be closed well or what is told couldn't be printed.
+/// Why it wasn't done, or, if it was, why the file couldn't be closed properly or why its text couldn't be printed.
 pub fn run_in<
     F: Read + Drop,
     P: Surroundings<File = F>,
@@ -102,7 +102,7 @@ pub fn run_in<
 ) -> Result<(), StationFault>
     requires lawful { IsLawful job.now }
 
-    // What is opened is what the files held, and what is closed is what they hold then.
+    // The opened guard is the one that the files held, and the closed one is what they hold then.
     requires keeps { KeepsFiles G.Register D.GuardFile }
     ensures { RunsJob P.Surroundings around.now F.remaining G.Register D.GuardFile db.old db.new path.now job.now
         (I.remaining input.old) (W.contents out.old) (W.contents out.new) result }

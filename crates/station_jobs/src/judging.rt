@@ -1,4 +1,4 @@
-//! Bodies judged one after the other, and the line of each printed.
+//! Judging unsigned certificates (bodies) in order, and printing the line of each answer.
 
 ghost use Rattle.std.specs.Prelude.{◌≡◌, ◌<◌, ◌≤◌, ◌^◌, ◌∷◌, [], take, map, string_bytes, IfErr, IfOk, IfSome, OnErr, OnOk};
 ghost use Rattle.std.specs.Io.KnownBytes.{Appends};
@@ -19,7 +19,7 @@ use guard::{Answer, Policy, Register, Window, judge, put_answer};
 use std::alloc::Global;
 use std::io::{Read, Write};
 
-/// Prints the line of an answer. After a fault a beginning of it may be printed.
+/// Prints the line of an answer. After a fault, a prefix of it may have been printed.
 fn print_answer<W: Write>(alloc: Global, answer: Answer, out: &mut W) -> Result<(), StationFault>
     ensures ok { OnOk result (Appends (W.contents out.old) (W.contents out.new) (answer_line answer)) }
     ensures err { OnErr result (AppendsBeginning (W.contents out.old) (W.contents out.new) (answer_line answer)) }
@@ -30,7 +30,7 @@ fn print_answer<W: Write>(alloc: Global, answer: Answer, out: &mut W) -> Result<
     print(out, line.as_slice())
 }
 
-/// Judges a body, and prints the line of the answer once the register keeps what is signed. The moment is below 2^63.
+/// Judges a body, and prints the answer after the register has stored what is signed. The time is below 2^63.
 fn answer_body<G: Register, W: Write>(
     alloc: Global,
     register: &mut G,
@@ -51,7 +51,7 @@ fn answer_body<G: Register, W: Write>(
     }
 }
 
-/// The body of a file, and the moment at which it is judged.
+/// The body in a file, and the time at which it is judged.
 #[tactic(auto, using(crate::proofs::Causes::of_a_body))]
 fn weighed<F: Read + Drop, P: Surroundings<File = F>>(
     alloc: Global,
@@ -70,7 +70,7 @@ fn weighed<F: Read + Drop, P: Surroundings<File = F>>(
     }
 }
 
-/// Judges the body of a file, and prints the line of the answer.
+/// Judges the body in a file, and prints the line of the answer.
 pub fn judge_file<F: Read + Drop, P: Surroundings<File = F>, G: Register, W: Write>(
     alloc: Global,
     around: &P,
@@ -95,12 +95,12 @@ pub fn judge_file<F: Read + Drop, P: Surroundings<File = F>, G: Register, W: Wri
     }
 }
 
-/// Judges the bodies of files, one after the other, and prints the line of each.
+/// Judges the bodies in files in order, and prints the line of each answer.
 ///
 /// # Errors
 ///
-/// The first fault that is met ends it: `File`, `Clock`, `Write`, `NoMemory`, or that of the register. What was printed
-/// before stands.
+/// The first fault ends it: `File`, `Clock`, `Write`, `NoMemory`, or that of the register. Lines printed before it
+/// remain.
 pub fn judge_files<F: Read + Drop, P: Surroundings<File = F>, G: Register, W: Write>(
     alloc: Global,
     around: &P,

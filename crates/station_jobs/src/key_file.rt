@@ -13,10 +13,10 @@ use lines::{KeyLine, read_key_line};
 use std::alloc::Global;
 use std::io::Read;
 
-/// The most bytes of a file with a key line: some KiB more than any has.
+/// The largest size of a file with a public-key line: some KiB more than any has.
 const MAX_KEY_FILE: u64 = 8192;
 
-// The key that a text holds: a key line, and then a line feed or nothing.
+// The key in a text: a public-key line, followed by a line feed or nothing.
 #[tactic(auto, using(crate::proofs::Causes::key_line))]
 fn key_in(alloc: Global, text: &[u8]) -> Result<KeyLine, StationFault>
     ensures key { IfOk result (IsKeyText text.now) }
@@ -29,7 +29,7 @@ fn key_in(alloc: Global, text: &[u8]) -> Result<KeyLine, StationFault>
     }
 }
 
-/// The key of a file with a key line, whose last line feed may be left out.
+/// The key in a file with a public-key line, whose last line feed may be missing.
 #[tactic(auto, using(crate::proofs::Causes::key_file))]
 fn read_key<R: Read + Drop>(alloc: Global, reader: R) -> Result<KeyLine, StationFault>
     ensures key { IfOk result (λ k. IfSome (R.remaining reader) (λ text. IsKeyText text k)) }
@@ -39,7 +39,7 @@ fn read_key<R: Read + Drop>(alloc: Global, reader: R) -> Result<KeyLine, Station
     key_in(alloc, bytes.as_slice())
 }
 
-/// The scope of a guard with the key of a file and with these serials.
+/// The scope of a guard with the key in a file and with these serials.
 pub fn scope_from<R: Read + Drop>(
     alloc: Global,
     ca: R,

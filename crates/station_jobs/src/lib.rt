@@ -1,8 +1,8 @@
-//! What `sshstation` does, over any register of a guard, any files, any input and any output.
+//! The jobs of `sshstation`, over any register of a guard, any files, any input and any output.
 //!
-//! `judge_files` judges the bodies of files, one after the other, and prints the line of each. `judge_lines` does so for
-//! paths that an input gives, one a line, and reads the policy again before each body. What is printed are the plain
-//! guard's answers in order, and the register keeps each body of a `sign` line, also where the call ends with a fault.
+//! `judge_files` judges the unsigned certificates (bodies) in files in order, and prints each answer. `judge_lines`
+//! does so for paths from an input, one per line, and reads the policy again before each. The answers are those of the
+//! guard's reference model. The register keeps the body of each `sign` line, even if the call ends with a fault.
 #![tactic(auto)]
 
 mod bodies;

@@ -1,4 +1,4 @@
-//! Bytes written to an output.
+//! Writing bytes to an output.
 
 ghost use Rattle.std.specs.Prelude.{◌≡◌, ◌≤◌, ◌<◌, length, take, IfErr, IfSome, None, OnErr, OnOk};
 ghost use Rattle.std.specs.Io.KnownBytes.{Appends, Keeps};
@@ -7,8 +7,8 @@ ghost use Rattle.wire.specs.Streams.{AppendsBeginning};
 use crate::station_fault::StationFault;
 use std::io::{ErrorKind, Write};
 
-/// Has an output take a beginning of the bytes, and answers how many that are: at least one where there is one. An
-/// output that fails takes none.
+/// Has an output take a prefix of the bytes, and returns its length: at least 1 if there are bytes. An output that
+/// fails takes none.
 fn write_some<W: Write>(out: &mut W, bytes: &[u8]) -> Option<usize>
     ensures bound { IfSome result (λ n. n ≤ length bytes.now) }
     ensures some { IfSome result (λ n. 0 < length bytes.now → 0 < n) }
@@ -29,7 +29,7 @@ fn write_some<W: Write>(out: &mut W, bytes: &[u8]) -> Option<usize>
     None
 }
 
-/// Writes all of the bytes. After a fault a beginning of them is written.
+/// Writes all of the bytes. After a fault, a prefix of them has been written.
 fn write_whole<W: Write>(out: &mut W, bytes: &[u8]) -> Result<(), StationFault>
     ensures ok { OnOk result (Appends (W.contents out.old) (W.contents out.new) bytes.now) }
     ensures err { OnErr result (AppendsBeginning (W.contents out.old) (W.contents out.new) bytes.now) }
@@ -45,7 +45,7 @@ fn write_whole<W: Write>(out: &mut W, bytes: &[u8]) -> Result<(), StationFault>
     Ok(())
 }
 
-/// Writes all of the bytes, and sees that they leave the program. After a fault a beginning of them may be written.
+/// Writes all of the bytes and flushes them. After a fault, a prefix of them may have been written.
 pub fn print<W: Write>(out: &mut W, bytes: &[u8]) -> Result<(), StationFault>
     ensures ok { OnOk result (Appends (W.contents out.old) (W.contents out.new) bytes.now) }
     ensures err { OnErr result (AppendsBeginning (W.contents out.old) (W.contents out.new) bytes.now) }

@@ -1,4 +1,4 @@
-//! Policies from files.
+//! Reading policies from files.
 
 ghost use Rattle.std.specs.Prelude.{◌≡◌, ◌≢◌, ◌≤◌, ◌++◌, Err, IfErr, IfOk, IfSome, Ok, OnOk, ℕ, length};
 ghost use Rattle.guard.specs.Policies.{policy_at};
@@ -32,7 +32,7 @@ fn policy_bytes<F: Read + Drop>(alloc: Global, file: F) -> Result<Vec<u8>, Stati
     read_whole(alloc, file, LONGEST_POLICY as u64)
 }
 
-/// The policy that a text is.
+/// The policy in a text.
 fn policy_of(alloc: Global, text: Vec<u8>) -> Result<PolicyText, StationFault>
     requires { length text.items ≤ LONGEST_POLICY }
     ensures read { IfOk result (λ p. (p.text.items ≡ text.items) × (policy_at text.items ≡ Ok p.policy)) }
@@ -45,7 +45,7 @@ fn policy_of(alloc: Global, text: Vec<u8>) -> Result<PolicyText, StationFault>
     }
 }
 
-/// The policy of a file.
+/// The policy in a file.
 #[tactic(auto, using(crate::proofs::Causes::of_a_file))]
 pub fn read_policy<F: Read + Drop>(alloc: Global, file: F) -> Result<PolicyText, StationFault>
     ensures text { IfOk result (λ p. policy_at p.text.items ≡ Ok p.policy) }
@@ -60,7 +60,7 @@ pub fn read_policy<F: Read + Drop>(alloc: Global, file: F) -> Result<PolicyText,
     }
 }
 
-/// The policy that is in a file now. It is read again only if the file's bytes aren't those that are known.
+/// The policy that is in a file now. It is parsed again only if the file's bytes differ from the known ones.
 #[tactic(auto, using(crate::proofs::Causes::of_a_file))]
 pub fn refreshed<F: Read + Drop, P: Surroundings<File = F>>(
     alloc: Global,
@@ -81,7 +81,7 @@ pub fn refreshed<F: Read + Drop, P: Surroundings<File = F>>(
     policy_of(alloc, bytes)
 }
 
-/// Puts the name of each department as a line.
+/// Appends each department's name as a line.
 fn put_names(text: &mut Vec<u8>, departments: &[Department]) -> Result<(), NoMemory>
     ensures { OnOk result (text.new.items ≡ text.old.items ++ names_text departments.now) }
 {
@@ -92,7 +92,7 @@ fn put_names(text: &mut Vec<u8>, departments: &[Department]) -> Result<(), NoMem
     Ok(())
 }
 
-/// The name of each department of a policy, as lines.
+/// The names of a policy's departments, one per line.
 fn names_of(alloc: Global, policy: &Policy) -> Result<Vec<u8>, NoMemory>
     ensures { IfOk result (λ text. text.items ≡ names_text policy.now) }
 {
@@ -101,11 +101,11 @@ fn names_of(alloc: Global, policy: &Policy) -> Result<Vec<u8>, NoMemory>
     Ok(text)
 }
 
-/// Prints the name of each department of a policy's file, in its order.
+/// Prints the names of the departments in a policy's file, in order.
 ///
 /// # Errors
 ///
-/// The fault of the policy, and then nothing is printed; `NoMemory`, or `Write`.
+/// The fault of the policy, in which case nothing is printed; `NoMemory`; or `Write`.
 pub fn print_policy<F: Read + Drop, W: Write>(
     alloc: Global,
     file: F,

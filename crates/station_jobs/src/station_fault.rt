@@ -1,35 +1,35 @@
-//! Why a job was not done.
+//! Why a job wasn't done.
 
 use guard::{PolicyFault, RegisterFault, RetireFault};
 use lines::LineFault;
 use std::fmt;
 
-/// Why a job was not done. It is printed as its name.
+/// Why a job wasn't done. It is printed as its name.
 #[derive(Clone, Copy, Debug, PartialEq, Eq)]
 pub enum StationFault {
     /// A file or the input can't be read, or a file is longer than any of its kind.
     File,
     /// The output can't be written.
     Write,
-    /// A growth was refused.
+    /// An allocation was refused.
     NoMemory,
-    /// The clock failed, or is past the latest moment.
+    /// The clock failed, or is past the latest time.
     Clock,
-    /// This line of the policy, from 1, doesn't fit.
+    /// This line of the policy, counted from 1, is invalid.
     BadPolicy(u64),
-    /// The CA's file holds no key line.
+    /// The CA's file doesn't have a valid public-key line.
     Line(LineFault),
-    /// The serials are no guard's, or the new last one is none of the guard's.
+    /// The serials can't be those of a guard, or the new last one isn't one of the guard's.
     BadSerials,
-    /// A body is approved under a serial over the new last one.
+    /// An unsigned certificate (body) is approved under a serial above the new last one.
     SerialApproved,
     /// No body is approved under the serial.
     UnknownSerial,
-    /// The database has a table of a name that a guard needs.
+    /// The database has a table with a name that a guard needs.
     AlreadyAGuard,
-    /// The database isn't there, or has no guard.
+    /// The database doesn't exist, or has no guard.
     NotAGuard,
-    /// The guard's tables are those of another schema.
+    /// The guard's tables have another schema.
     WrongSchema,
     /// A row isn't one that a guard writes.
     Damaged,

@@ -1,4 +1,4 @@
-//! What is told of a job that was done.
+//! The texts about jobs that were done.
 
 ghost use Rattle.std.specs.Prelude.{◌≡◌, IfOk};
 ghost use Rattle.station_jobs.specs.Whole.{closed, ready_line, ready_text, retired_text};
@@ -10,8 +10,8 @@ use std::alloc::Global;
 use text::NoMemory;
 use values::put_decimal;
 
-/// What comes of a job and of the closing of its guard. A fault of the job is kept, and where the job went well, one of
-/// the closing is told.
+/// The result of a job and of closing its guard. A fault of the job is kept; if the job succeeded, a fault of closing
+/// is returned.
 pub fn closed<T: Copy>(
     done: Result<T, StationFault>,
     closing: Result<(), StationFault>,
@@ -24,7 +24,7 @@ pub fn closed<T: Copy>(
     }
 }
 
-/// The text of a guard that was made, with the fingerprint of its CA.
+/// The text about a new guard, with the fingerprint of its CA.
 fn ready_line(alloc: Global, first: u64, last: u64, fingerprint: &[u8]) -> Result<Vec<u8>, NoMemory>
     ensures { IfOk result (λ text. text.items ≡ ready_line first last fingerprint.now) }
 {
@@ -39,7 +39,7 @@ fn ready_line(alloc: Global, first: u64, last: u64, fingerprint: &[u8]) -> Resul
     Ok(text)
 }
 
-/// The text of a guard that was made.
+/// The text about a new guard.
 pub fn ready_text(alloc: Global, scope: &Scope) -> Result<Vec<u8>, NoMemory>
     ensures { IfOk result (λ text. text.items ≡ ready_text scope.now) }
 {
@@ -50,7 +50,7 @@ pub fn ready_text(alloc: Global, scope: &Scope) -> Result<Vec<u8>, NoMemory>
     ready_line(alloc, scope.first, scope.last, &fingerprint(&key))
 }
 
-/// The text of a last serial that was lowered.
+/// The text about a last serial that was lowered.
 pub fn retired_text(alloc: Global, first: u64, last: u64) -> Result<Vec<u8>, NoMemory>
     ensures { IfOk result (λ text. text.items ≡ retired_text first last) }
 {

@@ -1,6 +1,6 @@
-//! Whole jobs, from the opening of a guard's file to its closing.
+//! Whole jobs, from opening a guard's file to closing it.
 //!
-//! A guard is opened once, or not at all where a file can't be read. What is left of it is closed.
+//! A guard is opened once, or not at all if a file can't be read. It is closed afterwards.
 
 ghost use Rattle.std.specs.Prelude.{◌≡◌, Err, IfOk, IsTrue, Ok, OnOk, map, string_bytes};
 ghost use Rattle.office.specs.Openings.{are_serials};
@@ -24,14 +24,14 @@ use guard::{Register, Scope, retire};
 use std::alloc::Global;
 use std::io::{BufRead, Read, Write};
 
-/// What is to be judged: the path of the policy, the seconds ahead, and the paths of the bodies.
+/// What to judge: the path of the policy, the seconds ahead, and the paths of the unsigned certificates (bodies).
 #[derive(Clone, Copy)]
 pub struct Judging<'a> {
-    /// Path of the policy.
+    /// The path of the policy.
     pub policy: &'a str,
-    /// How many seconds after the moment a validity may begin.
+    /// How many seconds after the current time a validity may begin.
     pub ahead: u64,
-    /// Paths of the bodies, or one `-` for the paths of the input.
+    /// The paths of the bodies, or one `-` for the paths of the input.
     pub bodies: &'a [String],
 }
 
@@ -45,7 +45,7 @@ fn is_input(bodies: &[String]) -> bool
     }
 }
 
-/// Judges the bodies of files by one policy, which is given up then.
+/// Judges the bodies in files by one policy, which is then dropped.
 fn judge_named<F: Read + Drop, P: Surroundings<File = F>, G: Register, W: Write>(
     alloc: Global,
     around: &P,
@@ -67,7 +67,7 @@ fn judge_named<F: Read + Drop, P: Surroundings<File = F>, G: Register, W: Write>
     done
 }
 
-/// Judges the bodies that are named, or those at the paths of the input.
+/// Judges the named bodies, or those at the paths of the input.
 fn judge_given<F: Read + Drop, P: Surroundings<File = F>, G: Register, I: BufRead, W: Write>(
     alloc: Global,
     around: &P,
@@ -94,7 +94,7 @@ fn judge_given<F: Read + Drop, P: Surroundings<File = F>, G: Register, I: BufRea
     judge_named(alloc, around, register, judging, known, out)
 }
 
-/// The policy of the file at a path.
+/// The policy in the file at a path.
 fn policy_at<F: Read + Drop, P: Surroundings<File = F>>(
     alloc: Global,
     around: &P,
@@ -109,7 +109,7 @@ fn policy_at<F: Read + Drop, P: Surroundings<File = F>>(
     }
 }
 
-/// Judges bodies over the guard of a file by a policy that was read.
+/// Judges bodies over the guard in a file by a policy that was read.
 fn judge_over<
     F: Read + Drop,
     P: Surroundings<File = F>,
@@ -149,13 +149,13 @@ fn judge_over<
     }
 }
 
-/// Judges bodies by a policy over the guard of a file, and prints the line of each. The policy is read before the guard's
-/// file is looked for.
+/// Judges bodies by a policy over the guard in a file, and prints the line of each answer. The policy is read before
+/// the guard's file is looked for.
 ///
 /// # Errors
 ///
-/// The first fault that is met, in this order: of the policy, of the guard's file, of the bodies. What was printed before
-/// stands. A fault of the closing is answered where all else went well.
+/// The first fault, in this order: of the policy, of the guard's file, of the bodies. Lines printed before it remain. A
+/// fault of closing is returned if everything else succeeded.
 pub fn judge_in<
     F: Read + Drop,
     P: Surroundings<File = F>,
@@ -183,11 +183,11 @@ pub fn judge_in<
     }
 }
 
-/// Prints a line for each body that the guard of a file has approved.
+/// Prints a line for each body that the guard in a file has approved.
 ///
 /// # Errors
 ///
-/// Why the guard wasn't opened, or why not all could be printed.
+/// Why the guard wasn't opened, or why not everything could be printed.
 pub fn bodies_in<G: Register, D: GuardFile<Guard = G>, W: Write>(
     alloc: Global,
     db: &mut D,
@@ -209,7 +209,7 @@ pub fn bodies_in<G: Register, D: GuardFile<Guard = G>, W: Write>(
     }
 }
 
-/// Prints the body that the guard of a file has approved under a serial.
+/// Prints the body that the guard in a file has approved under a serial.
 ///
 /// # Errors
 ///
@@ -236,7 +236,7 @@ pub fn body_in<G: Register, D: GuardFile<Guard = G>, W: Write>(
     }
 }
 
-/// Lowers the last serial of a guard, and answers its first one.
+/// Lowers the last serial of a guard, and returns its first one.
 fn retire_over<G: Register>(alloc: Global, register: &mut G, last: u64) -> Result<u64, StationFault>
     ensures honest { G.is_honest register.new → G.is_honest register.old }
     ensures retires { G.is_honest register.new → (s : State) → G.keeps register.old s
@@ -251,11 +251,11 @@ fn retire_over<G: Register>(alloc: Global, register: &mut G, last: u64) -> Resul
     }
 }
 
-/// Lowers the last serial of the guard of a file, and answers its first one.
+/// Lowers the last serial of the guard in a file, and returns its first one.
 ///
 /// # Errors
 ///
-/// `BadSerials` and `SerialApproved`, as they say, or why the guard wasn't opened or didn't answer.
+/// `BadSerials` or `SerialApproved`, or why the guard wasn't opened or didn't answer.
 pub fn retire_in<G: Register, D: GuardFile<Guard = G>>(
     alloc: Global,
     db: &mut D,
@@ -275,11 +275,11 @@ pub fn retire_in<G: Register, D: GuardFile<Guard = G>>(
     }
 }
 
-/// Makes a guard of this scope in a file.
+/// Makes a guard with this scope in a file.
 ///
 /// # Errors
 ///
-/// Why none was made, or why its file can't be closed well.
+/// Why none was made, or why its file couldn't be closed properly.
 pub fn make_in<G: Register, D: GuardFile<Guard = G>>(
     alloc: Global,
     db: &mut D,

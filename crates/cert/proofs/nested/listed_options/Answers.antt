@@ -4,7 +4,7 @@ use Rattle.cert.specs.Reading.{field_fault}
 use Rattle.cert.proofs.Elements.{option_goes_on, option_cut, option_fails, options_left}
 use Rattle.cert.proofs.nested.listed_options.Goals as goal
 
--- the fault of the field, where nothing was read
+-- the fault of the field, if nothing was read
 gives_fault : (field : OptionField) (e : CertFault) (total : Option (List Pair)) → e ≡ field_fault field
     → total ≡ None → Gives {X = List Pair} (Err e) (or_fault (field_fault field) total)
 gives_fault field e total is none =

@@ -3,21 +3,21 @@ use Rattle.cert.proofs.Words.{ap, bytes_eq, cond, false, is_known, is_option_val
 use Rattle.cert.proofs.Words.{sym, true, ℕ, ◌∙◌, ◌≡◌}
 use Rattle.cert.proofs.options.fault_of.Goals as goal
 
--- the fault that three tests name
+-- the fault that three tests determine
 abbrev by_tests : Bool → Bool → Bool → Option OptionFault
 by_tests known twice lawful = cond (not known) (Some Unknown) (cond twice (Some Twice) (cond (not lawful)
     (Some BadValue) None))
 
--- tests that answered so name the fault
+-- tests with these results determine the fault
 as_tests : (known twice lawful : Bool) {k t l : Bool} → known ≡ k → twice ≡ t → lawful ≡ l
     → by_tests k t l ≡ by_tests known twice lawful
 as_tests known twice lawful p q r = rw (p, q, r) refl
 
--- what a test answered at a copy of the name
+-- the result of a test of a copy of the name
 at_name : (test : List ℕ → Bool) (name copy : List ℕ) (r b : Bool) → copy ≡ name → r ≡ test copy → r ≡ b → test name ≡ b
 at_name test name copy r b same e f = ap test (sym same) ∙ sym e ∙ f
 
--- the fault of a pair, by what the tests answered
+-- the fault of a pair, by the results of the tests
 named : (field : OptionField) (earlier : List Pair) (p : Pair) {k t l : Bool} → is_known field p.name ≡ k
     → list_any (λ q. bytes_eq q.name p.name) earlier ≡ t → is_option_value p.name p.value ≡ l
     → by_tests k t l ≡ pair_fault field earlier p

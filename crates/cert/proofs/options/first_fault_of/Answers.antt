@@ -6,7 +6,7 @@ use Rattle.std.proofs.lemmas.List.{take_more}
 use Rattle.std.specs.Option.{option_or}
 use Rattle.cert.proofs.options.first_fault_of.Goals as goal
 
--- the first fault is that of the next pair, or of those behind it
+-- the first fault is that of the next pair, or of those after it
 next : (field : OptionField) (ps : List Pair) (i : ℕ) (p : Pair) → i < length ps → p ≡ get_or ps i p
     → first_fault field (take i ps) (drop i ps)
     ≡ option_or (pair_fault field (take i ps) p) (first_fault field (take (i + 1) ps) (drop (i + 1) ps))

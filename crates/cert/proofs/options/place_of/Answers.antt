@@ -3,7 +3,7 @@ use Rattle.std.proofs.lemmas.Bool.{cases_lt, lt-ltb, le-ltb}
 use Rattle.std.proofs.lemmas.List.Sums.{prefix_len-le-length}
 use Rattle.cert.proofs.options.place_of.Goals as goal
 
--- a place that is found, or else the end
+-- a place that is found, or otherwise the end
 or_end : (place end : ℕ) → place ≤ end → unwrap_or (cond (ltb place end) (Some place) None) end ≡ place
 or_end place end le = elim (cases_lt place end) [
   | inl lt ↦ rw (lt-ltb place end lt) refl

@@ -3,7 +3,7 @@ use Rattle.station_jobs.specs.Leaving.{Stays}
 use Rattle.station_jobs.proofs.Rows.{Listed}
 use Rattle.station_jobs.proofs.bodies.print_bodies.Given as goal
 
--- the rows before this serial are printed
+-- the rows before this serial have been printed
 abbrev pub invariant-loop-row : goal.invariant-loop-row
 invariant-loop-row g l = record {
   honest : g.G.Register.is_honest l.register → g.G.Register.is_honest l.fn.register;

@@ -6,7 +6,7 @@ use Rattle.station_jobs.specs.Leaving.{Leaves}
 use Rattle.station_jobs.proofs.Lines.{Underway}
 use Rattle.station_jobs.proofs.input.judge_lines.Given as goal
 
--- the bodies at the first paths were judged
+-- the bodies at the first paths have been judged
 abbrev pub invariant-loop-turn : goal.invariant-loop-turn
 invariant-loop-turn g l = record {
   honest : g.G.Register.is_honest l.register → g.G.Register.is_honest l.fn.register;

@@ -4,7 +4,7 @@ use Rattle.station_jobs.specs.Judging.{Asks, Judges}
 use Rattle.station_jobs.specs.Leaving.{Leaves}
 use Rattle.station_jobs.proofs.judging.judge_files.Given as goal
 
--- the first paths were judged
+-- the bodies at the first paths have been judged
 abbrev pub invariant-loop-path : goal.invariant-loop-path
 invariant-loop-path g l = record {
   honest : g.G.Register.is_honest l.register → g.G.Register.is_honest l.fn.register;

@@ -2,7 +2,7 @@ use Rattle.std.proofs.Common.{◌≤◌, ◌-◌, ℕ, List, Option, length, tak
 use Rattle.std.specs.Io.KnownBytes.{Appends}
 use Rattle.station_jobs.proofs.output.write_whole.Given as goal
 
--- the first `at` bytes were taken
+-- the first `at` bytes have been taken
 pub record Sent (old new : Option (List ℕ)) (bytes : List ℕ) (at : ℕ) : Type 0 where
   pub sent : Appends old new (take at bytes)
   pub within : at ≤ length bytes
