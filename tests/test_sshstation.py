@@ -22,7 +22,7 @@ FINGERPRINT = "SHA256:SQfC+vTbLURn9cTkVxIS8fGQ3FKNAJWeB0o139+gV4M"
 MOST = 2 ** 64 - 1
 
 HELP = """\
-Decides which SSH certificates a CA's key may sign
+Decides which SSH certificates and revocation lists a CA's key may sign, and records what it approves
 
 Usage: sshstation <COMMAND>
 

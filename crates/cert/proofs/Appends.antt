@@ -36,7 +36,7 @@ module _ {E : Type 0} where
   number_last meant n r out old so_far e m f =
       on_ok_weaker r (λ e. put_after (u32_text n) out old so_far e f ∙ ap (λ k. so_far ++ u32_text k) m) e
 
-  -- two texts that make one field
+  -- two texts that form one field
   pub both_last : (first second : List ℕ) (r : Result (Unit {0}) E) (out between old so_far : List ℕ)
       → OnOk r (out ≡ between ++ second) → between ≡ old ++ first → old ≡ so_far
       → OnOk r (out ≡ so_far ++ (first ++ second))

@@ -62,7 +62,7 @@ all_known field (p ∷ ps) lawful name h =
       | inr other ↦ all_known field ps parts.1 name other
     ]
 
--- there are at most as many options as there are names
+-- there are at most as many options as known names
 pub length-le_known : (field : OptionField) (ps : List Pair) → is_ascending ps ≡ true
     → list_all (is_option field) ps ≡ true → length (names ps) ≤ length (known_names field)
 length-le_known field ps rising lawful =

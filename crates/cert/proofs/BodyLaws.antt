@@ -1,4 +1,4 @@
--- A fault of the bytes is found; what reading gives is what was returned.
+-- A fault of the bytes is found, and what holds for the result of reading holds for the returned value.
 use Rattle.cert.proofs.Words.{Bool, CertFault, CertFields, CriticalOptions, Err, Extensions, Gives, IsBytes}
 use Rattle.cert.proofs.Words.{IsCertFields, IsFault, Leaves, List, None, Ok, Option, Result, Some, [], ap, arith}
 use Rattle.cert.proofs.Words.{body_text, bytes_eq-Decides, cert_type, check, ends_at, eqb, eqb-true, false, front}
@@ -160,7 +160,7 @@ pub answered_from : (bytes : List ℕ) (r : Result CertFields CertFault) (e : Ce
 answered_from bytes r e fits other there gives = subst (λ (read : Result CertFields CertFault). Gives r read)
     (body_at-fault bytes e fits other there) gives
 
--- No text is that of two values.
+-- No text belongs to two values.
 pub body_text-unique : (c d : CertFields) → IsCertFields c → IsCertFields d → body_text c ≡ body_text d → c ≡ d
 body_text-unique c d lc ld e =
     let same : Ok c ≡ Ok d = sym (body_at-again c lc) ∙ ap body_at e ∙ body_at-again d ld in

@@ -1,4 +1,4 @@
--- The text of the lists read from inside a field is the field's text, and their text is read back.
+-- The lists that are read from a field have the field's text, and valid lists are read back from their text.
 use Rattle.cert.proofs.Words.{Bool, IsBytes, List, None, Option, Pair, Some, [], and_from, and_parts, ap, append-nil}
 use Rattle.cert.proofs.Words.{append_assoc, are_networks, are_principals, arith, bytes_eq, bytes_eq-Decides, cases_lt}
 use Rattle.cert.proofs.Words.{codes, cond, eqb, eqb-true, false, flat_map, inl, inr, is_command, is_flag}

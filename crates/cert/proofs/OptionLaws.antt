@@ -1,4 +1,4 @@
--- The text of the options read from inside a field is the field's text, and their text is read back.
+-- The options that are read from a field have the field's text, and valid options are read back from their text.
 use Rattle.cert.proofs.Words.{Bool, CriticalOptions, Extensions, Host, IsBytes, Kind, List, None, OptionField, Pair}
 use Rattle.cert.proofs.Words.{Some, User, [], and_from, and_parts, ap, arith, comes_before, comes_next, cond, eqb}
 use Rattle.cert.proofs.Words.{is_ascending, is_known, is_option, is_options, length, list_all, option_and_then_some}

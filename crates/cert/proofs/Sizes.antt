@@ -188,7 +188,7 @@ options-short field kind ps h =
     let lawful = and_parts (is_ascending ps) _ parts.1 in
     All-from_recursion IsShort ps (all-short field ps lawful.1)
 
--- a field has at most the six extensions
+-- a field has at most six options
 pub options-few : (field : OptionField) (ps : List Pair) → is_ascending ps ≡ true
     → list_all (is_option field) ps ≡ true → length ps ≤ 6
 options-few field ps rising lawful =

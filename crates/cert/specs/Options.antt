@@ -25,7 +25,7 @@ abbrev pub with_pair : List Pair → Pair → List Pair
 with_pair [] p = p ∷ []
 with_pair (q ∷ qs) p = match_ordering (slice_cmp nat_cmp p.name q.name) (p ∷ q ∷ qs) (p ∷ qs) (q ∷ with_pair qs p)
 
--- the strictly ascending list of the map that the pairs make
+-- the strictly ascending list of the map that the pairs form
 abbrev pub listing : List Pair → List Pair
 listing ps = fold with_pair [] ps
 
@@ -39,7 +39,7 @@ are_for_kind User ps = true
 are_for_kind Host [] = true
 are_for_kind Host (p ∷ ps) = false
 
--- the options that a certificate of the kind may have in the field, in ascending order of their names
+-- a certificate of the kind may have these options in the field, and their names ascend
 abbrev pub is_options : OptionField → Kind → List Pair → Bool
 is_options field kind ps = are_for_kind kind ps && (is_ascending ps && list_all (is_option field) ps)
 

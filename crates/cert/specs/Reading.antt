@@ -221,7 +221,7 @@ end_at bytes = do
   _ ← check TrailingBytes (length ca.1 == 0)
   Ok ca.0
 
--- the fields from the key id on, with those before it
+-- the fields from the key id on, together with those before it
 unfoldable pub from_key_id_at : (nonce key : List ℕ) → ℕ → Kind → List ℕ → Result CertFields CertFault
 from_key_id_at nonce key serial kind bytes = do
   key_id ← key_id_at bytes

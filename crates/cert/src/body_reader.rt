@@ -204,7 +204,7 @@ fn read_end(cursor: &mut Cursor) -> Result<[u8; 32], CertFault>
     Ok(ca)
 }
 
-// The fields from the key id on, with those before it.
+// The fields from the key id on, together with those before it.
 fn read_from_key_id(
     alloc: Global,
     cursor: &mut Cursor,

@@ -13,7 +13,7 @@ pub enum CertFault {
     BadNonce,
     /// The key doesn't have 32 bytes.
     BadKey,
-    /// The serial is 0 or over 9223372036854775806.
+    /// The serial is 0 or above 9223372036854775806.
     BadSerial,
     /// The kind is neither 1, a user, nor 2, a host.
     BadKind,
@@ -21,7 +21,7 @@ pub enum CertFault {
     BadKeyId,
     /// The principals aren't 1 to 16 distinct valid names.
     BadPrincipals,
-    /// An end is over 253402300799, or the validity doesn't begin before it ends.
+    /// An end is above 253402300799, or the validity doesn't begin before it ends.
     BadValidity,
     /// The critical options aren't valid for the kind, or their names don't ascend strictly.
     BadOptions,

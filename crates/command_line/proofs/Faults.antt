@@ -15,7 +15,7 @@ lacks found (Help text) none any = absurd any
 lacks found (BadWords text) none any = none
 lacks found NoMemory none any = tt
 
--- If `other` is computed from `one`, then a fault for `one` is a fault for `other`.
+-- If `other` is `None` whenever `one` is, then a fault for `one` is a fault for `other`.
 pub lacks_too : {A B : Type 0} (one : Option A) (other : Option B) (fault : WordsFault) → (one ≡ None → other ≡ None) → IsLack one fault
     → IsLack other fault
 lacks_too one other (Help text) leads lack = absurd lack

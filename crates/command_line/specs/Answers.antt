@@ -9,7 +9,7 @@ use Rattle.command_line.specs.declared.words_fault.WordsFault.{WordsFault}
 use Rattle.command_line.specs.declared.words_fault.WordsFault.TheVariants.{Help, BadWords, NoMemory}
 use Rattle.command_line.specs.declared.job.Job.{Job}
 
--- the errors and requests for a text in the words, according to clap's meaning of the command
+-- the errors and requests for a text in the words, according to clap's specification
 abbrev pub faults_of : List Text → Kinds
 faults_of words = fault_of office_command words
 
@@ -25,7 +25,7 @@ IsMistake kind = (kind ≢ DisplayHelp) × (kind ≢ DisplayVersion) × (kind �
 abbrev pub IsWish : ErrorKind → Type 0
 IsWish kind = (kind ≡ DisplayHelp) ⊎ (kind ≡ DisplayVersion)
 
--- the words are invalid, according to clap's meaning of a command
+-- the words are invalid for a command, according to clap's specification
 abbrev pub HaveMistake : App → List Text → Type 0
 HaveMistake app words = (kind : ErrorKind) × IsAmong kind (fault_of app words) × IsMistake kind
 
@@ -47,13 +47,13 @@ IsFaultOf words (Help text) = AskForText words
 IsFaultOf words (BadWords text) = AreBad words
 IsFaultOf words NoMemory = Unit {0}
 
--- what the fault that an error of clap becomes implies about a command's words
+-- what the fault made from a clap error implies about a command's words
 abbrev pub IsErrorOf : App → List Text → WordsFault → Type 0
 IsErrorOf app words (Help text) = AskForTextOf app words
 IsErrorOf app words (BadWords text) = HaveMistake app words
 IsErrorOf app words NoMemory = Unit {0}
 
--- the fault that an error of clap becomes
+-- the fault that a clap error becomes
 abbrev pub IsAnswered : ErrorKind → WordsFault → Type 0
 IsAnswered kind (Help text) = IsWish kind
 IsAnswered kind (BadWords text) = IsMistake kind

@@ -107,7 +107,7 @@ fn with_readings<'a>(
     )
 }
 
-/// The whole command. For clap it is the one that `specs/Command.antt` defines.
+/// The whole command. To clap, it is the one that `specs/Command.antt` defines.
 ///
 /// # Errors
 ///

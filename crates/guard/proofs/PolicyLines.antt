@@ -34,7 +34,7 @@ text_whole out total i ps le is =
     let none : 8 - i ≡ 0 = omega (arith, le) in
     sym (append-nil out) ∙ ap (λ (n : ℕ). out ++ text_of n ps) (sym none) ∙ is
 
--- the same for the lines that a function has
+-- ---- the same for the borrowed lines that the function has
 abbrev seen : List (Bor (List ℕ)) → List (List ℕ)
 seen xs = map (λ x. x.now) xs
 

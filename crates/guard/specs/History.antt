@@ -31,7 +31,7 @@ pub record MaySign (scope : Scope) (q : Question) (c : CertFields) : Type 0 wher
   pub lasts : q.moment < c.before
   pub begins : c.after ≤ q.moment + q.ahead
 
--- the row is that of a question whose body might be signed
+-- the row is that of a question whose body could be signed
 abbrev pub WasAsked : Scope → List Question → Approved → Type 0
 WasAsked scope l a =
     (before : List Question) × (q : Question) × (later : List Question) × (c : CertFields)

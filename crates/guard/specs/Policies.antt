@@ -52,7 +52,7 @@ policy_from zero number known (p ∷ ps) =
 abbrev pub policy_at : List ℕ → Result (List Department) ℕ
 policy_at bytes = policy_from 0 1 [] (pieces bytes)
 
--- What a function returned is what reading gives, unless memory was refused.
+-- The returned value is what reading gives, unless memory was refused.
 abbrev pub Gives : {X : Type 0} → Result X PolicyFault → Result X ℕ → Type 0
 Gives (Ok x) read = read ≡ Ok x
 Gives (Err (fault.BadPolicy n)) read = read ≡ Err n

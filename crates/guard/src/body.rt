@@ -7,7 +7,7 @@ ghost use Rattle.guard.specs.Reading.{Gives, IsFault};
 use cert::{CertFault, CertFields, read_body};
 use std::alloc::Global;
 
-/// The most bytes that a body may have for a guard.
+/// The largest size of a body that a guard reads, in bytes.
 pub const LONGEST_BODY: usize = 16384;
 
 /// Why bytes can't be read as a body.

@@ -195,8 +195,8 @@ pub fn judge<R: Register>(
     ensures crash { R.is_honest register.new → (s : State) → R.keeps register.old s → R.leaves register.old s s
         → R.leaves register.new s (after s (question policy.now window body.now)) }
 
-    // A register that keeps a guard is never reported as damaged, and as failed only if its database has failed, if its
-    // last serial and the time are below 2^63.
+    // If the last serial and the time are below 2^63, a register that keeps a guard is never reported as damaged, and
+    // is reported as failed only if its database has failed.
     ensures cause { R.is_honest register.new → (s : State) → R.keeps register.old s → s.scope.last < 2 ^ 63
         → window.moment < 2 ^ 63 → IfErr result (λ e. HasCause e (R.has_failed register.new)) }
 {

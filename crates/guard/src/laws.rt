@@ -24,7 +24,7 @@ pub fn a_refusal_changes_nothing()
     ensures { (s : State) (q : Question) (r : Refusal) → refusal_of s q ≡ Some r → after s q ≡ s }
 {}
 
-/// Each unsigned certificate (body) that a guard keeps was asked for, and might be signed then: a body of the profile
+/// Each unsigned certificate (body) that a guard keeps was asked for, and could be signed then: a body of the profile
 /// for the guard's CA and one of its serials, permitted by the given policy, within its time.
 pub fn an_approved_body_was_permitted()
     ensures { (scope : Scope) (l : List Question) → All (WasAsked scope l) (state scope l).approved }
@@ -43,12 +43,12 @@ pub fn what_may_be_signed_is_approved()
         → refusal_of s q ≡ None }
 {}
 
-/// Bytes that have fields are a body of the profile: at most 16384 bytes, the text of these valid fields and no others.
+/// Bytes that have fields are a body of the profile: at most 16384 bytes, which are the text of these valid fields.
 pub fn what_has_fields_is_a_body()
     ensures { (bytes : List ℕ) (c : CertFields) → IsBytes bytes → fields_of bytes ≡ Some c → IsBodyOf bytes c }
 {}
 
-/// Two bodies with the same serial are equal, byte by byte.
+/// Two rows with the same serial are equal, so a serial has only one body.
 pub fn a_serial_has_one_body()
     ensures { (scope : Scope) (l : List Question) (a b : Approved) → Contains (state scope l).approved a
         → Contains (state scope l).approved b → a.serial ≡ b.serial → a ≡ b }
@@ -64,8 +64,8 @@ pub fn a_body_that_was_approved_stays()
     ensures { (scope : Scope) (l later : List Question) → IsStill (state scope l) (state scope (l ++ later)) }
 {}
 
-/// A body that may be signed is kept from then on, and may be signed again, whatever is asked in between, under any
-/// policy and at any time.
+/// A body that may be signed may be signed again after that question, whatever is asked in between, under any policy
+/// and at any time.
 pub fn an_approved_body_is_signed_again()
     ensures { (scope : Scope) (l later : List Question) (q again : Question) → refusal_of (state scope l) q ≡ None
         → again.body ≡ q.body → refusal_of (state scope (l ++ q ∷ later)) again ≡ None }

@@ -6,7 +6,7 @@ ghost use Rattle.guard.specs.State.{department_named};
 use message::Department;
 use std::marker::Model;
 
-/// The most bytes of a policy file.
+/// The largest size of a policy file, in bytes.
 pub const LONGEST_POLICY: usize = 1048576;
 
 /// What may be signed: departments with different names. Contracts see it as their list.

@@ -1,15 +1,15 @@
-//! Why a policy could not be read.
+//! Why a policy couldn't be read.
 
 ghost use Rattle.std.specs.Prelude.{◌≡◌};
 ghost use Rattle.guard.specs.declared.policy_fault.PolicyFault.TheVariants.{NoMemory};
 
-/// Why a policy could not be read.
+/// Why a policy couldn't be read.
 #[derive(Clone, Copy, Debug, PartialEq, Eq)]
 pub enum PolicyFault {
     /// More than 1048576 bytes.
     TooLong,
-    /// The file's line, from 1, that is invalid in the text of a department, or begins a text that isn't one, or names
-    /// a department for the second time.
+    /// The file's line, from 1, that is invalid in the text of a department, begins a text that isn't a department's,
+    /// or names a department for the second time.
     BadPolicy(u64),
     /// An allocation was refused.
     NoMemory,

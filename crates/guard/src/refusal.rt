@@ -6,7 +6,7 @@ ghost use Rattle.guard.specs.Refusals.{refusal_name, refusal_number, refusal_row
 /// Why an unsigned certificate (body) isn't signed. If several refusals apply, the answer is the first in this list.
 #[derive(Clone, Copy, Debug, PartialEq, Eq)]
 pub enum Refusal {
-    /// The bytes aren't a body of the profile, or are more than a body may have.
+    /// The bytes aren't a body of the profile, or are more than the 16384 that a body may have.
     NotABody,
     /// The body names another CA.
     OtherCa,

@@ -23,9 +23,9 @@ pub enum RegisterFault {
 
 /// Stores a guard's state: tables in a file, or a list in memory.
 ///
-/// Each call's clauses apply only if the register is still honest after the call, so its disk has been faithful so far.
-/// A register that keeps a state reports no damage, and `Device` only if its database has failed. A crash between calls
-/// leaves what was kept; a crash during a call leaves that, or what the call leads to.
+/// Each call's clauses apply only if the register is still honest after the call: its disk has been faithful so far.
+/// A register that keeps a state reports no damage, and `Device` only if its database has failed. After a call
+/// that succeeded, a crash leaves what is kept; a crash during a call leaves what was kept, or what the call leads to.
 pub trait Register {
     /// So far every answer of the disk was correct.
     ghost is_honest: { Self → Type 0 };

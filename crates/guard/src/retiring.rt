@@ -82,7 +82,7 @@ pub fn retire<R: Register>(alloc: Global, register: &mut R, last: u64) -> Result
     ensures crash { R.is_honest register.new → (s : State) → R.keeps register.old s → R.leaves register.old s s
         → s.scope.last < 2 ^ 63 → R.leaves register.new s (if_retired s (retirement s last)) }
 
-    // A register that keeps a guard is never reported as damaged, and as failed only if its database has failed.
+    // A register that keeps a guard is never reported as damaged, and is reported as failed only if its database has.
     ensures cause { R.is_honest register.new → (s : State) → R.keeps register.old s
         → IfErr result (HasRetireCause (R.has_failed register.new)) }
 {

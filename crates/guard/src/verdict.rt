@@ -4,7 +4,7 @@ use crate::refusal::Refusal;
 use crate::scope::Scope;
 use text::Text;
 
-/// What a guard has for the unsigned certificate (body) that is judged.
+/// What a decision reads of a guard, for the unsigned certificate (body) that is judged.
 #[derive(Drop)]
 pub struct View<'a> {
     pub scope: Scope,
@@ -12,7 +12,7 @@ pub struct View<'a> {
     pub kept: Option<&'a Text>,
 }
 
-/// The time by which a body is judged.
+/// The time at which a body is judged, and how far ahead its validity may begin.
 #[derive(Clone, Copy)]
 pub struct Window {
     /// Now, in seconds since 1970-01-01 00:00:00 UTC.

@@ -96,7 +96,7 @@ all_fit set from count rs h same n p q e =
     let le : n ≤ s.0.hi = s.3 in
     omega arith
 
--- those of the `count` serials that are in the set have their runs
+-- `runs_in` gives a list of runs
 pub runs_in_runs : (set : ℕ → Bool) (from count : ℕ) → from + count ≤ 2 ^ 64 → AreRuns (runs_in set from count)
 runs_in_runs set from count le =
     weaken 0 from (runs_in set from count) (omega arith) (runs_ascend set from count (λ n p q e. omega arith))

@@ -66,7 +66,7 @@ no_ids bytes = record {
   left = λ ids are. (ids, are.ascending, are.short, are.text);
 }
 
--- the next reading is the first of the remaining key ids
+-- the key id that is read next is the first of the remaining ones
 pub first_id : (rest : List ℕ) (others : List (List ℕ)) (result : Option (List ℕ × List ℕ)) → rest ≢ []
     → AllByRecursion IsString others → rest ≡ flat_map string_text others → result ≡ string_at rest
     → (i : List ℕ) × (is : List (List ℕ)) × (others ≡ i ∷ is) × (result ≡ Some (i, flat_map string_text is))
@@ -121,7 +121,7 @@ one_id bytes rest next id last so some behind short text reads = record {
       );
 }
 
--- if no key id can be read, or one that doesn't come next, the whole isn't a list of key ids
+-- if no key id can be read, or the one that is read doesn't come next, the whole isn't a list of key ids
 pub not_ids : (bytes rest : List ℕ) (last : Option (List ℕ)) (result : Option (List ℕ × List ℕ))
     → IdsSoFar bytes last rest
     → rest ≢ [] → result ≡ string_at rest
@@ -154,7 +154,7 @@ ids_read bytes rest last so none = (
 abbrev pub IdsKept : List (List ℕ) → List (List ℕ) → Type 0
 IdsKept ids others = (i : List ℕ) → is_key_id ids i ≡ true → is_key_id others i ≡ true
 
--- The remaining key ids are kept exactly if all of them are.
+-- All key ids are kept if and only if the remaining ones are.
 pub record IdsStillKept (ids others : List (List ℕ)) (wanted rest : List ℕ) : Type 0 where
   pub old : List (List ℕ)
   pub new : List (List ℕ)

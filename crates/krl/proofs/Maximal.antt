@@ -94,7 +94,7 @@ each_run_is_there from rs r h is =
     subst (λ (x : Run). IsOneOf x rs)
     (one_run (contains rs) r s.0 r.lo is (each_is_run from rs s.0 h s.1) (omega arith) some s.2 s.3) s.1
 
--- two lists of runs of one set have the same first run
+-- of two lists of runs of one set, neither begins above the other
 same_first : (a b : ℕ) (r s : Run) (rs qs : List Run) → AreRunsFrom a (r ∷ rs) → AreRunsFrom b (s ∷ qs)
     → ((n : ℕ) → contains (r ∷ rs) n ≡ contains (s ∷ qs) n) → s.lo ≤ r.lo
 same_first a b r s rs qs h k same = elim (cases_lt r.lo s.lo) [

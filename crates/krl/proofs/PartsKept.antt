@@ -10,7 +10,7 @@ use Rattle.krl.specs.Fronts.{AreSplit, IsKeptBy, IsWhole, listed_bytes, part_if_
 abbrev pub find_ca : CaPart → List CaPart → Option CaPart
 find_ca p others = find (λ q. bytes_eq q.ca p.ca) others
 
--- a part that is found is in the list
+-- a part that is found is whole, as all parts of the list are
 found_whole : (ids : List ℕ) (p : CaPart) (others : List CaPart) (q : CaPart) → AllByRecursion (IsWhole ids) others
     → find_ca p others ≡ Some q → IsWhole ids q
 found_whole ids p [] q h e = absurd cc

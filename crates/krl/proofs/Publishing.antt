@@ -17,7 +17,7 @@ use Rattle.krl.proofs.Booleans.{clash}
 use Rattle.krl.proofs.Texts.{cut_unique}
 use Rattle.krl.proofs.ShortestParts.{serials_named}
 
--- ---- validity
+-- ---- the published list is valid
 
 inner_fits : (ps : List Part) → IsString (flat_map part_text ps) → AllByRecursion (λ p. IsString (part_data p)) ps
 inner_fits [] h = tt
@@ -158,7 +158,7 @@ lawful_sections (p ∷ cas) ids h e =
     by_idle true idle more one = more
     by_idle false idle more one = (lawful_section ids p h.0 idle (fits_part ids p idle one), more)
 
--- ---- support
+-- ---- the published list is supported
 
 list_supported : (ns : List ℕ) → list_all is_supported_part (serial_list ns) ≡ true
 list_supported [] = refl
@@ -190,7 +190,7 @@ sections_supported (p ∷ cas) ids =
     list_all is_supported_section (cond b [] (ca_section ids p ∷ []) ++ published_sections cas ids) ≡ true)
     [ true ↦ more | false ↦ rw (parts_supported p.runs ids) more ]
 
--- the published text can be divided in only one way, and as a supported list
+-- the published text can be divided in only one way, as a supported list
 pub only_cut : (head : KrlHead) (cas : List CaPart) (ids : List (List ℕ)) → head.version < 2 ^ 64 → head.date < 2 ^ 64
     → AllByRecursion (λ p. AreRuns p.runs) cas → fits cas ids ≡ true
     → AreOnly (published_text head cas ids) (published_list head cas ids)

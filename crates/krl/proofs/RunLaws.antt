@@ -10,7 +10,7 @@ use Rattle.krl.proofs.Booleans.{clash, ltb-yes}
 
 -- ---- the first serial of a list, and the first range
 
--- the first listed serial belongs to a run
+-- the first listed serial is at or above the serial from which the runs ascend
 pub listed_low : (from n : ℕ) (rest : List ℕ) (rs : List Run) → AreRunsFrom from rs
     → u64_at (flat_map listed_text rs) ≡ Some (n, rest) → from ≤ n
 listed_low from n rest [] h e = absurd cc
@@ -57,7 +57,7 @@ no_long after none =
     (λ begun. u64_at begun >>=
     (λ lo. u64_at lo.1 >>= (λ hi. cond (is_short (run_of lo.0 hi.0)) None (Some (run_of lo.0 hi.0, hi.1)))))) none
 
--- the first range belongs to a run
+-- the first range begins at or above the serial from which the runs ascend
 pub long_low : (from : ℕ) (q : Run) (rest after : List ℕ) (rs : List Run) → AreRunsFrom from rs
     → behind_at range_begin after ≡ None → long_at (flat_map range_text rs ++ after) ≡ Some (q, rest) → from ≤ q.lo
 long_low from q rest after [] h none e = let both = sym (no_long after none) ∙ e in absurd cc

@@ -12,7 +12,7 @@ use Rattle.krl.proofs.RunsRead.{first_read, none_read}
 abbrev pub AreKept : List Run → List Run → Type 0
 AreKept rs qs = (n : ℕ) → contains rs n ≡ true → contains qs n ≡ true
 
--- The remaining runs are kept exactly if all of them are.
+-- All runs are kept if and only if the remaining ones are.
 pub record StillKept (rs qs : List Run) (a b l m l' m' : List ℕ) : Type 0 where
   pub low : ℕ
   pub base : ℕ

@@ -33,7 +33,7 @@ pub no_range : (ids : List ℕ) → behind_at range_begin (part_if_any 0x23 ids)
 no_range [] = refl
 no_range (b ∷ ids) = other_front 0x21 0x23 (u32_text 16) (string_text (b ∷ ids)) (λ e. omega arith)
 
--- no list of serials comes after the list of serials
+-- no second list of serials comes after the first one
 pub no_list : (rs : List Run) (ids : List ℕ)
     → behind_at (0x20 ∷ []) (flat_map range_text rs ++ part_if_any 0x23 ids) ≡ None
 no_list [] [] = refl

@@ -14,7 +14,7 @@ use Rattle.krl.proofs.LengthLaws.{listed_texts, listed_lengths, range_texts, key
 -- ---- what calls wrote, one after the other
 
 module _ {S : Type 0} {taken : S → Option (List ℕ)} {failed room : S → ℕ} where
-  -- A piece was not written to its end, and so the text was not.
+  -- A piece was not written to its end, so the text was not either.
   pub stops : {E : Type 0} (r : Result (Unit {0}) E) {old new : S} (a b : List ℕ) {text : List ℕ} → IsErr r
       → a ++ b ≡ text → Writes taken failed room old new false a → Writes taken failed room old new (is_ok r) text
   stops r a b err e first = writes_failed r _ _ _ err (writes_as e (writes_stop _ _ a b first))
@@ -27,7 +27,7 @@ module _ {S : Type 0} {taken : S → Option (List ℕ)} {failed room : S → ℕ
 
 -- ---- pieces
 
--- the number that was answered
+-- the number that was returned
 value : (o : Option ℕ) (P : Type 0) {v : ℕ} (n : ℕ) → SomeIff o P v → o ≡ Some n → v ≡ n
 value None P n h e = absurd cc
 value (Some x) P n h e = sym h.1 ∙ same_Some _ _ e
@@ -48,7 +48,7 @@ list_nothing : (ns : List ℕ) → length (flat_map u64_text ns) ≡ 0 → [] �
 list_nothing [] e = refl
 list_nothing (m ∷ ns) e = absurd (omega arith)
 
--- the list of the serials of the short runs, or nothing, by the length that was answered
+-- the list of the serials of the short runs, or nothing, by the length that was returned
 module _ (rs : List Run) (o : Option ℕ) (n : ℕ) (h : SomeIff o (sum_by listed_length rs ≤ 4294967295)
     (sum_by listed_length rs)) (e : o ≡ Some n) where
   pub listed_pieces : n ≢ 0
@@ -93,7 +93,7 @@ pub no_section : (ids : List (List ℕ)) (p : CaPart) → is_idle ids p ≡ true
     → [] ≡ flat_map section_text (sections_of ids p)
 no_section ids p idle = rw idle refl
 
--- the sections, a CA at a time
+-- the sections, CA by CA
 abbrev pub sections_text : List (List ℕ) → CaPart → List ℕ
 sections_text ids p = flat_map section_text (sections_of ids p)
 

@@ -58,7 +58,7 @@ serial_parts rs = serial_list (listed rs) ++ ranges rs
 abbrev pub serial_length : List Run → ℕ
 serial_length rs = parts_length (serial_parts rs)
 
--- the parts name the set of the runs, and no other parts with serials that name this set have fewer bytes
+-- the parts name the set of the runs, and no other parts that name this set have fewer bytes
 pub record AreShortest (parts : List Part) (rs : List Run) : Type 0 where
   pub names : (n : ℕ) → named_set parts n ≡ contains rs n
   pub shortest : (others : List Part) → ((n : ℕ) → named_set others n ≡ contains rs n)
@@ -105,11 +105,11 @@ part_fits ids p = is_idle ids p || nat_le (length (section_data (ca_section ids 
 abbrev pub fits : List CaPart → List (List ℕ) → Bool
 fits cas ids = list_all (part_fits ids) cas
 
--- whether the key id is one of them
+-- whether the key id is in the list
 abbrev pub is_key_id : List (List ℕ) → List ℕ → Bool
 is_key_id ids key_id = list_any (λ i. bytes_eq i key_id) ids
 
--- the CA part is one of them
+-- the CA part is in the list
 abbrev pub IsCaPartOf : CaPart → List CaPart → Type 0
 IsCaPartOf p [] = ⊥
 IsCaPartOf p (q ∷ qs) = (q ≡ p) ⊎ IsCaPartOf p qs

@@ -22,7 +22,7 @@ abbrev pub ReadsPartData : ℕ → List ℕ → ℕ → List ℕ → Bool → Ty
 ReadsPartData kind data_bytes serial key_id b =
     (p : Part) × IsReadPart p × (part_type p ≡ kind) × (part_data p ≡ data_bytes) × (b ≡ names serial key_id p)
 
--- the fault, if there is no such part
+-- no supported part has this type and data, and this is the fault
 abbrev pub RefusesPartData : ℕ → List ℕ → KrlFault → Type 0
 RefusesPartData kind data_bytes f =
     MatchOption (refused_unless (is_part_type kind) (Unsupported kind))

@@ -10,18 +10,19 @@ ghost use Rattle.krl.specs.Published.{published_text};
 ghost use Rattle.krl.specs.Contents.{AreContents, AreReadBack, Contents, ForgetsNothing, IsPublished, KeepsEachPair};
 ghost use Rattle.krl.specs.Contents.{Publishes, list_of};
 
-/// The runs of a set are exactly its maximal intervals.
+/// The runs of a set are exactly its maximal intervals of at least one serial.
 pub fn runs_are_maximal()
     ensures each { (rs : List Run) (r : Run) → AreRuns rs → IsOneOf r rs → IsRunOf (contains rs) r }
     ensures all { (rs : List Run) (r : Run) → AreRuns rs → IsRunOf (contains rs) r → IsOneOf r rs }
 {}
 
-/// No two lists of runs make the same set.
+/// No two lists of runs represent the same set.
 pub fn runs_are_one()
     ensures { (rs qs : List Run) → AreRuns rs → AreRuns qs → ((n : ℕ) → contains rs n ≡ contains qs n) → rs ≡ qs }
 {}
 
-/// The serials of a set, among `count` serials from `from` on, have their runs, and no others.
+/// `runs_in` gives the runs of the serials of a set that are among the `count` serials from `from` on, and no other
+/// runs represent these serials.
 pub fn a_set_has_its_runs()
     ensures runs { (set : ℕ → Bool) (from count : ℕ) → from + count ≤ 2 ^ 64 → AreRuns (runs_in set from count) }
     ensures contains { (set : ℕ → Bool) (from count n : ℕ) → from + count ≤ 2 ^ 64
@@ -30,8 +31,8 @@ pub fn a_set_has_its_runs()
         → ((n : ℕ) → contains rs n ≡ (is_counted from count n && set n)) → rs ≡ runs_in set from count }
 {}
 
-/// Bytes are the text of only one list: a text determines the head, the parts of the CAs that have a section, and the
-/// key ids. The list determines its text, so lists with the same contents have the same bytes.
+/// Bytes are the text of at most one list: a text determines the head, the parts of the CAs that have a section, and
+/// the key ids. The list determines its text, so lists with the same contents have the same bytes.
 pub fn a_text_has_one_list()
     ensures list { (bytes : List ℕ) (c d : Contents) → Publishes bytes c → Publishes bytes d → c ≡ d }
     ensures text { (a b : List ℕ) (c : Contents) → Publishes a c → Publishes b c → a ≡ b }

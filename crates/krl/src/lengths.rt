@@ -133,7 +133,7 @@ fn section_len(part: &CaPart, ids: &[Text]) -> Option<u64>
 }
 
 /// The length in bytes of the list that is written for these CAs and key ids, whatever its version and date. `None`
-/// exactly if a section's data would have more than 4294967295 bytes. At most 8 parts are allowed. Allocates no
+/// if and only if a section's data would have more than 4294967295 bytes. At most 8 parts are allowed. Allocates no
 /// memory.
 pub fn krl_len(parts: &[CaPart], ids: &Texts) -> Option<u64>
     requires { length parts.now ≤ 8 }

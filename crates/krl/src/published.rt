@@ -77,7 +77,7 @@ fn are_sections(sections: &[u8], key_ids: &[u8]) -> bool
 }
 
 /// Reads a published list: what `write_krl` writes for at most eight different CAs and for key ids in ascending byte
-/// order. The CAs that it returns are those that have a section. It returns `None` for any other bytes, including
+/// order. The list's CAs are those that have a section. It returns `None` for any other bytes, including
 /// OpenSSH lists that revoke the same in another form. The bytes are borrowed, and no memory is allocated.
 pub fn read_published(bytes: &[u8]) -> Option<PublishedList<'_>>
     ensures found { IfSome result (λ l. l ≡ bytes.now) }

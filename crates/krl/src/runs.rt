@@ -37,8 +37,8 @@ impl Model for Runs {
 impl Runs {
     ghost use Rattle.krl.specs.Published.{serial_length};
 
-    /// The runs of a vector, which is moved and not copied. `None`, with the vector dropped, exactly if one of them
-    /// ends before it begins, or if they don't ascend with a serial between any two.
+    /// The runs of a vector, which is moved and not copied. `None`, with the vector dropped, if and only if one
+    /// of them ends before it begins, or they don't ascend with a serial between any two.
     pub fn from_runs(runs: Vec<Run>) -> Option<Runs>
         ensures kept { IfSome result (λ r. r ≡ runs.items) }
         ensures lawful { IsSome result ↔ AreRuns runs.items }
@@ -58,8 +58,8 @@ impl Runs {
         self.runs.as_slice()
     }
 
-    /// The length in bytes of the parts that a list writes for these serials, with types and lengths. `None` exactly
-    /// if it is over 4294967295.
+    /// The length in bytes of the parts that a list writes for these serials, with types and lengths. `None` if and
+    /// only if it is over 4294967295.
     pub fn serial_len(&self) -> Option<u64>
         ensures { SomeIff result (serial_length self.now ≤ 4294967295) (serial_length self.now) }
     {
@@ -98,8 +98,8 @@ impl Runs {
         Ok(true)
     }
 
-    /// The set cut at the numbers of `since`, which don't descend: for each place the serials that reach its number but
-    /// the number of no later place. A serial below all of them belongs to no place.
+    /// The set cut at the numbers of `since`, which don't descend: for each place, the serials that reach its number
+    /// but not that of any later place. A serial below all of them belongs to no place.
     ///
     /// # Errors
     ///
@@ -121,7 +121,7 @@ impl Runs {
     }
 }
 
-// The serials that reach the number at the place, but the number of no later place.
+// The serials that reach the number at the place, but not that of any later place.
 fn part_at(alloc: Global, runs: &[Run], since: &[u64], place: usize) -> Result<Vec<Run>, NoMemory>
     requires runs { AreRuns runs.now }
     requires ascending { IsNonDecreasing since.now }
@@ -250,7 +250,7 @@ pub fn runs_of(alloc: Global, serials: &[u64]) -> Result<Runs, NoMemory>
     })
 }
 
-// The runs of a serial and of those above it.
+// The runs of a serial and of the serials above it.
 fn gathered(alloc: Global, first: u64, rest: &[u64]) -> Result<Vec<Run>, NoMemory>
     requires { IsStrictlyIncreasing (first ∷ rest.now) }
     ensures runs { IfOk result (λ v. AreRuns v.items) }

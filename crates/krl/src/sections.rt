@@ -17,7 +17,7 @@ use crate::reader::CERTIFICATES;
 use crate::runs_left::{RunsLeft, behind_runs};
 use lines::read_key_blob;
 
-/// The largest number of CAs whose sections a published list has.
+/// The largest number of CAs that a published list has sections for.
 const MAX_CAS: usize = 8;
 
 // A section that was cut off the front: its CA, and its runs with what follows them.

@@ -261,7 +261,7 @@ fn write_list<W: Sink>(
 ///
 /// # Errors
 ///
-/// `Write`, exactly if the writer failed in this call. The writer then took a prefix of the list.
+/// `Write`, if and only if the writer failed in this call. The writer then took a prefix of the list.
 pub fn write_krl<W: Sink>(
     head: &KrlHead,
     parts: &[CaPart],
@@ -280,10 +280,10 @@ pub fn write_krl<W: Sink>(
     // A writer that has the room doesn't fail.
     ensures sure { published_length parts.now ids.now ≤ W.room sink.old → IsOk result }
 
-    // What was written has as many bytes as `krl_len` says.
+    // The text has the length that `krl_len` returns.
     ensures len { length (published_text head.now parts.now ids.now) ≡ published_length parts.now ids.now }
 
-    // It can be divided in only one way, and as a supported list.
+    // It can be divided in only one way, as a supported list.
     ensures one_cut { OnOk result
         (AreOnly (published_text head.now parts.now ids.now) (published_list head.now parts.now ids.now)) }
 

@@ -6,7 +6,7 @@ use lines::read_key_line;
 use std::alloc::Global;
 use text::{Text, Texts};
 
-/// The revocations that a list is to have.
+/// What a list has to revoke.
 #[derive(Drop)]
 pub(crate) struct Specification {
     /// The serials under each CA.

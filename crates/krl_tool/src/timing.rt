@@ -15,7 +15,7 @@ const HEAD: KrlHead = KrlHead {
     date: 3000,
 };
 
-/// The distance between the first serials of two runs: so large that ssh-keygen makes no bitmaps for the same set.
+/// The distance between the first serials of neighbouring runs: so large that ssh-keygen makes no bitmaps.
 const STEP: u64 = 100;
 
 // Runs of one, two and three serials in turn.

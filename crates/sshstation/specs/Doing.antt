@@ -25,13 +25,13 @@ use Rattle.sshstation.specs.Ending.{status}
 
 -- Files are found by their paths; `remaining` is what can be read from a file.
 module _ {E F : Type 0} (world : surroundings.Ghosts E F) (around : E) (remaining : F → Option (List ℕ)) where
-  -- the scope with the key of a file at the path, or why there is none
+  -- the scope with the key in a file at the path, or why there is none
   abbrev pub BeginsAt : (path : List ℕ) → (first last : ℕ) → Result Scope StationFault → Type 0
   BeginsAt path first last scope =
       ((file : F) × world.has around path file × Begins (remaining file) first last scope) ⊎ IfErr scope IsOfAFile
 
   -- The names of the departments in a file at the path are printed. Or the file isn't a policy, and nothing is
-  -- printed; only if the output fails, something may have been printed.
+  -- printed. After a fault, something may have been printed only if the output failed.
   pub record PrintsPolicyOf (file : F) (held holds : Option (List ℕ)) (result : Result (Unit {0}) StationFault)
       : Type 0 where
     pub ok : OnOk result (IfSome (remaining file) (λ bytes. PrintsNames bytes held holds))

@@ -58,7 +58,7 @@ module _ {D : Type 0} {g : Ghosts D} where
     pub held : HasCleanDisk (file_state conn) → HasWhatIsHeld image (file_state conn)
     pub blank : HasCleanDisk (file_state conn) → IsBlankIfNone image (file_state conn)
 
-  -- A connection to the files was opened like this, whose tables weren't of the wrong sort, and this is the guard over
+  -- A connection to the files was opened like this, its tables weren't of the wrong sort, and this is the guard over
   -- it. If the disk has returned what was written, the guard has found what the connection had.
   pub record OpensGuard (image : Image) (Wrong : Connection → Type 0) (Found : Connection → Connection → Type 0)
       (guard : GuardStore (FileStore D g)) : Type 0 where
@@ -86,9 +86,10 @@ module _ {D : Type 0} {g : Ghosts D} where
   abbrev pub AreSettled : GuardStore (FileStore D g) → Result (Unit {0}) EndFault × Files D → Type 0
   AreSettled guard left = AreClean g left.1.log left.1.db × IsWhole left.0
 
-  -- whatever a crash leaves of the files, they hold this guard, or one of these two, the first of which tables can keep
+  -- whatever a crash leaves of the files, they hold the guard with this state
   abbrev pub HaveGuard : GuardStore (FileStore D g) → State → Result (Unit {0}) EndFault × Files D → Type 0
   HaveGuard guard s left = (image : Image) → outcomes g left.1.log left.1.db image → HoldsKept image s
 
+  -- the same with one of two states, of which the first is one that tables can keep
   abbrev pub HaveOne : GuardStore (FileStore D g) → (s t : State) → Result (Unit {0}) EndFault × Files D → Type 0
   HaveOne guard s t left = IsGuard s × ((image : Image) → outcomes g left.1.log left.1.db image → HoldsOneOf image s t)

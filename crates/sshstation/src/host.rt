@@ -62,7 +62,7 @@ impl Surroundings for Host<'_> {
 
 /// Does what the words ask for, with the system's files and clock. Returns the exit status, and the files of a guard as
 /// they are left, if any were closed. `start` represents what the files of a guard hold, and `lists` what those of a
-/// guard of lists hold: a job opens the ones or the others.
+/// guard of lists hold: a job opens one or the other.
 pub(crate) fn run<S: Start, T: Start, O: Write, E: Write>(
     rt: &HostRuntime,
     start: S,

@@ -8,7 +8,7 @@ use Rattle.station_command.specs.Asked.{asked, asked_of}
 use Rattle.station_command.specs.Command.{station_command}
 use Rattle.station_command.specs.declared.job.StationJob.{StationJob}
 
--- The words are valid according to clap's meaning of the command, and ask for the job.
+-- The words are valid for the command, according to clap's specification, and ask for the job.
 abbrev pub Names : List Text → StationJob → Type 0
 Names words job = (fault_of station_command words ≡ []) × (asked_of words ≡ Some (asked job))
 

@@ -102,7 +102,7 @@ fn list_command<'a>(alloc: Global) -> Result<Command<'a>, AllocError>
     with_option(command, flag(alloc, "begin", help::BEGIN))
 }
 
-/// The whole command. For clap it is the one that `specs/Command.antt` defines.
+/// The whole command. To clap, it is the one that `specs/Command.antt` defines.
 ///
 /// # Errors
 ///

@@ -1,7 +1,8 @@
 //! The help text of each command, option and argument.
 
-/// What the program is.
-pub const STATION: &str = "Decides which SSH certificates a CA's key may sign";
+/// The first line of the program's help: what the program is for.
+pub const STATION: &str =
+    "Decides which SSH certificates and revocation lists a CA's key may sign, and records what it approves";
 
 /// What `--version` prints after the program's name: the program's version, and the Rattle toolchain that proved it.
 pub const VERSION: &str = "1.0.0 (rattle-kit-13b)";

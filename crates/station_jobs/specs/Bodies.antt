@@ -20,7 +20,7 @@ named_line a key_id =
 abbrev pub row_line : Approved → List ℕ
 row_line a = named_line a (option_map_or (λ c. c.key_id) (fields_of a.body) [])
 
--- these rows in order of their serials: each is the first one from `from` on, and the next is looked for from `next` on
+-- these are the first rows from `from` on, in order of their serials; the search for more goes on from `next`
 abbrev pub Follow : State → (from : ℕ) → List Approved → (next : ℕ) → Type 0
 Follow s from [] next = next ≡ from
 Follow s from (a ∷ rows) next = IsRowFrom s from (Some a) × Follow s (a.serial + 1) rows next

@@ -24,7 +24,7 @@ HasCause failed Damaged = ⊥
 HasCause failed other = Unit {0}
 
 -- A register that kept the state `s` now keeps `t`. If a crash would have left `s`, it now leaves `t`, or after a fault
--- perhaps the next state. A fault has its cause, since the serials of a guard are below 2^63.
+-- perhaps the next state. A fault has its cause if the last serial is below 2^63, as every guard's is.
 pub record Leaves {G A : Type 0} (guard : Ghosts G) (old new : G) (s t : State) (result : Result A StationFault)
     : Type 0 where
   pub kept : guard.keeps new t

@@ -70,7 +70,7 @@ module _ {D G : Type 0} (guard : register.Ghosts G) (file : file.Ghosts D G) whe
 
 -- ---- a guard opened and closed
 
--- what is done over a guard, from each state that it keeps; if its disk has been faithful, it was so before
+-- what is done over a guard, from each state that it keeps; a guard that is honest afterwards was honest before
 abbrev pub Does : {G A : Type 0} → register.Ghosts G
     → (State → (Left : State → Result A StationFault → Type 0) → Result A StationFault → Type 0) → G → G
     → Result A StationFault → Type 0

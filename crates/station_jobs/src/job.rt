@@ -83,7 +83,7 @@ fn lower_in<G: Register, D: GuardFile<Guard = G>, W: Write>(
 ///
 /// # Errors
 ///
-/// Why it wasn't done, or, if it was, why the file couldn't be closed properly or why its text couldn't be printed.
+/// Why it wasn't done; or, if it was, why the file couldn't be closed properly or the text about it wasn't printed.
 pub fn run_in<
     F: Read + Drop,
     P: Surroundings<File = F>,

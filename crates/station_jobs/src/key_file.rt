@@ -13,7 +13,7 @@ use lines::{KeyLine, read_key_line};
 use std::alloc::Global;
 use std::io::Read;
 
-/// The largest size of a file with a public-key line: some KiB more than any has.
+/// The largest size of a file with a public-key line: a few KiB more than any needs.
 const MAX_KEY_FILE: u64 = 8192;
 
 // The key in a text: a public-key line, followed by a line feed or nothing.

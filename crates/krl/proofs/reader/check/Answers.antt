@@ -2,7 +2,7 @@ use Rattle.krl.proofs.Words.{IfOk, List, ReadsList, key_blob, subst, ℕ}
 use Rattle.krl.proofs.SectionReading.{only_answer, only_fault}
 use Rattle.krl.proofs.reader.check.Goals as goal
 
--- what was found, for the CA's blob
+-- the result of reading, for the CA's blob
 found : (c : goal.After-read_list)
     → IfOk c.read_list.result (ReadsList c.args.bytes.now (key_blob c.args.ca.now) c.args.serial c.args.key_id.now)
 found c =

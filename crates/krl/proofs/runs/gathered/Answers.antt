@@ -2,7 +2,7 @@ use Rattle.krl.proofs.Words.{ap, arith, drop_all, is_among, ◌+◌, ◌||◌, �
 use Rattle.krl.proofs.Gathering.{gathered, AscendFrom, ascend, gathered_runs, contains_gathered, within_one}
 use Rattle.krl.proofs.runs.gathered.Goals as goal
 
--- what is in the vector at the end
+-- the content of the vector at the end
 made : (c : goal.In_ok-push-2)
     → c.push-2.new.self.items ≡ gathered (record { lo = c.args.first; hi = c.args.first }) c.args.rest.now
 made c =

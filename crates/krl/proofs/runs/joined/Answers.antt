@@ -2,7 +2,7 @@ use Rattle.krl.proofs.Words.{arith, drop_all, ◌∙◌, ◌≡◌}
 use Rattle.krl.proofs.Joining.{joined, joined_runs, contains_joined}
 use Rattle.krl.proofs.runs.joined.Goals as goal
 
--- what is in the vector at the end
+-- the content of the vector at the end
 made : (c : goal.In_ok-push-3) → c.push-2.new.self.items ≡ joined c.args.with.lo c.args.with.hi c.args.runs.now
 made c =
     let none = drop_all c.loop-run.run-index c.args.runs.now (omega arith) in
