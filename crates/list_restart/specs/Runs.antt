@@ -17,6 +17,7 @@ use Rattle.restart.specs.declared.ending.EndFault.{EndFault}
 use Rattle.restart.specs.declared.ending.EndFault.TheVariants.{GivenUp, Uncopied}
 use Rattle.restart.specs.Images.{HoldsNone}
 use Rattle.list_restart.specs.Images.{HoldsList, HoldsOneOf}
+use Rattle.list_restart.specs.Lives.{GoesOn, IsRun, Said}
 
 -- ---- the open
 
@@ -55,3 +56,15 @@ EndsWell {D} {g} conn (Err (GivenUp error)) files =
     AreClean g files.log files.db
     → HasCleanDisk (file_state conn) × LeavesOneOf (file_state conn) (outcomes g files.log files.db)
 EndsWell {D} {g} conn (Err (Uncopied error)) files = Unit {0}
+
+-- ---- the whole run
+
+-- whatever a crash makes of what is left, this was a run of a program that keeps a list guard
+abbrev pub AreRuns : Image → Said → (Image → Type 0) → Type 0
+AreRuns image said may_leave = (left : Image) → may_leave left
+    → IsRun (record { found = image; said = said; left = left })
+
+-- It was such a run, and a further one after any runs that left the files as it found them.
+pub record RunsOn (image : Image) (said : Said) (may_leave : Image → Type 0) : Type 0 where
+  pub runs : AreRuns image said may_leave
+  pub goes_on : (left : Image) → may_leave left → GoesOn (record { found = image; said = said; left = left })
