@@ -30,9 +30,11 @@ pub fn read_whole<R: Read + Drop>(
     ensures whole { IfOk result (λ v. IfSome (R.remaining reader) (λ bytes. v.items ≡ bytes)) }
     ensures only { IfErr result IsOfAFile }
 {
-    let bytes = read_first(alloc, reader, most + 1)?;
+    let mut bytes = read_first(alloc, reader, most + 1)?;
     if most < bytes.len() as u64 {
         return Err(StationFault::File);
     }
+    // Reading doubled the capacity again and again.
+    bytes.shrink_to_fit();
     Ok(bytes)
 }
