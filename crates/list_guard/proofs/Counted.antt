@@ -1,4 +1,4 @@
--- Items that are counted one after the other, from the front of bytes.
+-- Counting the items that bytes consist of, from the front.
 use Rattle.std.proofs.Common.{◌/◌, ◌≤◌, Option, None, Some, drop, le-leb, leb, true, ◌≡◌, ◌≢◌, ◌++◌, ◌+◌, ◌*◌, ◌∷◌, [], ◌∙◌, ℕ, List, ap, arith, length, length-append, refl, subst, sym}
 use Rattle.std.proofs.Math.Seq.{drop-append_seam}
 use Rattle.std.proofs.lemmas.Bool.{and_from}
@@ -14,7 +14,7 @@ use Rattle.krl.specs.Format.{section_data, section_text}
 use Rattle.list_guard.specs.Sizes.{part_size, sum_of}
 use Rattle.wire.specs.Texts.{u64_text}
 
--- Of any items whose joined texts the bytes are, the rest is those that are left, and the count is that of the others.
+-- if the bytes are the joined texts of items, `rest` is the text of the last ones, and `count` counts those before them
 abbrev pub CountsOn : {X : Type 0} → (X → List ℕ) → (X → Type 0) → (X → ℕ) → (bytes rest : List ℕ) → (count : ℕ) → Type 0
 CountsOn {X} text Is size bytes rest count =
     (xs : List X) → AllByRecursion Is xs → bytes ≡ flat_map text xs
@@ -24,7 +24,7 @@ pub none_counted : {X : Type 0} (text : X → List ℕ) (Is : X → Type 0) (siz
     → CountsOn text Is size bytes bytes 0
 none_counted text Is size bytes xs all is = (xs, all, is, omega arith)
 
--- what an item at the front and those after it are
+-- there is an item at the front, followed by others
 abbrev pub Front : {X : Type 0} → (X → List ℕ) → (X → Type 0) → List ℕ → List X → Type 0
 Front {X} text Is rest left =
     (x : X) × (others : List X) × (left ≡ x ∷ others) × Is x × AllByRecursion Is others × (rest ≡ text x ++ flat_map text others)
@@ -34,7 +34,7 @@ pub front : {X : Type 0} (text : X → List ℕ) (Is : X → Type 0) (rest : Lis
 front text Is rest [] all is some = absurd (some is)
 front text Is rest (x ∷ xs) all is some = (x, xs, refl, all.0, all.1, is)
 
--- what the reading of an item at the front answers: its size, and what follows it
+-- reading an item at the front gives its size, and the bytes after it
 abbrev pub Reads : {X : Type 0} → (X → List ℕ) → (X → Type 0) → (X → ℕ) → (rest new : List ℕ) → (count : ℕ) → Type 0
 Reads {X} text Is size rest new count =
     (x : X) (after : List ℕ) → Is x → rest ≡ text x ++ after → (count ≡ size x) × (new ≡ after)
@@ -51,7 +51,7 @@ one_more text Is size bytes rest new count more some reads on xs all is =
     let its = did.0 in
     (next.1, next.4, did.1, omega (arith, before, its, sum))
 
--- where nothing is left all were counted
+-- if no byte is left, all items were counted
 pub all_counted : {X : Type 0} (text : X → List ℕ) (Is : X → Type 0) (size : X → ℕ) (bytes rest : List ℕ) (count : ℕ)
     → ((x : X) (r : List ℕ) → text x ++ r ≢ []) → rest ≡ [] → CountsOn text Is size bytes rest count → (xs : List X)
     → AllByRecursion Is xs → bytes ≡ flat_map text xs → count ≡ sum_of size xs
@@ -66,7 +66,7 @@ all_counted {X} text Is size bytes rest count some none on xs all is =
     no_more [] e = refl
     no_more (y ∷ ys) e = absurd (some y (flat_map text ys) e)
 
--- bytes that are left, and at whose front no item stands, are not those of items
+-- if bytes are left that don't start with an item, the whole bytes aren't the joined texts of items
 pub none_stands : {X : Type 0} (text : X → List ℕ) (Is : X → Type 0) (size : X → ℕ) (bytes rest : List ℕ) (count : ℕ)
     → rest ≢ [] → ((x : X) (after : List ℕ) → Is x → rest ≢ text x ++ after) → CountsOn text Is size bytes rest count
     → (xs : List X) → AllByRecursion Is xs → bytes ≢ flat_map text xs
@@ -77,12 +77,12 @@ none_stands text Is size bytes rest count some none on xs all is =
 
 -- ---- lengths
 
--- one for each
+-- counting one for each item gives their number
 pub sum_ones : {X : Type 0} (xs : List X) → sum_of (λ _. 1) xs ≡ length xs
 sum_ones [] = refl
 sum_ones (x ∷ xs) = let more = sum_ones xs in omega (arith, more)
 
--- eight bytes for each serial
+-- each serial has eight bytes
 pub serials_length : (ns : List ℕ) → length (flat_map u64_text ns) ≡ 8 * length ns
 serials_length [] = refl
 serials_length (n ∷ ns) =
@@ -90,7 +90,7 @@ serials_length (n ∷ ns) =
     let both = length-append (u64_text n) (flat_map u64_text ns) in
     omega (arith, more, both)
 
--- a list of serials has eight bytes for each
+-- so the number of serials in a list is an eighth of its length
 pub serials_size : (p : Part) (bytes : List ℕ) → IsPart p → part_type p ≡ 0x20 → part_data p ≡ bytes
     → length bytes / 8 ≡ part_size p
 serials_size (Serials ns) bytes is kind same =
@@ -99,7 +99,7 @@ serials_size (Range r) bytes is kind same = absurd (omega (arith, kind))
 serials_size (KeyIds ids) bytes is kind same = absurd (omega (arith, kind))
 serials_size (OtherPart t b) bytes is kind same = absurd (is.0.0 kind)
 
--- what is read is what stands there
+-- `Some` is injective on pairs
 pub some_pair : (p q : ℕ × List ℕ) → Some p ≡ Some q → p ≡ q
 some_pair p q same = same_Some p q same
 
@@ -125,7 +125,7 @@ pub its_sections : (list : List ℕ) (c : Contents) → Publishes list c
 its_sections list c is =
     lawful_sections c.cas c.ids (all_runs c.cas c.ids is.lawful.parts) (all_fit c.cas c.ids is.lawful.parts)
 
--- behind the 44 bytes of the header there are the sections
+-- the sections follow the 44 bytes of the header
 pub behind_head : (list : List ℕ) (c : Contents) → Publishes list c
     → drop 44 list ≡ flat_map section_text (published_sections c.cas c.ids)
 behind_head list c is =

@@ -1,4 +1,4 @@
--- Lists that are approved one after the other.
+-- Sequences of approved lists.
 use Rattle.std.proofs.Common.{◌≡◌, ℕ, List, [], ◌∷◌, Option, None, Some, refl, sym, ap}
 use Rattle.std.proofs.Common.{subst, ◌∙◌, ◌≤◌, inl, inr, arith}
 use Rattle.std.specs.List.{AllByRecursion}
@@ -43,7 +43,7 @@ all_later : (a m : List ℕ) (lists : List (List ℕ)) → IsPublished m → Com
 all_later a m [] between x h = tt
 all_later a m (b ∷ lists) between x h = (later_on a m b between x h.0, all_later a m lists between x h.1)
 
--- what is approved comes later than what was kept
+-- a list that comes after the kept one is later
 next_later : (kept : List ℕ) (q : Question) (c d : Contents) → IsOfCas q c → ComesAfter q.list c kept d
     → ComesLater kept q.list
 next_later kept q c d of comes x y p r =
@@ -80,19 +80,19 @@ lawful (q ∷ qs) s lists t (inl taken) is =
     lawful qs (with_last q.list) taken.0 t taken.3 (taken.1.0, taken.1.1.published)
 lawful (q ∷ qs) s lists t (inr left) is = lawful qs s lists t left.1 is
 
--- ---- calls, whatever comes of them
+-- ---- calls, with any of their results
 
--- what is approved comes later than what was kept
+-- an approved list is later than the kept one
 approved_later : (s : State) (q : Question) (kept : List ℕ) → IsApproved s q → s.last ≡ Some kept → ComesLater kept q.list
 approved_later s q kept approved is =
     let next : IsNext (Some kept) q approved.0 = subst (λ o. IsNext o q approved.0) is approved.2 in
     next_later kept q approved.0 next.0 approved.1 next.1
 
--- lists that come later than what is kept, and grow
+-- these lists are later than the kept one, and grow
 abbrev AreLater : State → List (List ℕ) → Type 0
 AreLater s lists = ((kept : List ℕ) → s.last ≡ Some kept → AllByRecursion (ComesLater kept) lists) × Grow lists
 
--- a list that is approved, and lists that come later than it
+-- an approved list, followed by lists that are later than it
 first_of_all : (s : State) (q : Question) (lists : List (List ℕ)) → IsApproved s q → AreLater (with_last q.list) lists
     → AreLater s (q.list ∷ lists)
 first_of_all s q lists approved more =
@@ -120,7 +120,7 @@ live (call ∷ calls) s t (u, comes, rest) =
 
 -- ---- versions that are accounted for
 
--- what is approved is accounted for, if what was kept is
+-- an approved list is accounted for, if the kept one is
 next_accounted : (o : Option (List ℕ)) (q : Question) (c : Contents)
     → ((kept : List ℕ) → o ≡ Some kept → IsAccountedFor kept) → IsOfCas q c → IsNext o q c → IsAccountedFor q.list
 next_accounted None q c was of next x published =
@@ -158,7 +158,7 @@ after_itself list c published = record {
 pub again : (s : State) (q : Question) → IsApproved s q → IsApproved (with_last q.list) q
 again s q (c, of, next) = (c, of, (c, after_itself q.list c of.published))
 
--- what comes after a list isn't refused after it
+-- a list that comes after the kept one isn't refused
 not_after : (q : Question) (o : Option (List ℕ)) (c : Contents) → IsNext o q c
     → (IsNotNext OlderVersion o q c → ⊥) × (IsNotNext OtherBytes o q c → ⊥) × (IsNotNext Forgets o q c → ⊥)
     × (IsNotNext NotBegun o q c → ⊥) × (IsNotNext VersionJumps o q c → ⊥)
@@ -210,7 +210,7 @@ not_refused s q VersionJumps (c, of, next) (x, is, h) =
 
 -- ---- verdicts
 
--- what is said after another list is said of the question
+-- a verdict relative to the kept list is a verdict on the question
 pub decided_after : (v : Verdict) (s : State) (q : Question) (c : Contents) (kept : List ℕ) (d : Contents) → IsOfCas q c
     → s.last ≡ Some kept → Publishes kept d → DecidedAfter v q.list c kept d → Decided v s q
 decided_after (verdict.Approve version) s q c kept d of is published h =

@@ -1,4 +1,4 @@
--- What judging a list answers, whatever keeps the guard.
+-- The answer to a list, over any register.
 use Rattle.std.specs.Prelude.{◌≡◌, ◌≤◌, ℕ, List, Bool, Some, length}
 use Rattle.lines.specs.Digests.{digest_text}
 use Rattle.krl.specs.Contents.{Contents, IsPublished}
@@ -13,46 +13,46 @@ use Rattle.list_guard.specs.Machine.{State, Question, ComesAfter, IsNext, IsOfCa
 abbrev pub question : List (List ℕ) → Bool → List ℕ → Question
 question cas begins list = record { cas = cas; begins = begins; list = list }
 
--- the list is approved, and has this version
+-- the list is approved and has this version
 abbrev pub IsApprovedAs : ℕ → State → Question → Type 0
 IsApprovedAs version s q = (c : Contents) × IsOfCas q c × IsNext s.last q c × (version ≡ c.head.version)
 
--- the verdict is the plain guard's, and says whether the list is kept already
+-- the verdict is the reference model's, and says whether the list is already the kept one
 abbrev pub Decided : Verdict → State → Question → Type 0
 Decided (verdict.Approve version) s q = IsApprovedAs version s q
 Decided (verdict.Again version) s q = IsApprovedAs version s q × (s.last ≡ Some q.list)
 Decided (verdict.Refuse r) s q = IsRefused r s q
 
--- the verdict on a list that may come after another one, and has other bytes
+-- the verdict on a list that may come after the kept one, and has different bytes
 abbrev pub DecidedAfter : Verdict → List ℕ → Contents → List ℕ → Contents → Type 0
 DecidedAfter (verdict.Approve version) list c kept d = ComesAfter list c kept d × (version ≡ c.head.version)
 DecidedAfter (verdict.Again version) list c kept d = ⊥
 DecidedAfter (verdict.Refuse r) list c kept d = IsRefusedAfter r list c kept d
 
--- the answer is the plain guard's
+-- the answer is the reference model's
 abbrev pub Answers : Answer → State → Question → Type 0
 Answers (answer.Approve digest version) s q = IsApprovedAs version s q × (digest ≡ digest_text q.list)
 Answers (answer.Refuse r) s q = IsRefused r s q
 
--- the state that a verdict leads to: what is refused leaves it as it was
+-- the state that a verdict leads to: a refusal leaves it unchanged
 abbrev pub settled : Verdict → State → Question → State
 settled (verdict.Approve version) s q = with_last q.list
 settled (verdict.Again version) s q = s
 settled (verdict.Refuse r) s q = s
 
--- the state that an answer leaves: what is refused leaves it as it was
+-- the state after an answer: a refusal leaves it unchanged
 abbrev pub left_by : Answer → State → Question → State
 left_by (answer.Approve digest version) s q = with_last q.list
 left_by (answer.Refuse r) s q = s
 
--- a list for which each register has room
+-- a list that is short enough for every register
 abbrev pub IsShort : List ℕ → Type 0
 IsShort list = length list ≤ 268435456
 
 abbrev pub IsKeepable : List ℕ → Type 0
 IsKeepable list = IsPublished list × IsShort list
 
--- what a fault of a register says that keeps a published list: such a register is never damaged
+-- the cause of a fault of a register that keeps a published list: such a register is never damaged
 abbrev pub HasCause : RegisterFault → Type 0 → Type 0
 HasCause register.Device failed = failed
 HasCause register.Damaged failed = ⊥

@@ -1,4 +1,4 @@
--- The plain list guard: one question at a time.
+-- The reference model of a list guard: the answer to one question.
 use Rattle.std.specs.Prelude.{◌≡◌, ◌≢◌, ◌<◌, ◌≤◌, ◌+◌, ℕ, List, true, false, Option, Some, None}
 use Rattle.krl.specs.Contents.{Contents, ForgetsNothing, IsPublished, Publishes, are_cas_among, list_of}
 use Rattle.list_guard.specs.declared.refusal.Refusal.{Refusal}
@@ -14,15 +14,15 @@ use Rattle.list_guard.specs.declared.refusal.Refusal.TheVariants.{
 pub use Rattle.list_guard.specs.State.{State, Question, opened, with_last, IsLawful}
 use Rattle.list_guard.specs.Sizes.{list_size}
 
--- the bytes publish this, of the CAs that are permitted alone
+-- the bytes publish these contents, and all their CAs are permitted
 pub record IsOfCas (q : Question) (c : Contents) : Type 0 where
   pub published : Publishes q.list c
   pub cas : are_cas_among q.cas c ≡ true
 
--- ---- what is approved
+-- ---- approval
 
--- a version that is no lower, the same bytes if it is the same, nothing forgotten, and a version that grows by no more
--- than the list does
+-- the version is no lower, the bytes are the same if it is, nothing is forgotten, and the version has grown by no more
+-- than the list has
 pub record ComesAfter (list : List ℕ) (c : Contents) (kept : List ℕ) (d : Contents) : Type 0 where
   pub published : Publishes kept d
   pub version : d.head.version ≤ c.head.version
@@ -30,7 +30,7 @@ pub record ComesAfter (list : List ℕ) (c : Contents) (kept : List ℕ) (d : Co
   pub kept_revoked : ForgetsNothing (list_of d) (list_of c)
   pub accounted : c.head.version + list_size (list_of d) ≤ d.head.version + list_size (list_of c)
 
--- a first list is taken only if the question says so; another comes after the one that was approved last
+-- a first list is accepted only if the question begins; a further one has to come after the one that was approved last
 abbrev pub IsNext : Option (List ℕ) → Question → Contents → Type 0
 IsNext None q c = (q.begins ≡ true) × (c.head.version ≤ list_size (list_of c))
 IsNext (Some kept) q c = (d : Contents) × ComesAfter q.list c kept d
@@ -38,7 +38,7 @@ IsNext (Some kept) q c = (d : Contents) × ComesAfter q.list c kept d
 abbrev pub IsApproved : State → Question → Type 0
 IsApproved s q = (c : Contents) × IsOfCas q c × IsNext s.last q c
 
--- ---- what is refused
+-- ---- refusal
 
 -- why a list doesn't come after the one that was approved last
 abbrev pub IsRefusedAfter : Refusal → List ℕ → Contents → List ℕ → Contents → Type 0

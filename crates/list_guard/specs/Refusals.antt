@@ -1,4 +1,4 @@
--- The refusals of a list guard: each with its number and its name.
+-- The refusals of a list guard, each with its number and its name.
 use Rattle.std.specs.Prelude.{ℕ, List, codes}
 use Rattle.list_guard.specs.declared.refusal.Refusal.{Refusal}
 use Rattle.list_guard.specs.declared.refusal.Refusal.TheVariants.{
@@ -24,6 +24,6 @@ refusal_row VersionJumps = (46, codes "VersionJumps")
 abbrev pub refusal_number : Refusal → ℕ
 refusal_number r = (refusal_row r).0
 
--- the name in an answer
+-- the name, as an answer has it
 abbrev pub refusal_name : Refusal → List ℕ
 refusal_name r = (refusal_row r).1

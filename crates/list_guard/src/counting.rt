@@ -1,4 +1,4 @@
-//! How much a list revokes: the number of its sections, and of the serials and key ids in each.
+//! The size of a list: the number of its sections, and of the serials and key IDs in each.
 
 ghost use Rattle.std.specs.Prelude.{◌≡◌, ◌+◌, ◌-◌, ◌*◌, ◌^◌, ◌++◌, ◌<◌, ◌≤◌, List, ℕ, length, IfSome, Some};
 ghost use Rattle.std.specs.Option.{option_map};
@@ -19,14 +19,14 @@ const HEADER_LEN: usize = 44;
 /// The type of a section of certificates.
 const CERTIFICATES: u8 = 1;
 
-/// The types of the parts that list serials, that are a range of serials, and that list key ids.
+/// The types of parts: a list of serials, a range of serials, and a list of key IDs.
 const SERIAL_LIST: u8 = 0x20;
 
 const SERIAL_RANGE: u8 = 0x21;
 
 const KEY_ID_LIST: u8 = 0x23;
 
-/// The next byte and string.
+/// The next byte and the string after it.
 fn next_tagged<'a>(cursor: &mut Cursor<'a>) -> Option<(u8, &'a [u8])>
     ensures only { (kind : ℕ) (data_bytes rest : List ℕ) → IsString data_bytes
         → cursor.old ≡ tagged_text kind data_bytes ++ rest
@@ -38,7 +38,7 @@ fn next_tagged<'a>(cursor: &mut Cursor<'a>) -> Option<(u8, &'a [u8])>
     Some((kind, bytes))
 }
 
-/// The number of key ids in the data of a list of them.
+/// The number of key IDs in the data of a list of them.
 fn key_id_count(bytes: &[u8]) -> u128
     ensures count { (ids : List (List ℕ)) → AllByRecursion IsString ids → bytes.now ≡ flat_map string_text ids
         → result ≡ length ids }
@@ -71,7 +71,7 @@ fn range_size(bytes: &[u8]) -> u128
     (hi - lo) as u128 + 1
 }
 
-/// The number of serials or key ids of the part of this type and data.
+/// The number of serials or key IDs in the part with this type and data.
 fn part_size(kind: u8, bytes: &[u8]) -> u128
     ensures size { (p : Part) → IsPart p → part_type p ≡ kind → part_data p ≡ bytes.now → result ≡ part_size p }
     ensures bound { result ≤ 2 ^ 64 * (1 + length bytes.now) }
@@ -84,7 +84,7 @@ fn part_size(kind: u8, bytes: &[u8]) -> u128
     }
 }
 
-/// The number of serials and key ids of parts, to their end.
+/// The number of serials and key IDs in all remaining parts.
 fn parts_size(parts: Cursor<'_>) -> u128
     requires { length parts < 2 ^ 63 }
     ensures size { (ps : List Part) → AllByRecursion IsPart ps → parts.entry ≡ flat_map part_text ps
@@ -102,7 +102,7 @@ fn parts_size(parts: Cursor<'_>) -> u128
     size
 }
 
-/// The size of the section of this type and data.
+/// The size of the section with this type and data.
 fn section_size(kind: u8, bytes: &[u8]) -> u128
     ensures size { (s : Section) → IsSection s → section_type s ≡ kind → section_data s ≡ bytes.now
         → result ≡ section_size s }
@@ -118,7 +118,7 @@ fn section_size(kind: u8, bytes: &[u8]) -> u128
     1 + parts_size(cursor)
 }
 
-/// The size of sections, to their end.
+/// The sum of the sizes of the sections.
 fn sections_size(sections: &[u8]) -> u128
     ensures size { (ss : List Section) → AllByRecursion IsSection ss → sections.now ≡ flat_map section_text ss
         → result ≡ sum_of section_size ss }
@@ -135,7 +135,7 @@ fn sections_size(sections: &[u8]) -> u128
     size
 }
 
-/// The number of sections of a published list, and of the serials and key ids in each.
+/// The number of sections of a published list, plus the number of serials and key IDs in each.
 pub(crate) fn list_size(list: &[u8]) -> u128
     ensures size { (c : Contents) → Publishes list.now c → result ≡ list_size (list_of c) }
     ensures bound { result ≤ 2 ^ 64 * length list.now }

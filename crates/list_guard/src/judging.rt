@@ -1,4 +1,4 @@
-//! Lists judged, one after the other.
+//! Judging lists, one after the other.
 
 ghost use Rattle.std.specs.Prelude.{◌≡◌, ◌≢◌, ◌⊎◌, ◌+◌, nat_lt, IfErr, IfOk, IfSome, IsOk, IsSome, None, OnErr, OnOk};
 ghost use Rattle.std.specs.Prelude.{option_copied};
@@ -16,10 +16,10 @@ use krl::{PublishedList, forgets_nothing, read_published};
 use lines::body_digest;
 use text::Text;
 
-/// What is answered of a list.
+/// The answer to a list.
 #[derive(Clone, Copy, Debug, PartialEq, Eq)]
 pub enum Answer {
-    /// The guard keeps the list, and states that it is the office's.
+    /// The guard keeps the list, and states that it is the office's current one.
     Approve {
         /// The SHA-256 of the list, as 64 hexadecimal digits in lower case.
         digest: [u8; 64],
@@ -29,7 +29,7 @@ pub enum Answer {
     Refuse(Refusal),
 }
 
-/// Whether the version of a list, from that of another one, grows by more than the list does.
+/// Whether the version has grown by more than the list has, since the kept list, whose version is `before`.
 fn jumps(version: u64, list: &[u8], before: u64, kept: &[u8]) -> bool
     ensures { (c d : Contents) → Publishes list.now c → Publishes kept.now d → version ≡ c.head.version
         → before ≡ d.head.version
@@ -46,7 +46,7 @@ fn jumps_first(version: u64, list: &[u8]) -> bool
     list_size(list) < version as u128
 }
 
-/// The verdict on a list where none was approved.
+/// The verdict on a list if none has been approved yet.
 fn first_verdict(new: &PublishedList<'_>, list: &[u8], begins: bool) -> Verdict
     ensures { (c : Contents) (s : State) (q : Question) → Publishes new.now c → list.now ≡ new.now → s.last ≡ None
         → q.begins ≡ begins → IsOfCas q c → Decided result s q }
@@ -61,8 +61,8 @@ fn first_verdict(new: &PublishedList<'_>, list: &[u8], begins: bool) -> Verdict
     Verdict::Approve(version)
 }
 
-/// The verdict on a list that isn't the one that was approved last, but may come after it. Both are given with their
-/// bytes.
+/// The verdict on a list that may come after the one that was approved last, and whose bytes differ from it. Both are
+/// given as they were read, with their bytes.
 fn verdict_after(
     new: &PublishedList<'_>,
     list: &[u8],
@@ -89,7 +89,7 @@ fn verdict_after(
     Verdict::Approve(version)
 }
 
-/// The verdict on a list, by the one that was approved last. `None` where that is no published list.
+/// The verdict on a list, given the one that was approved last. `None` if that one isn't a published list.
 fn decide(kept: Option<&[u8]>, keys: &[[u8; 32]], begins: bool, list: &[u8]) -> Option<Verdict>
     ensures decided { (s : State) → s.last ≡ option_copied kept.entry
         → IfSome result (λ v. Decided v s (question keys.now begins list.now)) }
@@ -111,7 +111,7 @@ fn decide(kept: Option<&[u8]>, keys: &[[u8; 32]], begins: bool, list: &[u8]) -> 
     Some(verdict_after(&new, list, &old, kept))
 }
 
-/// Keeps a list by this verdict.
+/// Keeps a list, if the verdict newly approves it.
 fn settle<R: ListRegister>(
     register: &mut R,
     list: Text,
@@ -144,7 +144,7 @@ fn settle<R: ListRegister>(
     }
 }
 
-/// What is answered by this verdict.
+/// The answer for a verdict.
 fn answer_of(list: &[u8], verdict: Verdict) -> Answer
     ensures answered { (s : State) (q : Question) → q.list ≡ list.now → Decided verdict s q → Answers result s q }
     ensures left { (s : State) (q : Question) → q.list ≡ list.now → Decided verdict s q
@@ -163,7 +163,7 @@ fn answer_of(list: &[u8], verdict: Verdict) -> Answer
     }
 }
 
-/// The verdict on a list over a register. `Damaged` where what is kept is no published list.
+/// The verdict on a list over a register. `Damaged` if the kept list isn't a published list.
 fn verdict_on<R: ListRegister>(
     register: &R,
     keys: &[[u8; 32]],
@@ -180,13 +180,13 @@ fn verdict_on<R: ListRegister>(
     }
 }
 
-/// Judges a list: whether it is the next one of the CAs of these keys, after the one that was approved last. A first
-/// list is taken only if the question begins. What is approved is kept before it is answered, and the register takes its
-/// bytes: none is copied.
+/// Judges whether a list is the next one of the CAs with these keys, after the one that was approved last. A first list
+/// is accepted only if `begins`. An approved list is kept before this function returns, and the register takes over its
+/// bytes without a copy.
 ///
 /// # Errors
 ///
-/// If the register fails, it keeps what it kept before.
+/// Why the register failed. It then keeps what it kept before.
 pub fn judge_list<R: ListRegister>(
     register: &mut R,
     keys: &[[u8; 32]],
@@ -195,11 +195,11 @@ pub fn judge_list<R: ListRegister>(
 ) -> Result<Answer, RegisterFault>
     ensures honest { R.is_honest register.new → R.is_honest register.old }
 
-    // The answer is the plain guard's.
+    // The answer is the reference model's.
     ensures answered { R.is_honest register.new → (s : State) → R.keeps register.old s
         → IfOk result (λ a. Answers a s (question keys.now begins list)) }
 
-    // Then the register keeps what the plain guard does.
+    // The register then keeps what the model keeps.
     ensures next { R.is_honest register.new → (s : State) → R.keeps register.old s
         → IfOk result (λ a. R.keeps register.new (left_by a s (question keys.now begins list))) }
 
@@ -207,17 +207,18 @@ pub fn judge_list<R: ListRegister>(
     ensures fault { R.is_honest register.new → (s : State) → R.keeps register.old s
         → OnErr result (R.keeps register.new s) }
 
-    // What is approved outlives a crash.
+    // An approved list survives a crash.
     ensures durable { R.is_honest register.new → (s : State) → R.keeps register.old s → R.leaves register.old s s
         → IfOk result (λ a. R.leaves register.new (left_by a s (question keys.now begins list))
         (left_by a s (question keys.now begins list))) }
 
-    // A crash in the midst leaves what was kept, or the list if it is approved.
+    // A crash in the middle of the call leaves what was kept, or the list if it is approved.
     ensures crash { R.is_honest register.new → (s : State) → R.keeps register.old s → R.leaves register.old s s
         → R.leaves register.new s s ⊎ (IsApproved s (question keys.now begins list)
         × R.leaves register.new s (with_last list)) }
 
-    // The register is said to have failed only if its database has, and to be damaged only if it is.
+    // If the kept list is a published one and the new one is short, only a failed database is reported as failed, and
+    // none as damaged.
     ensures cause { R.is_honest register.new → (s : State) → R.keeps register.old s → IsLawful s → IsShort list
         → IfErr result (λ e. HasCause e (R.has_failed register.new)) }
 {

@@ -1,9 +1,9 @@
-//! The guard of published lists: which list is the office's next one.
+//! The guard of published lists (KRLs), which decides which list is the office's next one.
 //!
-//! A list guard keeps the list that it approved last, and approves no list after it that has a lower version, other bytes
-//! under the same version, that doesn't revoke what that list revokes, or whose version is higher than what it revokes in
-//! addition accounts for. The plain guard (`specs/`) says which refusal
-//! applies to a list; `judge_list` answers the same over what keeps the guard.
+//! A list guard keeps the list that it approved last. It then refuses a list that has a lower version, that has
+//! different bytes under the same version, that doesn't revoke everything that the last one revokes, or whose version
+//! has grown by more than the list has. The reference model (`specs/`) defines which refusal applies to a list.
+//! `judge_list` gives the model's answers over any register.
 #![tactic(auto)]
 
 mod counting;

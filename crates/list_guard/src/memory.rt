@@ -8,7 +8,7 @@ use crate::register::{ListRegister, RegisterFault};
 use std::marker::Model;
 use text::Text;
 
-/// A list guard's register in memory. Contracts see it as the plain guard's state.
+/// A list guard's register in memory. Contracts see it as a state of the reference model.
 #[derive(Drop)]
 pub struct MemoryListGuard {
     last: Option<Text>,
@@ -23,7 +23,7 @@ impl Model for MemoryListGuard {
 }
 
 impl MemoryListGuard {
-    /// A guard that has approved nothing yet.
+    /// The register of a guard that has approved nothing yet.
     pub fn new() -> MemoryListGuard
         ensures { result ≡ opened }
     {

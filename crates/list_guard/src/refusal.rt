@@ -3,26 +3,26 @@
 ghost use Rattle.std.specs.Prelude.{◌≡◌};
 ghost use Rattle.list_guard.specs.Refusals.{refusal_name, refusal_number, refusal_row};
 
-/// Why a list guard doesn't approve a list. Of those that apply, the one that stands first here is answered.
+/// Why a list guard doesn't approve a list. If several apply, the answer is the first of them in this order.
 #[derive(Clone, Copy, Debug, PartialEq, Eq)]
 pub enum Refusal {
-    /// The bytes are no published list.
+    /// The bytes aren't a published list.
     NotAList,
-    /// A section is of a CA that isn't permitted.
+    /// A section is for a CA that isn't permitted.
     OtherCa,
     /// The version is lower than that of the list that was approved last.
     OlderVersion,
     /// The version is that of the list that was approved last, and the bytes differ.
     OtherBytes,
-    /// Something that the list revokes which was approved last isn't revoked.
+    /// The list doesn't revoke everything that the list that was approved last revokes.
     Forgets,
-    /// No list was approved yet, and the question doesn't say that this is to be the first.
+    /// No list has been approved yet, and the question doesn't accept a first one.
     NotBegun,
-    /// The version is higher than what the list revokes in addition accounts for.
+    /// The version has grown by more than the list has, or a first list's version is higher than its size.
     VersionJumps,
 }
 
-/// What a refusal is called: its number and its name.
+/// The number and the name of a refusal.
 #[derive(Drop)]
 struct Row(u8, &'static str);
 
@@ -41,14 +41,14 @@ impl Refusal {
         }
     }
 
-    /// The number, 40 to 46: the place in the order in which refusals are looked for.
+    /// The number, 40 to 46.
     pub fn number(self) -> u8
         ensures { result ≡ refusal_number self }
     {
         self.row().0
     }
 
-    /// The name, as it is written in an answer.
+    /// The name, as an answer has it.
     pub fn name(self) -> &'static str
         ensures { result.now ≡ refusal_name self }
     {

@@ -6,47 +6,47 @@ ghost use Rattle.list_guard.specs.Judged.{HasCause, IsKeepable};
 
 use text::Text;
 
-/// Why a register did not answer. What it keeps is as before.
+/// Why a register didn't answer. What it keeps is unchanged.
 #[derive(Clone, Copy, Debug, PartialEq, Eq)]
 pub enum RegisterFault {
-    /// The database failed, or is shut, or has no room for the list.
+    /// The database failed or is shut, or the list doesn't fit.
     Device,
-    /// What is kept is no published list: the register is damaged.
+    /// The kept list isn't a published list, so the register is damaged.
     Damaged,
-    /// A growth was refused.
+    /// Memory was refused.
     NoMemory,
 }
 
-/// The most bytes of a list for which each register has room.
+/// The largest size of a list in bytes for which every register has room.
 pub const LONGEST_LIST: u64 = 268435456;
 
-/// What keeps a list guard's state: a table in a file, or a list in memory.
+/// Stores a list guard's state: in a database table, or in memory.
 ///
-/// Each call's clauses are asked of an honest register alone, as the call leaves it: honesty only falls. A register that
-/// keeps a published list tells no damage, and `Device` only if its database has failed, or the list has more than
-/// `LONGEST_LIST` bytes. What was kept when a call answered is what a crash leaves; a crash in the midst of a call
-/// leaves that, or what the call leads to.
+/// The clauses of a call assume that the register is honest when the call ends, and so was before it: honesty is never
+/// regained. A register that keeps a published list never reports damage, and it reports `Device` only if its database
+/// has failed, or the list has more than `LONGEST_LIST` bytes. After a call has returned, a crash leaves what the
+/// register keeps. A crash in the middle of a call leaves that, or the state that the call leads to.
 pub trait ListRegister {
-    /// So far every answer of the disk was true.
+    /// The disk has been faithful so far.
     ghost is_honest: { Self → Type 0 };
 
-    /// What it has is this state.
+    /// The register has this state.
     ghost keeps: { Self → State → Type 0 };
 
-    /// What a crash leaves now has the one state or the other.
+    /// After a crash now, the register has one of these two states.
     ghost leaves: { Self → State → State → Type 0 };
 
-    /// The database has failed by now, or is shut.
+    /// The database has failed, or is shut.
     ghost has_failed: { Self → Type 0 };
 
-    /// What leaves one state leaves that one or another.
+    /// If a crash leaves one state, it leaves that one or any other.
     ghost widens: { (g : Self) (s t : State) → leaves g s s → leaves g s t };
 
-    /// The bytes of the last list that was approved, if one was.
+    /// The bytes of the list that was approved last, if there is one.
     fn last(&self) -> Option<&[u8]>
         ensures { is_honest self.now → (s : State) → keeps self.now s → option_copied result ≡ s.last };
 
-    /// Keeps a list as the last one that was approved. After a fault the register keeps what it kept.
+    /// Keeps a list as the one that was approved last. After a fault the register keeps what it kept before.
     fn keep(&mut self, list: Text) -> Result<(), RegisterFault>
         ensures honest { is_honest self.new → is_honest self.old }
         ensures kept { is_honest self.new → (s : State) → keeps self.old s

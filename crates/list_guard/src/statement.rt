@@ -1,4 +1,4 @@
-//! Answers as lines.
+//! Answers as lines of text.
 
 ghost use Rattle.std.specs.Prelude.{◌≡◌, ◌++◌, OnOk};
 ghost use Rattle.list_guard.specs.Statements.{answer_line, refused_line, statement_line};
@@ -7,7 +7,7 @@ use crate::judging::Answer;
 use text::NoMemory;
 use values::put_decimal;
 
-/// Puts the statement of a list.
+/// Appends the statement of a list.
 fn put_statement(
     out: &mut Vec<u8>,
     digest: &[u8],
@@ -26,7 +26,7 @@ fn put_statement(
     Ok(())
 }
 
-/// Puts why a list isn't approved.
+/// Appends the line of a refusal.
 fn put_refused(out: &mut Vec<u8>, name: &[u8]) -> Result<(), NoMemory>
     ensures { OnOk result (out.new.items ≡ out.old.items ++ refused_line name.now) }
 {
@@ -36,12 +36,12 @@ fn put_refused(out: &mut Vec<u8>, name: &[u8]) -> Result<(), NoMemory>
     Ok(())
 }
 
-/// Puts an answer as a line: the statement `list SHA256 VERSION MOMENT` of a list that was approved by this moment, in
-/// seconds since 1970-01-01 00:00:00 UTC, or `refuse NAME`.
+/// Appends an answer as a line: the statement `list SHA256 VERSION TIME` of an approved list, or `refuse NAME`. The
+/// time is in seconds since 1970-01-01 00:00:00 UTC.
 ///
 /// # Errors
 ///
-/// `NoMemory`, where a growth was refused. A part of the line may then be there.
+/// `NoMemory` if memory is refused. A part of the line may then have been appended.
 pub fn put_answer(out: &mut Vec<u8>, answer: Answer, moment: u64) -> Result<(), NoMemory>
     ensures { OnOk result (out.new.items ≡ out.old.items ++ answer_line answer moment) }
 {

@@ -1,6 +1,6 @@
-//! What only calls can show: that they answer where memory suffices.
+//! Tests of what isn't proved: that calls answer if memory suffices.
 //!
-//! The lists have the form that `docs/FORMATS.md` gives, and their digests are those of `sha256sum`.
+//! The lists have the format of `docs/FORMATS.md`, and their digests were computed by `sha256sum`.
 
 ghost use Rattle.std.specs.Prelude.{◌<◌};
 
@@ -8,7 +8,7 @@ use crate::{Answer, MemoryListGuard, Refusal, judge_list, put_answer};
 use std::alloc::Global;
 use text::Text;
 
-/// The list of version 1 that revokes the serial 1 of the CA of 32 bytes 0x11.
+/// The list of version 1 that revokes the serial 1 of the CA whose key is 32 bytes 0x11.
 const ONE: &[u8; 121] =
     b"SSHKRL\n\0\0\0\0\x01\0\0\0\0\0\0\0\x01\0\0\0\0\0\0\x0b\xb8\0\0\0\0\0\0\0\0\0\0\0\0\0\0\0\0\x01\0\0\0\
     H\0\0\03\0\0\0\x0bssh-ed25519\0\0\0\x20\x11\x11\x11\x11\x11\x11\x11\x11\x11\x11\x11\x11\x11\x11\x11\x11\
@@ -22,16 +22,16 @@ const THREE: &[u8; 129] =
     \x11\x11\x11\x11\x11\x11\x11\x11\x11\x11\x11\x11\x11\x11\x11\x11\0\0\0\0\x21\0\0\0\x10\0\0\0\0\0\
     \0\0\x05\0\0\0\0\0\0\0\x07";
 
-/// The line of the first list, at the moment 5000, with the SHA-256 of sha256sum(1).
+/// The line of the first list at the time 5000, with its SHA-256 by sha256sum(1).
 const STATED: &[u8] =
     b"list 860eb9275bd973d16a1b2b187b39b2e3b727046702974d7165fb10c6ac988eac 1 5000\n";
 
-/// The place of the last byte of the version, and that of the date.
+/// The index of the last byte of the version, and of the date.
 const VERSION: usize = 19;
 
 const DATE: usize = 27;
 
-/// The answer of a guard whose CA is that of 32 bytes 0x11.
+/// The answer of a guard whose CA's key is 32 bytes 0x11.
 fn answer_to(
     alloc: Global,
     guard: &mut MemoryListGuard,
@@ -45,7 +45,7 @@ fn answer_to(
     answer.ok()
 }
 
-/// The first list with another byte at a place.
+/// The first list with a different byte at an index.
 fn one_but(place: usize, byte: u8) -> [u8; 121]
     requires { place < 121 }
 {

@@ -1,4 +1,4 @@
--- Keys that are read one after the other.
+-- Reading keys one after the other.
 use Rattle.std.proofs.Common.{◌++◌, ◌+◌, ◌<◌, ◌≡◌, ◌∙◌, ◌∷◌, [], List, Option, ap, get_or, length, map, sym, take, ℕ}
 use Rattle.std.proofs.lemmas.List.{map_push, take_more}
 use Rattle.list_jobs.specs.Asking.{AreKeysAt, IsKeyAt}
@@ -24,7 +24,7 @@ next_path f xs i x path within is same =
     sym (ap (map f) (take_more xs i x within) ∙ map_push f (take i xs) (get_or xs i x)
     ∙ ap (λ p. map f (take i xs) ++ p ∷ []) (ap f (sym is) ∙ sym same))
 
--- a fault of a file is one that is met where a key is read
+-- a fault of a file is one that reading a key may have
 pub of_a_file : (e : StationFault) → IsOfAFile e → IsOfAKey e
 of_a_file File h = tt
 of_a_file NoMemory h = tt

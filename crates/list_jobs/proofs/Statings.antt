@@ -1,4 +1,4 @@
--- A list judged, or not.
+-- The ways in which judging a list may end.
 use Rattle.std.proofs.Common.{◌≡◌, ◌⊎◌, ℕ, List, Option, Result, Ok, Err, inl, inr, refl}
 use Rattle.std.specs.Prelude.{IfErr, OnErr, OnOk}
 use Rattle.std.specs.Io.KnownBytes.{Appends}
@@ -28,7 +28,7 @@ register_cause failed list.Damaged h = absurd h
 register_cause failed list.NoMemory h = tt
 
 module _ {E F G : Type 0} (world : surroundings.Ghosts E F) (around : E) (guard : register.Ghosts G) (q : Question) where
-  -- the clock shows no moment
+  -- the clock gave no valid time
   pub no_moment : (g : G) (held : Option (List ℕ)) → States world around guard q held held g g (Err Clock)
   no_moment g held = record {
     honest = λ h. h;
@@ -53,7 +53,7 @@ module _ {E F G : Type 0} (world : surroundings.Ghosts E F) (around : E) (guard 
     crash = λ h s stores. crash h s stores.0 stores.1;
   }
 
-  -- it answered, and this came of the printing
+  -- the register answered, and printing had this result
   pub judged : (old new : G) (held holds : Option (List ℕ)) (a : Answer) (moment : ℕ) (r : Result (Unit {0}) StationFault)
       → (guard.is_honest new → guard.is_honest old) → world.shows around moment
       → (guard.is_honest new → (s : State) → guard.keeps old s → Answers a s q)

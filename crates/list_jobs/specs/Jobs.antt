@@ -1,4 +1,4 @@
--- Whole jobs, from the opening of a list guard's file to its closing.
+-- Whole jobs, from opening a list guard's file to closing it.
 use Rattle.std.specs.Prelude.{◌≡◌, ◌⊎◌, ℕ, List, Bool, codes, map, string_bytes, Option, Result, Ok, Err}
 use Rattle.list_guard.specs.declared.register.ListRegister as register
 use Rattle.list_guard.specs.Machine.{Question}
@@ -11,20 +11,20 @@ use Rattle.station_jobs.specs.Faults.{IsOfAKey}
 use Rattle.list_jobs.specs.Asking.{Asks}
 use Rattle.list_jobs.specs.Stating.{IsPrinted, States}
 
--- Two steps: what the first gave was used by the second. Where the first met a fault, that is what came of both.
+-- Two steps: the second used the result of the first. If the first failed, its fault is the result of both.
 abbrev pub Follows : {A : Type 0} → (Used : A → Result (Unit {0}) StationFault → Type 0) → (Nothing : Type 0)
     → Result A StationFault → Result (Unit {0}) StationFault → Type 0
 Follows Used Nothing (Ok x) result = Used x result
 Follows Used Nothing (Err e) result = (result ≡ Err e) × Nothing
 
--- A fault of the job is kept, and where the job went well, one of the closing is told.
+-- A fault of the job comes first. If the job succeeded, a fault of the closing is the result.
 abbrev pub closed : (done closing : Result (Unit {0}) StationFault) → Result (Unit {0}) StationFault
 closed (Err e) closing = Err e
 closed (Ok done) closing = closing
 
--- The file at a path is made, opened and closed so. As it was before it is `db`, and as it is afterwards `db'`.
+-- A job over the file at the path `at`, which is `db` before it and `db'` after it.
 module _ {D G : Type 0} (file : file.Ghosts D G) (db db' : D) (at : List ℕ) where
-  -- this was done over the guard, and what it left was closed
+  -- this was done over the guard, which was then closed
   pub record RunsOver (Did : G → G → Result (Unit {0}) StationFault → Type 0) (opened : D) (guard : G)
       (result : Result (Unit {0}) StationFault) : Type 0 where
     pub outcome : Result (Unit {0}) StationFault
@@ -34,7 +34,7 @@ module _ {D G : Type 0} (file : file.Ghosts D G) (db db' : D) (at : List ℕ) wh
     pub is_closed : file.closes opened last closing db'
     pub came : result ≡ closed outcome closing
 
-  -- The guard was opened, once, and this was done over it. Or it wasn't opened, and nothing was done.
+  -- The guard was opened once, and this was done over it. Or it couldn't be opened, and nothing was done.
   pub record RunsIn (Did : G → G → Result (Unit {0}) StationFault → Type 0) (Nothing : Type 0)
       (result : Result (Unit {0}) StationFault) : Type 0 where
     pub found : Result G StationFault
@@ -49,20 +49,20 @@ module _ {D G : Type 0} (file : file.Ghosts D G) (db db' : D) (at : List ℕ) wh
     pub is_made : file.makes db at found opened
     pub ran : Follows (λ guard r. file.closes opened guard r db') (db' ≡ opened) found result
 
-  -- it was made, and is told of
+  -- it was made, and this was reported
   pub record InitsIn (held holds : Option (List ℕ)) (result : Result (Unit {0}) StationFault) : Type 0 where
     pub made : Result (Unit {0}) StationFault
     pub is_made : MakesIn made
     pub told : Follows (λ _. IsPrinted (codes "lists ready\n") held holds) (holds ≡ held) made result
 
--- the question was read from these files, or why it wasn't
+-- the question was read from these files, or it is a fault of reading them
 abbrev pub IsRead : {E F : Type 0} → surroundings.Ghosts E F → E → (remaining : F → Option (List ℕ))
     → (cas : List (List ℕ)) → Bool → (path : List ℕ) → Result Question StationFault → Type 0
 IsRead world around remaining cas begins path (Ok q) = Asks world around remaining cas begins path q
 IsRead world around remaining cas begins path (Err e) = IsOfAKey e
 
--- The question was read, and then the guard opened and the list judged. Or the question can't be read, and then no guard
--- was looked for or opened, and nothing is printed.
+-- The question was read, and then the guard was opened and the list judged. Or the question couldn't be read, and then
+-- no guard was looked for or opened, and nothing was printed.
 pub record ListsIn {E F D G : Type 0} (world : surroundings.Ghosts E F) (around : E) (remaining : F → Option (List ℕ))
     (guard : register.Ghosts G) (file : file.Ghosts D G) (db db' : D) (at : List ℕ) (cas : List (List ℕ))
     (begins : Bool) (path : List ℕ) (held holds : Option (List ℕ)) (result : Result (Unit {0}) StationFault) : Type 0 where
@@ -72,7 +72,7 @@ pub record ListsIn {E F D G : Type 0} (world : surroundings.Ghosts E F) (around 
       (λ q. RunsIn file db db' at (States world around guard q held holds) (holds ≡ held))
       ((db' ≡ db) × (holds ≡ held)) asked result
 
--- the job was done, whole, with this result
+-- the whole job was done, with this result
 abbrev pub RunsJob : {E F D G : Type 0} → surroundings.Ghosts E F → E → (remaining : F → Option (List ℕ))
     → register.Ghosts G → file.Ghosts D G → (db db' : D) → (at : List ℕ) → ListJob → (held holds : Option (List ℕ))
     → Result (Unit {0}) StationFault → Type 0

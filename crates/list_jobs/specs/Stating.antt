@@ -1,4 +1,4 @@
--- One list judged, and the line of the answer printed.
+-- Judging one list, and printing the line of the answer.
 use Rattle.std.specs.Prelude.{◌≡◌, ◌⊎◌, ℕ, List, Option, None, Some, Result, Ok, Err, IfErr}
 use Rattle.std.specs.Io.KnownBytes.{Appends}
 use Rattle.wire.specs.Streams.{AppendsBeginning}
@@ -15,18 +15,18 @@ use Rattle.station_jobs.specs.declared.station_fault.StationFault.{StationFault}
 use Rattle.station_jobs.specs.declared.station_fault.StationFault.TheVariants as fault
 use Rattle.station_jobs.specs.Faults.{IsOfAnAnswer}
 
--- how a text was printed: whole, or after a fault a beginning of it
+-- the text was printed, or after a fault a beginning of it
 abbrev pub IsPrinted : List ℕ → (held holds : Option (List ℕ)) → Result (Unit {0}) StationFault → Type 0
 IsPrinted text held holds (Ok done) = Appends held holds text
 IsPrinted text held holds (Err e) = AppendsBeginning held holds text
 
--- the list that an answer states: the one that it approves, or none
+-- the list that an answer states, if it approves one
 abbrev pub stated_by : Answer → Question → Option (List ℕ)
 stated_by (answer.Approve digest version) q = Some q.list
 stated_by (answer.Refuse r) q = None
 
--- It was answered as the plain guard answers, at a moment of the clock. By what was stated this is left, and the line of
--- the answer was printed.
+-- The answer is the reference model's, at a time of the clock. `Left` holds of the stated list and the state after it,
+-- and the line of the answer was printed.
 pub record Stated (s : State) (Left : Option (List ℕ) → State → Type 0) (shows : ℕ → Type 0) (q : Question)
     (held holds : Option (List ℕ)) (result : Result (Unit {0}) StationFault) : Type 0 where
   pub answer : Answer
@@ -37,44 +37,44 @@ pub record Stated (s : State) (Left : Option (List ℕ) → State → Type 0) (s
   pub printed : IsPrinted (answer_line answer moment) held holds result
   pub only : IfErr result IsOfAnAnswer
 
--- The question was answered so. Or it is a fault, by which this is left, and nothing is printed.
+-- The question was answered. Or there was a fault, of which `Lost` holds, and nothing was printed.
 abbrev pub StatesOne : State → (Left : Option (List ℕ) → State → Type 0) → (Lost : StationFault → Type 0)
     → (shows : ℕ → Type 0) → Question → (held holds : Option (List ℕ)) → Result (Unit {0}) StationFault → Type 0
 StatesOne s Left Lost shows q held holds result =
     Stated s Left shows q held holds result
     ⊎ ((e : StationFault) × (result ≡ Err e) × Lost e × (holds ≡ held))
 
--- why a list isn't judged: the clock shows no moment, memory was refused, or the database has failed
+-- the causes of not judging a list: the clock gave no valid time, memory was refused, or the database has failed
 abbrev pub IsUnjudged : (failed : Type 0) → StationFault → Type 0
 IsUnjudged failed fault.Clock = Unit {0}
 IsUnjudged failed fault.NoMemory = Unit {0}
 IsUnjudged failed fault.Device = failed
 IsUnjudged failed other = ⊥
 
--- A register keeps this state, and a crash leaves just that.
+-- A register keeps this state, and a crash leaves exactly that.
 abbrev pub Stores : {G : Type 0} → register.Ghosts G → G → State → Type 0
 Stores guard g s = guard.keeps g s × guard.leaves g s s
 
--- It keeps what it kept. The fault has its cause if that is a published list, or none, and the list isn't too long.
+-- It keeps this state. The fault has its cause if the state has a published list or none, and the list is short enough.
 abbrev pub Loses : {G : Type 0} → register.Ghosts G → G → State → Question → StationFault → Type 0
 Loses guard g s q e = guard.keeps g s × (IsLawful s → IsShort q.list → IsUnjudged (guard.has_failed g) e)
 
--- what a crash leaves: what was kept, or the list, if it is approved
+-- a crash leaves what was kept, or the list, if it is approved
 abbrev pub LeavesOne : State → (leaves : State → State → Type 0) → Question → Type 0
 LeavesOne s leaves q = leaves s s ⊎ (IsApproved s q × leaves s (with_last q.list))
 
--- a list judged over a register, and its line printed
+-- a list was judged over a register, and the line of the answer printed
 pub record States {E F G : Type 0} (world : surroundings.Ghosts E F) (around : E) (guard : register.Ghosts G)
     (q : Question) (held holds : Option (List ℕ)) (old new : G) (result : Result (Unit {0}) StationFault)
     : Type 0 where
-  -- an honest register was honest before
+  -- a register that is honest afterwards was honest before
   pub honest : guard.is_honest new → guard.is_honest old
   pub states : guard.is_honest new → (s : State) → Stores guard old s
       → StatesOne s (λ _ t. Stores guard new t) (Loses guard new s q) (world.shows around) q held holds result
-  -- a crash, also in the midst of it
+  -- a crash, also in the middle of it
   pub crash : guard.is_honest new → (s : State) → Stores guard old s → LeavesOne s (guard.leaves new) q
 
--- the fault of a register that didn't answer
+-- a register's fault as a fault of the station
 abbrev pub register_fault : RegisterFault → StationFault
 register_fault list.Device = fault.Device
 register_fault list.Damaged = fault.Damaged

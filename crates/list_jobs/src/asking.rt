@@ -1,4 +1,4 @@
-//! What is asked: the keys of the CAs, and the list.
+//! Reading a question from files: the keys of the CAs, and the list.
 
 ghost use Rattle.std.specs.Prelude.{◌≡◌, IfErr, IfOk, map, string_bytes};
 ghost use Rattle.list_jobs.specs.Asking.{AreKeysAt, IsKeyAt, IsListAt};
@@ -10,19 +10,19 @@ use station_jobs::{StationFault, Surroundings, scope_from};
 use std::alloc::Global;
 use std::io::Read;
 
-/// A list that is to be judged: the paths of the files with the CAs' key lines, whether this may be the first list, and
-/// the path of the list.
+/// A question as it is asked on the command line: the paths of the CAs' public-key lines, whether this may be the first
+/// list, and the path of the list.
 #[derive(Clone, Copy)]
 pub struct Listing<'a> {
-    /// Paths of the files with the CAs' key lines.
+    /// The paths of the files with the CAs' public-key lines.
     pub cas: &'a [String],
-    /// Whether a first list is taken.
+    /// Whether a first list is accepted.
     pub begins: bool,
-    /// Path of the list.
+    /// The path of the list.
     pub list: &'a str,
 }
 
-/// The key of the file at a path: that of a scope with it, whose one serial is of no matter.
+/// The key in the file at a path. It is read as the key of a scope, whose range of serials isn't used.
 fn key_at<F: Read + Drop, P: Surroundings<File = F>>(
     alloc: Global,
     around: &P,
@@ -40,7 +40,7 @@ fn key_at<F: Read + Drop, P: Surroundings<File = F>>(
     }
 }
 
-/// The keys of the files at these paths, in order.
+/// The keys in the files at these paths, in order.
 pub fn keys_at<F: Read + Drop, P: Surroundings<File = F>>(
     alloc: Global,
     around: &P,
@@ -62,7 +62,7 @@ pub fn keys_at<F: Read + Drop, P: Surroundings<File = F>>(
     Ok(keys)
 }
 
-/// The list of the file at a path. It is a fault of the file if it has more than `LONGEST_LIST` bytes.
+/// The list in the file at a path. A file of more than `LONGEST_LIST` bytes is a fault.
 pub fn list_at<F: Read + Drop, P: Surroundings<File = F>>(
     alloc: Global,
     around: &P,

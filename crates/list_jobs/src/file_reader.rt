@@ -1,4 +1,4 @@
-//! All that a file holds.
+//! Reading a whole file.
 
 ghost use Rattle.std.specs.Prelude.{◌≡◌, ◌<◌, ◌≤◌, IfErr, IfOk, IfSome, length, take};
 ghost use Rattle.station_jobs.specs.Faults.{IsOfAFile};
@@ -7,7 +7,7 @@ use station_jobs::{StationFault, file_fault};
 use std::alloc::Global;
 use std::io::Read;
 
-/// The first bytes that a reader gives, `most` of them where it gives so many.
+/// The first `most` bytes of a reader, or all bytes if it has fewer.
 fn read_first<R: Read + Drop>(alloc: Global, reader: R, most: u64) -> Result<Vec<u8>, StationFault>
     ensures first { IfOk result (λ v. IfSome (R.remaining reader) (λ bytes. v.items ≡ take most bytes)) }
     ensures only { IfErr result IsOfAFile }
@@ -19,7 +19,7 @@ fn read_first<R: Read + Drop>(alloc: Global, reader: R, most: u64) -> Result<Vec
     }
 }
 
-/// All that a reader gives. It is a fault of the file if that is more than `most` bytes.
+/// All bytes of a reader. More than `most` bytes are a fault of the file.
 pub fn read_whole<R: Read + Drop>(
     alloc: Global,
     reader: R,
@@ -30,9 +30,11 @@ pub fn read_whole<R: Read + Drop>(
     ensures whole { IfOk result (λ v. IfSome (R.remaining reader) (λ bytes. v.items ≡ bytes)) }
     ensures only { IfErr result IsOfAFile }
 {
-    let bytes = read_first(alloc, reader, most + 1)?;
+    let mut bytes = read_first(alloc, reader, most + 1)?;
     if most < bytes.len() as u64 {
         return Err(StationFault::File);
     }
+    // Reading doubled the capacity again and again.
+    bytes.shrink_to_fit();
     Ok(bytes)
 }

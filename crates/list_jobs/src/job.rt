@@ -1,4 +1,4 @@
-//! What is asked of the list guard of a file, whole.
+//! Whole jobs over the list guard in a file.
 
 ghost use Rattle.std.specs.Prelude.{◌≡◌, map, string_bytes};
 ghost use Rattle.list_guard.specs.Judged.{question};
@@ -15,10 +15,10 @@ use std::alloc::Global;
 use std::io::{Read, Write};
 use text::Text;
 
-/// What is asked of the list guard of a file.
+/// A job over the list guard in a file.
 #[derive(Clone, Copy)]
 pub enum ListJob<'a> {
-    /// Makes one that has approved nothing yet, and tells of it.
+    /// Makes a list guard that has approved nothing yet, and reports this.
     Init,
     /// Judges a list, and prints the line of the answer.
     List(Listing<'a>),
@@ -38,7 +38,7 @@ fn make_in<G, D: ListFile<Guard = G>>(
     }
 }
 
-/// Makes a list guard in a file, and tells of it.
+/// Makes a list guard in a file, and reports this.
 fn init_in<G, D: ListFile<Guard = G>, W: Write>(
     alloc: Global,
     db: &mut D,
@@ -53,7 +53,7 @@ fn init_in<G, D: ListFile<Guard = G>, W: Write>(
     }
 }
 
-/// Judges a list over the list guard of a file, and prints the line of the answer.
+/// Judges a list over the list guard in a file, and prints the line of the answer.
 fn state_in<
     F: Read + Drop,
     P: Surroundings<File = F>,
@@ -87,8 +87,8 @@ fn state_in<
     }
 }
 
-/// Judges the list of a file over the list guard of another one, and prints the line of the answer. The keys and the list
-/// are read before the guard's file is looked for.
+/// Judges the list in one file over the list guard in another, and prints the line of the answer. The keys and the list
+/// are read before the guard's file is opened.
 fn list_in<
     F: Read + Drop,
     P: Surroundings<File = F>,
@@ -120,12 +120,12 @@ fn list_in<
     }
 }
 
-/// Does what is asked of the list guard of the file at a path, from its opening to its closing.
+/// Does a job over the list guard in the file at a path, from opening it to closing it.
 ///
 /// # Errors
 ///
-/// The first fault that is met, in this order: of the CAs' files, of the list's file, of the guard's file, of the clock,
-/// of the register, of the output. Where the job was done, one of the closing.
+/// The first fault, in this order: of the CAs' files, of the list's file, of the guard's file, of the clock, of the
+/// register, of the output. If there is none of these, a fault of the closing.
 pub fn run_in<
     F: Read + Drop,
     P: Surroundings<File = F>,

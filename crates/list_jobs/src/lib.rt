@@ -1,8 +1,8 @@
-//! What `sshstation` does with lists, over any register of a list guard, any files and any output.
+//! The jobs of `sshstation` with published lists (KRLs), over any register of a list guard, any files and any output.
 //!
-//! `run_in` makes a list guard in a file, or judges one list: the keys of the CAs and the list are read, the guard is
-//! opened, the list is judged at a moment of the clock, and the line of the answer is printed. A line that states a list
-//! is printed only once the register keeps it for good.
+//! `run_in` makes a list guard in a file, or judges one list: it reads the keys of the CAs and the list, opens the
+//! guard, judges the list at a time of the clock, and prints the line of the answer. A line that states a list is
+//! printed only once the register keeps the list and a crash can't undo that.
 #![tactic(auto)]
 
 mod asking;

@@ -1,4 +1,4 @@
-//! The file of a list guard: made, opened and closed.
+//! The file of a list guard, which is made, opened and closed.
 
 ghost use Rattle.std.specs.Prelude.{ℕ, List, Result};
 ghost use Rattle.station_jobs.specs.declared.station_fault.StationFault.{StationFault as Fault};
@@ -8,17 +8,17 @@ use std::alloc::Global;
 
 /// The file of a list guard.
 pub trait ListFile {
-    /// The list guard, as it is open.
+    /// The open list guard.
     type Guard;
 
-    // What each call below may give, with the file before it and after it.
+    // The possible results of each call below, with the file before it and after it.
     ghost makes: { Self → List ℕ → Result Self.Guard Fault → Self → Type 0 };
 
     ghost opens: { Self → List ℕ → Result Self.Guard Fault → Self → Type 0 };
 
     ghost closes: { Self → Self.Guard → Result (Unit {0}) Fault → Self → Type 0 };
 
-    /// Makes a list guard at a path that has approved nothing yet, and its file if it isn't there.
+    /// Makes a list guard at a path, which has approved nothing yet, and its file if it doesn't exist.
     ///
     /// # Errors
     ///
@@ -26,7 +26,7 @@ pub trait ListFile {
     fn make(&mut self, alloc: Global, path: &str) -> Result<Self::Guard, StationFault>
         ensures { makes self.old path.now result self.new };
 
-    /// Opens the list guard that the file at a path has.
+    /// Opens the list guard in the file at a path.
     ///
     /// # Errors
     ///
@@ -38,7 +38,7 @@ pub trait ListFile {
     ///
     /// # Errors
     ///
-    /// Why it can't be closed well. It is closed all the same.
+    /// Why closing failed. The list guard is closed nevertheless.
     fn close(&mut self, guard: Self::Guard) -> Result<(), StationFault>
         ensures { closes self.old guard result self.new };
 }

@@ -1,4 +1,4 @@
-//! One list judged, and the line of the answer printed.
+//! Judging one list, and printing the line of the answer.
 
 ghost use Rattle.std.specs.Prelude.{◌≡◌, IfErr, IfOk, OnErr, OnOk};
 ghost use Rattle.std.specs.Io.KnownBytes.{Appends};
@@ -14,7 +14,7 @@ use std::alloc::Global;
 use std::io::{Read, Write};
 use text::Text;
 
-/// The fault of a register that didn't answer.
+/// A register's fault as a fault of the station.
 fn register_fault(fault: RegisterFault) -> StationFault
     ensures { result ≡ register_fault fault }
 {
@@ -25,7 +25,7 @@ fn register_fault(fault: RegisterFault) -> StationFault
     }
 }
 
-/// Prints the line of an answer. After a fault a beginning of it may be printed.
+/// Prints the line of an answer. After a fault, a beginning of it may have been printed.
 fn print_answer<W: Write>(
     alloc: Global,
     answer: Answer,
@@ -44,7 +44,7 @@ fn print_answer<W: Write>(
     }
 }
 
-/// Judges a list, and prints the line of the answer once the register keeps what is stated.
+/// Judges a list, and prints the line of the answer once the register keeps an approved list.
 pub fn state_list<F: Read + Drop, P: Surroundings<File = F>, G: ListRegister, W: Write>(
     alloc: Global,
     around: &P,

@@ -1,12 +1,12 @@
-//! What is told of a job that was done.
+//! The result of a job and of closing its guard.
 
 ghost use Rattle.std.specs.Prelude.{◌≡◌};
 ghost use Rattle.list_jobs.specs.Jobs.{closed};
 
 use station_jobs::StationFault;
 
-/// What comes of a job and of the closing of its guard. A fault of the job is kept, and where the job went well, one of
-/// the closing is told.
+/// The result of a job and of closing its guard. A fault of the job comes first. If the job succeeded, a fault of the
+/// closing is returned.
 pub fn closed(
     done: Result<(), StationFault>,
     closing: Result<(), StationFault>,

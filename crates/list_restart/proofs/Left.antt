@@ -24,7 +24,7 @@ use Rattle.restart.specs.Ending.{AreEnded}
 use Rattle.list_restart.specs.Images.{HoldsOneOf}
 use Rattle.list_restart.specs.Runs.{EndsWell, LeavesOneOf, LeavesWhatIsKept}
 
--- after a good close each outcome of a crash holds the last commit
+-- after a close that succeeded, each possible result of a crash holds the last commit
 pub leaves_what_is_kept : {D : Type 0} {g : Ghosts D} (c : Held (FileStore D g)) (files : Files D) → IsCopied c files
     → LeavesWhatIsKept g (file_state c) files
 leaves_what_is_kept c files copied s keeps image may = record {
@@ -33,13 +33,13 @@ leaves_what_is_kept c files copied s keeps image may = record {
   kept = (keeps.rows copied.was_open).committed.kept;
 }
 
--- files that hold what a crash may leave hold one of the two list guards
+-- if the files hold trees with one of two rows, they hold one of the two list guards
 holds_left : (s t : State) (image : Image) (db : Trees) → HoldsDatabase image db
     → Kept db (list_contents s) ⊎ Kept db (list_contents t) → HoldsOneOf image s t
 holds_left s t image db holds (inl kept) = ∣ inl (record { trees = db; holds = ∣ holds ∣₁; kept = kept }) ∣₁
 holds_left s t image db holds (inr kept) = ∣ inr (record { trees = db; holds = ∣ holds ∣₁; kept = kept }) ∣₁
 
--- each outcome of a crash opens to trees that the connection may leave
+-- each possible result of a crash opens with trees that the connection may leave
 pub leaves_one_of : {D : Type 0} {g : Ghosts D} (c : Held (FileStore D g)) (it : FileStore D g)
     → IsTrue (view it).is_numbered → AreDatabases (recovers it)
     → ((db : Trees) → recovers it db → recovers c.store db) → LeavesOneOf (file_state c) (state it).may_leave
@@ -47,7 +47,7 @@ leaves_one_of c it numbered sound fewer s t left image may =
     ∥∥₁_elim (opens_again it numbered sound image may) squash₁
     (λ db. holds_left s t image db.0 db.2 (left db.0 (fewer db.0 db.1)))
 
--- how a connection ended says what its files hold
+-- a connection that ended, ended well
 pub ends_well : {D : Type 0} {g : Ghosts D} → SeenMayStay g → (c : Held (FileStore D g)) (r : Result Unit EndFault)
     (files : Files D) → AreEnded c r files → EndsWell c r files
 ends_well {D} {g} stays c (Ok done) files ended = λ clean.

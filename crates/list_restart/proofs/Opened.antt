@@ -1,4 +1,4 @@
--- What a connection that was just opened has.
+-- The contents of a new connection.
 use Rattle.std.proofs.Common.{◌≡◌, inl, inr, refl, sym, subst}
 use Rattle.std.proofs.Math.Logic.{∥∥₁_elim}
 use Rattle.sqlite_wal.specs.Recovery.{Image}
@@ -20,7 +20,7 @@ use Rattle.restart.proofs.HalfMade.{found_nothing}
 use Rattle.restart.proofs.OneSchema.{one_schema}
 use Rattle.list_restart.specs.Runs.{FoundIsHad, HasWhatIsHeld, IsBlankIfNone}
 
--- where no transaction is open, the schema is that of a list guard
+-- trees with the row of a list guard have the schema of one
 pub found_is_had : (c : Connection) → FoundIsHad c
 found_is_had c opens live s kept =
     let schema = one_schema whole c.committed.schema c.committed.trees refl kept.sound (live opens.is_open).1 in
@@ -31,14 +31,14 @@ found_is_had c opens live s kept =
       committed = means;
     }
 
--- the trees that were found are those that the files held
+-- the trees that were found are those that the files hold
 pub has_what_is_held : (image : Image) (c : Connection) → Opens c → IsLive c → FindsIn image c → FoundIsHad c
     → HasWhatIsHeld image c
 has_what_is_held image c opens live found had s held =
     let same : c.committed.trees ≡ held.trees = ∥∥₁_elim held.holds (Trees-set _ _) (found.holds held.trees) in
     had opens live s (subst (λ (t : Trees). Kept t (list_contents s)) (sym same) held.kept)
 
--- of files that hold no row no table is read
+-- from files that hold no list guard, no table is read
 no_tables : (image : Image) (c : Connection) → FindsIn image c → HoldsNone image → IsSound no_schema c.committed.trees
 no_tables image c found (inl nothing) =
     empty_is_sound c.committed.trees (found_nothing image c.committed.trees nothing found.reads).1
@@ -46,7 +46,7 @@ no_tables image c found (inr held) =
     let same : c.committed.trees ≡ held.0 = ∥∥₁_elim held.1 (Trees-set _ _) (found.holds held.0) in
     subst (IsSound no_schema) (sym same) held.2
 
--- without a table the connection is blank
+-- so the connection has no table
 pub blank_if_none : (image : Image) (c : Connection) → Opens c → IsLive c → FindsIn image c → IsBlankIfNone image c
 blank_if_none image c opens live found none =
     let sound = no_tables image c found none in

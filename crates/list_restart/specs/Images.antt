@@ -9,25 +9,25 @@ use Rattle.list_sql.specs.Keeping.{IsFilled}
 use Rattle.list_sql.specs.Rows.{list_contents}
 use Rattle.restart.specs.Images.{HoldsNone}
 
--- a database with the row of the list guard of this state
+-- the files hold a database whose table has the row of this state
 pub record HoldsList (image : Image) (s : State) : Type 0 where
   pub trees : Trees
   pub holds : ∥ HoldsDatabase image trees ∥₁
   pub kept : Kept trees (list_contents s)
 
--- the list guard of this state, which a table may keep
+-- the list guard with this state, which a table may hold
 abbrev pub HoldsKept : Image → State → Type 0
 HoldsKept image s = IsFilled s × HoldsList image s
 
--- the list guard of the one state or that of the other
+-- the list guard with one of these two states
 abbrev pub HoldsOneOf : Image → State → State → Type 0
 HoldsOneOf image s t = ∥ HoldsList image s ⊎ HoldsList image t ∥₁
 
--- no list guard yet, or one of this state
+-- what files hold: no list guard yet, or one with this state
 abbrev pub Standing : Type 0
 Standing = Option State
 
--- the files hold that
+-- the files hold this
 abbrev pub Holds : Image → Standing → Type 0
 Holds image None = HoldsNone image
 Holds image (Some s) = HoldsKept image s

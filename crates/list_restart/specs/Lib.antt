@@ -1,3 +1,3 @@
 pub mod Images
-pub mod Runs
 pub mod Lives
+pub mod Runs

@@ -1,4 +1,4 @@
--- One run of a program that keeps a list guard, from the two files that it finds to those that it leaves.
+-- One run of a program that keeps a list guard: opening its two files, and ending the connection.
 use Rattle.std.specs.Prelude.{Result, Ok, Err}
 use Rattle.sqlite_disk.specs.declared.Disk.{Ghosts}
 use Rattle.sqlite_disk.specs.declared.Files.{Files}
@@ -17,18 +17,19 @@ use Rattle.restart.specs.declared.ending.EndFault.{EndFault}
 use Rattle.restart.specs.declared.ending.EndFault.TheVariants.{GivenUp, Uncopied}
 use Rattle.restart.specs.Images.{HoldsNone}
 use Rattle.list_restart.specs.Images.{HoldsList, HoldsOneOf}
+use Rattle.list_restart.specs.Lives.{GoesOn, IsRun, Said}
 
 -- ---- the open
 
--- a connection that was just opened has each list guard whose row its trees hold
+-- a new connection has each list guard whose row its trees hold
 abbrev pub FoundIsHad : Connection → Type 0
 FoundIsHad c = Opens c → IsLive c → (s : State) → Kept c.committed.trees (list_contents s) → HasList s c
 
--- it has each list guard that the files held
+-- a connection has each list guard that the files held
 abbrev pub HasWhatIsHeld : Image → Connection → Type 0
 HasWhatIsHeld image c = (s : State) → HoldsList image s → HasList s c
 
--- it is blank if the files held no row
+-- a connection has no table if the files held no list guard
 abbrev pub IsBlankIfNone : Image → Connection → Type 0
 IsBlankIfNone image c = HoldsNone image → IsBlank c
 
@@ -39,14 +40,14 @@ abbrev pub LeavesWhatIsKept : {D : Type 0} → Ghosts D → Connection → Files
 LeavesWhatIsKept g c files =
     (s : State) → Keeps c s → (image : Image) → outcomes g files.log files.db image → HoldsList image s
 
--- whatever a crash leaves, the files hold one of the two list guards that a crash left
+-- whatever a crash leaves, the files hold one of the two list guards that a crash could leave before
 abbrev pub LeavesOneOf : Connection → (Image → Type 0) → Type 0
 LeavesOneOf c may_leave =
     (s t : State) → Leaves c s t → (image : Image) → may_leave image → HoldsOneOf image s t
 
--- How the connection ended, if its disk has returned what was written: it was closed, and whatever a crash makes of
--- the files, they hold the list guard that was kept. Or it was given up, and they hold one of the two list guards that
--- a crash left. Of a log that couldn't be copied nothing is said.
+-- How a connection ended, if its disk has been faithful. It was closed, and whatever a crash makes of the files, they
+-- hold the list guard that was kept. Or it was abandoned, and they hold one of the two list guards that a crash could
+-- leave before. If its log couldn't be copied, nothing is promised.
 abbrev pub EndsWell : {D : Type 0} {g : Ghosts D} → Held (FileStore D g) → Result (Unit {0}) EndFault → Files D
     → Type 0
 EndsWell {D} {g} conn (Ok done) files =
@@ -55,3 +56,15 @@ EndsWell {D} {g} conn (Err (GivenUp error)) files =
     AreClean g files.log files.db
     → HasCleanDisk (file_state conn) × LeavesOneOf (file_state conn) (outcomes g files.log files.db)
 EndsWell {D} {g} conn (Err (Uncopied error)) files = Unit {0}
+
+-- ---- the whole run
+
+-- whatever a crash makes of what is left, this was a run of a program that keeps a list guard
+abbrev pub AreRuns : Image → Said → (Image → Type 0) → Type 0
+AreRuns image said may_leave = (left : Image) → may_leave left
+    → IsRun (record { found = image; said = said; left = left })
+
+-- It was such a run, and a further one after any runs that left the files as it found them.
+pub record RunsOn (image : Image) (said : Said) (may_leave : Image → Type 0) : Type 0 where
+  pub runs : AreRuns image said may_leave
+  pub goes_on : (left : Image) → may_leave left → GoesOn (record { found = image; said = said; left = left })

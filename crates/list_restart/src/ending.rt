@@ -1,4 +1,4 @@
-//! A connection to files, ended: closed or, where a failed disk has shut it, given up.
+//! Ending a connection to files: it is closed, or abandoned if a failed disk has shut it.
 
 ghost use Rattle.restart.specs.Ending.{AreEnded};
 ghost use Rattle.list_restart.specs.Runs.{EndsWell};
@@ -7,18 +7,18 @@ use restart::EndFault;
 use sqlite::{Connection, FileFrom, FileStore, Files, Start};
 use sqlite_disk::Disk;
 
-/// Ends a connection to files, and gives these back. It is closed if it is open, and otherwise given up.
+/// Ends a connection to files, and returns these. An open connection is closed, and one that is shut is abandoned.
 pub fn end_at<D: Disk + Drop>(conn: Connection<FileStore<D>>) -> (Result<(), EndFault>, Files<D>)
     ensures ended { AreEnded conn result.0 result.1 }
 
-    // Whatever a crash makes of the files from now on, they hold the list guard that was kept. Of a connection that was
-    // given up they hold one of the two list guards that a crash left before.
+    // Whatever a crash makes of the files from now on, they hold the list guard that was kept. If the connection was
+    // abandoned, they hold one of the two list guards that a crash could leave before.
     ensures well { EndsWell conn result.0 result.1 }
 {
     restart::end_at(conn)
 }
 
-/// `end_at` for the files at a path. No clause can name their disk, which comes with the connection.
+/// `end_at` for the files at a path, whose disk comes with the connection, so that no clause can name it.
 pub fn end_path<S: Start>(
     conn: Connection<FileStore<FileFrom<S>>>,
 ) -> (Result<(), EndFault>, Files<FileFrom<S>>)

@@ -1,20 +1,22 @@
-//! Laws of a list guard from run to run: functions without a body, whose contracts a caller cites.
+//! Theorems about a list guard from run to run: functions without a body, whose contracts a caller cites.
 
 ghost use Rattle.sqlite.specs.Held.{state};
-ghost use Rattle.list_restart.specs.Lives.{LivesGrow};
+ghost use Rattle.list_restart.specs.Lives.{LivesGrow, RunsGoOn};
 ghost use Rattle.list_restart.specs.Runs.{FoundIsHad};
 
 use sqlite::{Alter, Connection};
 
-/// A connection that was just opened has each list guard whose row its trees hold.
+/// A new connection has each list guard whose row its trees hold.
 pub fn what_is_found_is_had<S: Alter>(conn: &Connection<S>)
     ensures { FoundIsHad (state S.Store conn.now) }
 {
     let _ = conn;
 }
 
-/// After every list of runs the lists that were stated only grow in what they revoke, no version goes back, and lists
-/// of one version are equal, byte by byte. A crash may have ended each run, and the files may have been absent at first.
+/// After every sequence of runs, the lists that were stated never revoke less, versions never go back, and lists of one
+/// version are equal, byte by byte. Each run may have ended in a crash, and the files may have been absent at first.
+/// The same holds after one further run.
 pub fn lives_only_grow()
-    ensures { LivesGrow }
+    ensures grow { LivesGrow }
+    ensures goes_on { RunsGoOn }
 {}

@@ -1,6 +1,6 @@
 //! A list guard's files, from run to run.
 //!
-//! An open has the list guard that the files hold, and a close or a crash leaves the list guard that was kept.
+//! An opened connection has the list guard that the files hold, and a close or a crash leaves the one that was kept.
 #![tactic(auto)]
 
 mod ending;

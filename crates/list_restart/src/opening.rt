@@ -1,4 +1,4 @@
-//! The files at a path, opened.
+//! Opening the files at a path.
 
 ghost use Rattle.std.specs.Prelude.{IfOk};
 ghost use Rattle.sqlite_wal.specs.Files.{image_at};
@@ -10,7 +10,7 @@ ghost use Rattle.list_restart.specs.Runs.{HasWhatIsHeld, IsBlankIfNone};
 use crate::laws::what_is_found_is_had;
 use sqlite::{Connection, Error, FileFrom, FileStore, Start};
 
-/// Opens the files at a path, or makes them. `start` stands for what they hold.
+/// Opens the files at a path, or makes them. `start` represents what they hold.
 ///
 /// # Errors
 ///
@@ -27,7 +27,7 @@ pub fn open_at<S: Start>(
     ensures held { IfOk result (λ c. HasCleanDisk (file_state c)
         → HasWhatIsHeld (image_at S.Start) (file_state c)) }
 
-    // If they held no row, a list guard can be made.
+    // If they held none, the connection has no table, so that one can be made.
     ensures blank { IfOk result (λ c. HasCleanDisk (file_state c)
         → IsBlankIfNone (image_at S.Start) (file_state c)) }
 {

@@ -1,4 +1,4 @@
--- What a write of the register does over a table that keeps a list guard.
+-- The effect of the register's write over a table that holds a list guard.
 use Rattle.std.proofs.Common.{◌≡◌, ℕ, true, false, Ok, Err, Option, None, Result, IsTrue}
 use Rattle.std.proofs.Common.{inl, inr, ap, sym, subst, refl, ◌∙◌, arith}
 use Rattle.std.specs.Prelude.{is_some}
@@ -21,7 +21,7 @@ use Rattle.list_sql.specs.Transactions.{Has, Rests, Whole}
 
 -- ---- failures
 
--- where no query has a limit on its steps, only a disk fails, now or before
+-- without a limit on the steps of a query, a failure is one of the disk, now or before
 pub has_failed : (old new : Connection) → old.step_limit ≡ None → (IsTrue new.is_open → IsTrue old.is_open)
     → SqlFailed old new → HasFailed new
 has_failed old new unlimited was (inl more) = inl (omega (arith, more))
@@ -34,7 +34,7 @@ has_failed old new unlimited was (inr (inr limited)) =
 
 -- ---- writes
 
--- one of those of the one state is one of those of either
+-- what leaves one state leaves one of two
 pub widened : (c : Connection) (s t : State) → Leaves c s s → Leaves c s t
 widened c s t left trees may = elim (left trees may) [ inl is ↦ inl is | inr is ↦ inl is ]
 
@@ -46,7 +46,7 @@ caused_or old new refused Damaged unlimited was never cause = absurd cause
 caused_or old new refused Device unlimited was never (inl failed) = has_failed old new unlimited was failed
 caused_or old new refused Device unlimited was never (inr why) = absurd (never why)
 
--- what a whole write leads to
+-- a whole write leads to the next state
 module _ (Room : Type 0) (next : State) (after : Contents → Contents) (refused : Contents → Type 0)
     (lawful : IsFilled next) (same : (s : State) → after (list_contents s) ≡ list_contents next)
     (fits : (s : State) → Room → refused (list_contents s) → ⊥) (old new : Connection)
@@ -99,7 +99,7 @@ module _ (Room : Type 0) (next : State) (after : Contents → Contents) (refused
         (whole.cause clean keeps.autocommit (list_contents s) keeps.rows);
   }
 
--- a fault without a call, where there is no room
+-- a fault without a call, if there is no room
 pub leads_nowhere : {Room : Type 0} {next : State} (conn : Connection) → (Room → ⊥)
     → Leads Room next conn conn (Err register.Device)
 leads_nowhere {next = next} conn never = record {

@@ -1,4 +1,4 @@
--- What the calls do, from what their texts mean.
+-- The effects of calls, from the meanings of their texts.
 use Rattle.list_sql.proofs.Words.{Begin, Changes, Command, Commit, CommitsBy, CommitsShowing, Compiled, Contents}
 use Rattle.list_sql.proofs.Words.{Database, Delete, Does, Error, Executes, FailsBy, FailsToQuery, Fault}
 use Rattle.list_sql.proofs.Words.{FoundIn, Global, HasCause, HasCleanDisk, Holds, IfErr}
@@ -27,7 +27,7 @@ IsOnRows (Update at q) = Unit {0}
 IsOnRows (Delete at q) = Unit {0}
 IsOnRows _ = ⊥
 
--- a text that makes this of the contents
+-- a text that changes the contents by `after`
 pub record Write (sql : List ℕ) (params : Row) (after : Contents → Contents) : Type 0 where
   pub command : Command
   pub is : IsStatement sql command (length params)
@@ -75,7 +75,7 @@ closes_none (Update at q) on = refl
 closes_none (Delete at q) on = refl
 closes_none _ on = absurd on
 
--- all that a call of such a text does, which fails for these causes
+-- the whole effect of a call of such a text, which fails for these causes
 pub wrote : {X : Type 0} {sql : List ℕ} {params : Row} {after : Contents → Contents}
     {Causes : State → State → Result X Fault → Type 0} {old new : State} (w : Write sql params after)
     → ((old new : State) (r : Result X Fault) → FailsBy (HasWriteCause sql params) old new r → Causes old new r)
@@ -102,7 +102,7 @@ wrote {sql = sql} {params = params} {after = after} {old = old} {new = new} w fa
 
 -- ---- queries
 
--- such a text shows no rows of a write, whatever the tables are
+-- such a text has no RETURNING clause, whatever the tables are
 silent : {A X : Type 0} {Held : Trees → A → Type 0} {sql : List ℕ} {params : Row} {cells : X → Row} {of : A → List X}
     (f : FindIn whole Held sql params cells of) (s : State) (c : Compiled) → understood s.now.schema sql ≡ Ok c
     → c.returning ≡ None
@@ -110,7 +110,7 @@ silent {sql = sql} f s c is =
     let known = is_compiled (understood whole sql) f.is.2 in
     query_everywhere whole s.now.schema sql known.0 c known.1 is (ap is_select (sym (ap command_of known.1) ∙ f.is.0))
 
--- all that a call of such a text does, over tables of which this is known
+-- the whole effect of a call of such a text, over tables of which `Has` holds
 pub found_in : {A X : Type 0} {Held : Trees → A → Type 0} {sql : List ℕ} {params : Row} {cells : X → Row} {of : A → List X}
     (f : FindIn whole Held sql params cells of) (Has : A → Database → Type 0)
     → ((a : A) (db : Database) → Has a db → (db.schema ≡ whole) × Held db.trees a) → {old new : State}

@@ -1,4 +1,4 @@
--- Why a part of a transaction fails, and so the whole.
+-- The causes of faults of a part of a transaction, and so of the whole.
 use Rattle.std.proofs.Common.{◌≡◌, inl, inr, ◌≤◌, true, Ok, Err, Result, sym, subst, ◌∙◌, arith}
 use Rattle.std.specs.Prelude.{IfErr, IsSome}
 use Rattle.std.proofs.lemmas.Bool.{both_ways, cases_Bool}
@@ -16,12 +16,12 @@ use Rattle.list_sql.proofs.Steps.{Leads}
 
 -- ---- failures of the database
 
--- a failure of a beginning
+-- a failure in a first part is one of the whole
 pub failed_early : (a b c : State) → HasFailed a b → b.faults ≤ c.faults → HasFailed a c
 failed_early a b c (inl more) le = inl (omega (arith, more, le))
 failed_early a b c (inr other) le = inr other
 
--- a failure of what comes after it
+-- a failure in a later part is one of the whole
 pub failed_late : (P : Trees → Type 0) (a b c : State) → Survives a b P → HasCleanDisk b → b.faults ≤ c.faults
     → HasFailed b c
     → HasFailed a c
@@ -42,7 +42,7 @@ cause_of refused a b NoMemory h = tt
 cause_of refused a b Device h = inl h
 cause_of refused a b Damaged h = h
 
--- a cause is one beside another state before or after, where a failure and a refusal are
+-- a cause is also one for other states before and after, if failures and refusals are carried over
 cause_so : (less refused : Type 0) (a b c d : State) (f : Fault) → (HasFailed a b → HasFailed c d) → (less → refused)
     → HasCauseOr less a b f → HasCauseOr refused c d f
 cause_so less refused a b c d NoMemory late so h = tt
@@ -52,7 +52,7 @@ cause_so less refused a b c d Device late so (inr why) = inr (so why)
 
 -- ---- calls
 
--- a part that is done, and then one that fails
+-- a part that succeeds, and then one that fails
 pub fails_then : {A B X : Type 0} (Before : A → Database → Type 0) (Later : B → Database → Type 0) (late : B → Type 0)
     (refused : A → Type 0) (next : A → B) (P : Trees → Type 0) (a b c : State) (r : Result X Fault)
     → Leads Before Later next a b → ((x : A) → Before x a.now → late (next x) → refused x) → Survives a b P
@@ -63,7 +63,7 @@ fails_then Before Later late refused next P a b c (Err f) leads so one clean le 
     cause_so (late (next x)) (refused x) b c a c f (failed_late P a b c one clean le) (so x before)
     (h (next x) (leads x before).2)
 
--- a call whose database is known better, or whose refusal is told in other words
+-- a call of whose database more is known, or whose refusal has a different form
 pub fails_weaker : {A B X : Type 0} (Before : A → Database → Type 0) (Later : B → Database → Type 0) (late : B → Type 0)
     (refused : A → Type 0) (next : A → B) (a b : State) (r : Result X Fault)
     → ((x : A) → Before x a.now → Later (next x) a.now) → ((x : A) → Before x a.now → late (next x) → refused x)

@@ -1,4 +1,4 @@
--- What the write leads to: the row is that of the table, and the table has room.
+-- The result of the write: the row is the one in the table, and the table has room for it.
 use Rattle.std.proofs.Common.{◌≡◌, ◌≢◌, ℕ, ◌<◌, ◌≤◌, ◌^◌, List, [], ◌∷◌, None, Some, Result, IsTrue, inl, inr, ap}
 use Rattle.std.proofs.Common.{refl, arith, length, sym, ◌∙◌, Bool, true, false}
 use Rattle.std.specs.Prelude.{◌==◌}

@@ -1,4 +1,4 @@
--- What INSERT and UPDATE leave of the structs of one table.
+-- The structs of one table after INSERT and UPDATE.
 use Rattle.list_sql.proofs.Words.{Applies, Bool, Chosen, Enforced, Given, Has, IsPermutation, IsPermutation-cons}
 use Rattle.list_sql.proofs.Words.{IsPermutation-map, IsPermutation-trans, IsTable, IsTable-put_row, List, Lists, Row}
 use Rattle.list_sql.proofs.Words.{Table, Trees, [], at_places, cast_row, cond, edit_of, filter, ids_of, is_int, map}
@@ -6,7 +6,7 @@ use Rattle.list_sql.proofs.Words.{rowid, subst, sym, true, whole, with_rowid, �
 use Rattle.store_sql.proofs.Edits.{lists_updated, of_record, updated, updated_apart}
 use Rattle.store_sql.proofs.Rows.{inserted}
 
--- a struct more, where its row is added
+-- one more struct, if its row is added
 pub lists_more : {X : Type 0} (cells : X → Row) (places : List ℕ) (table : Table) (db after : Trees) (xs : List X)
     (x : X) (source : Row) → Lists cells places (db table.tree) xs
     → at_places places (with_rowid Chosen (db table.tree) (cast_row table source)) ≡ cells x

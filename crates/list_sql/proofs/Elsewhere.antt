@@ -1,17 +1,17 @@
--- What a statement on the table leaves; and structs with the same columns are the same.
+-- The table after a statement on it; and structs with equal columns are equal.
 use Rattle.list_sql.proofs.Words.{AllByRecursion, Contents, Holds, List, ListRow, Lists, Row, Trees, ap, blob_in}
 use Rattle.list_sql.proofs.Words.{column, list_cells, list_places, number_in, whole, ℕ, ◌≡◌, ◌≢◌}
 
--- the trees of the tables, but for this one, are as they were
+-- the trees of all other tables are unchanged
 abbrev pub Spares : ℕ → Trees → Trees → Type 0
 Spares tree db after = AllByRecursion (λ t. t.tree ≢ tree → after t.tree ≡ db t.tree) whole.tables
 
--- what the table holds where it has changed
+-- the contents after a change of the table
 pub in_list : (db after : Trees) (c : Contents) → Holds db c → (xs : List ListRow) → Spares 0 db after
     → Lists list_cells list_places (after 0) xs → Holds after (record { lists = xs })
 in_list db after c h xs o now = record { lists = now }
 
--- ---- structs with the same columns are the same
+-- ---- structs with equal columns are equal
 
 abbrev list_in : Row → ListRow
 list_in r = record {

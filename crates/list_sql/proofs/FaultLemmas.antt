@@ -1,4 +1,4 @@
--- Why a query or a write fails.
+-- The causes of faults of a query or a write.
 use Rattle.list_sql.proofs.Words.{Begin, Command, Commit, CompileError, Compiled, Contents, Damaged, Device, Does}
 use Rattle.list_sql.proofs.Words.{Err, Error, Executes, ExecutesIn, Fails, FailsBy, Fault, HasCause, HasCauseOr}
 use Rattle.list_sql.proofs.Words.{HasFailed, IfErr, IfOk, IsMisplaced, IsPlain, List, Means, NoMemory, None, Ok}
@@ -10,18 +10,18 @@ use Rattle.sqlite_trees.specs.declared.error.StoreError.TheVariants.{OutOfMemory
 use Rattle.store_sql.proofs.FaultLemmas.{IsWhole, not_run}
 use Rattle.store_sql.proofs.Statements.{mode}
 
--- the rules of the tables refuse the statement, as for a key that is taken, or a row of it is too big
+-- the rules of the tables refuse the statement, for example because a key is taken, or a row of it is too big
 abbrev pub IsRefused : List ℕ → Row → State → Type 0
 IsRefused sql params s = IfOk (understood whole sql) (λ c. (stop : Option Error)
     × Does s.step_limit (mode_of s) params s.now (text_of sql c) None c.command (Err stop))
 
--- the cause of each fault of a write on tables that mean something
+-- the cause of each fault of a write, if the table has contents
 abbrev pub HasWriteCause : List ℕ → Row → State → State → Fault → Type 0
 HasWriteCause sql params old new NoMemory = Unit {0}
 HasWriteCause sql params old new Device = HasFailed old new ⊎ IsRefused sql params old
 HasWriteCause sql params old new Damaged = ⊥
 
--- the text is one statement with so many parameters, and means this
+-- the text is one statement with `count` parameters, and means this command
 abbrev pub IsStatement : List ℕ → Command → ℕ → Type 0
 IsStatement sql command count = (command_of (understood whole sql) ≡ command) × IsPlain (understood whole sql)
     × IsWhole sql count (understood whole sql)
@@ -88,9 +88,9 @@ module _ (sql : List ℕ) (params : Row) (command : Command) (is : command_of (u
             [ inl big ↦ said None big | inr cause ↦ write_cause sql params old new (fault_of e) cause ]
       ]
 
--- ---- why a row is not written
+-- ---- why a row isn't written
 
--- a statement of no limit that is refused stops
+-- a refused statement stops, without a limit on its steps
 abbrev pub Stops : List ℕ → Row → Command → State → Type 0
 Stops sql params command s = (stop : Option Error)
     × Does None mode params s.now (statement_of sql (understood whole sql)) None command (Err stop)
@@ -111,7 +111,7 @@ module _ (sql : List ℕ) (params : Row) (command : Command) (is : command_of (u
       )
       go (Err e) is one h = absurd one
 
-  -- what stops it is why it is refused
+  -- the cause of the stop is the cause of the refusal
   module _ (Refuses : Contents → Type 0)
       (refuses : (s : State) (c : Contents) → Means s.now c → Stops sql params command s → Refuses c) where
     cause : (old new : State) (c : Contents) (f : Fault) → Means old.now c → HasWriteCause sql params old new f

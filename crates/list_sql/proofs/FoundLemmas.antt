@@ -1,4 +1,4 @@
--- From the meaning of a text to what a call of it does.
+-- From the meaning of a text to the effect of a call.
 use Rattle.list_sql.proofs.Words.{Changes, Command, CommitsBy, Contents, Database, Does, Err, Error, Executes, Fault}
 use Rattle.list_sql.proofs.Words.{Holds, IsPlain, IsSound}
 use Rattle.list_sql.proofs.Words.{IsWrite, Kept, List, MayLeave, Means, None, Ok, Option, Result, Row, Runs, Some}
@@ -7,7 +7,7 @@ use Rattle.list_sql.proofs.Words.{statement_of, subst, sym}
 use Rattle.list_sql.proofs.Words.{understood, whole, ℕ, ◌∙◌, ◌∷◌, ◌≡◌}
 use Rattle.store_sql.proofs.Statements.{mode, stopped, commits_as}
 
--- a text that is a write, by what its command does
+-- a text that is a write, by the effect of its command
 module _ (sql : List ℕ) (params : Row) (command : Command) (is : command_of (understood whole sql) ≡ command)
     (plain : IsPlain (understood whole sql)) (writes : IsWrite command)
     (is_write : (old new : State) (text : List ℕ) (count : ℕ) → Runs old new None command text params count

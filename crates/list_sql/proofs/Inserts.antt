@@ -1,4 +1,4 @@
--- INSERT of the columns of one struct, and why it is refused.
+-- INSERT of the columns of one struct, and the causes of a refusal.
 use Rattle.list_sql.proofs.Words.{All, Applies, Chosen, Contents, Database, Does, Edit, Enforced, FailsBy, Fault}
 use Rattle.list_sql.proofs.Words.{Has, Holds, Insert, IsPermutation, List, Lists, Means, None, Ok, Option, Refers}
 use Rattle.list_sql.proofs.Words.{RefusedFor, Result, Row, Some, State, Table, Tally, Term, Trees, Unique, Values}
@@ -19,11 +19,11 @@ use Rattle.store_sql.proofs.Rows.{inserted}
 use Rattle.store_sql.proofs.Selects.{IsTreeOf}
 use Rattle.store_sql.proofs.Stops.{IsHalted, insert_halts}
 
--- no foreign key of the tables sets anything off
+-- no foreign key of the tables has an effect
 pub no_works : (tree : ℕ) (olds news : List Row) → works whole Enforced 0 tree olds news ≡ []
 no_works tree olds news = refl
 
--- The text that puts the row of a struct in. `row` is that row, beside the rows that are there.
+-- The text inserts the row of a struct. `row` is that row, given the rows that the table has.
 pub record IsInsert {X : Type 0} (sql : List ℕ) (cells : X → Row) (places : List ℕ) (at : ℕ) (table : Table)
     (terms : List Term)
     (width : ℕ) (with_x : X → Contents → Contents) (of : Contents → List X) (row : X → List Row → Row) : Type 0 where
@@ -68,7 +68,7 @@ module _ {X : Type 0} {sql : List ℕ} {cells : X → Row} {places : List ℕ} {
 
 -- ---- foreign keys
 
--- there are none, so all hold
+-- there are no foreign keys, so all hold
 pub all_refer : (trees : Trees) → Refers All whole trees
 all_refer trees = refers_from All whole trees (λ t ref row listed known is there.
     all_has (λ (u : Table). Has u.references ref → Has (trees u.tree) row

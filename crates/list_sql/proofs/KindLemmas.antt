@@ -1,4 +1,4 @@
--- A row that has just these kinds of columns is made of what is read from them; and names of columns.
+-- A row with exactly these kinds of columns consists of the values that are read from them; and names of columns.
 use Rattle.store_sql.proofs.Words.{Bool, List, Row, Value, [], ap, ap₂, arith, blob_in, column, drop, false, get_or, length}
 use Rattle.store_sql.proofs.Words.{list_all, map, nat_tests, negsuc, number_in, pos, refl}
 use Rattle.store_sql.proofs.Words.{sym, true, ℕ, ◌&&◌, ◌+◌, ◌<◌, ◌==◌, ◌∙◌, ◌∷◌, ◌≡◌, ◌≤◌}
@@ -10,7 +10,7 @@ use Rattle.list_sql.specs.declared.kind.Kind.TheVariants.{Number, Blob}
 use Rattle.list_sql.specs.Kinds.{holds, has_kinds}
 use Rattle.sqlite.specs.declared.types.Value.TheVariants as value
 
--- the value that is read from a column, as it is kept
+-- the value that is read from a column, as an SQL value
 abbrev pub kept : Kind → Value → Value
 kept Number v = value.Int (pos (number_in v))
 kept Blob v = value.Blob (blob_in v)
@@ -58,7 +58,7 @@ fits kinds row h =
 abbrev pub number : ℕ → Value
 number n = value.Int (pos n)
 
--- a row whose first cell holds this value, as it holds an equal one
+-- equal first cells and equal rests make equal rows
 pub cell : {A : Type 0} (made : A → Value) {read shown : A} {rest others : Row} → read ≡ shown → others ≡ rest
     → made shown ∷ others ≡ made read ∷ rest
 cell made is same = ap₂ ◌∷◌ (ap made (sym is)) same

@@ -1,4 +1,4 @@
--- The list that is found in the row.
+-- Finding the list in the row.
 use Rattle.std.proofs.Common.{◌≡◌, ◌≢◌, List, [], ◌∷◌, Ok, Err, Result, IsTrue, None, sym, subst, refl, ◌∙◌, inl, inr}
 use Rattle.std.proofs.Common.{Bool, Option, Some, ap, arith, false, true, ℕ}
 use Rattle.std.proofs.lemmas.List.Sorted.{length_permutation}
@@ -26,14 +26,14 @@ use Rattle.list_sql.specs.Transactions.{Has}
 use Rattle.list_sql.proofs.Answering.{has_failed}
 use Rattle.list_sql.proofs.Wholes.{rests_still}
 
--- a list is read again
+-- a list that was written is read
 list_again : (last : Option (List ℕ)) → MatchOption last (Unit {0}) (λ list. list ≢ [])
     → last_in (list_row last ∷ []) ≡ Ok last
 list_again None filled = refl
 list_again (Some []) filled = absurd (filled refl)
 list_again (Some (b ∷ bytes)) filled = refl
 
--- so the rows of a list guard say its list
+-- so the rows of a list guard represent its list
 said : (s : State) (rows : List ListRow) (r : Result (Option (List ℕ)) OpeningFault) → IsFilled s
     → IsPermutation (list_row s.last ∷ []) rows → r ≡ last_in rows → r ≡ Ok s.last
 said s rows r filled same told =
@@ -66,7 +66,7 @@ not_found old new Device fails cause = λ s filled means.
     (fails (list_contents s) means, cause (list_contents s) means)
 not_found old new Damaged fails cause = λ s filled means. cause (list_contents s) means
 
--- what is open, at rest and has the row stores it
+-- an open connection at rest with the row stores the state
 pub made_stores : (c : Connection) (s : State)
     → ((trees : Trees) → IsTrue c.is_open → c.may_leave trees → trees ≡ c.committed.trees) → IsTrue c.is_open
     → IsFilled s → c.step_limit ≡ None → HasList s c → Stores c s
@@ -77,7 +77,7 @@ made_stores c s settled is_open filled unlimited rests = record {
       inl (subst (λ (t : Trees). Kept t (list_contents s)) (sym (settled trees is_open may)) rests.committed.kept);
 }
 
--- what is unchanged stores what it had
+-- an unchanged connection stores the state that it had
 pub opened_stores : (old new : Connection) (s : State)
     → ((trees : Trees) → IsTrue new.is_open → new.may_leave trees → trees ≡ new.committed.trees) → IsUnchanged old new
     → Survives old new Never → old.step_limit ≡ None → IsFilled s → HasList s old → Stores new s
@@ -89,7 +89,7 @@ opened_stores old new s settled same survives unlimited filled has =
     } in
     made_stores new s settled same.0.is_open filled (survives.limit ∙ unlimited) rests
 
--- a fault that has its cause is excused by it
+-- a fault with its cause is excused, if nothing is refused
 pub excused : (old new : Connection) (refused : Type 0) (f : Fault) → old.step_limit ≡ None
     → (IsTrue new.is_open → IsTrue old.is_open) → (refused → ⊥) → HasCauseOr refused old new f
     → IsExcused new (opening_fault f)
@@ -98,7 +98,7 @@ excused old new refused Damaged unlimited was never cause = cause
 excused old new refused Device unlimited was never (inl failed) = has_failed old new unlimited was failed
 excused old new refused Device unlimited was never (inr why) = absurd (never why)
 
--- where a look fails, the table stays, and the fault is excused
+-- if a query fails, the table stays, and the fault is excused
 pub missed : (old new : Connection) (e : OpeningFault) → old.step_limit ≡ None → FindsLast old new (Err e)
     → Misses old new e
 missed old new fault.NoMemory unlimited finds = λ s filled has.
@@ -112,9 +112,9 @@ missed old new fault.AlreadyAGuard unlimited finds = λ s filled has. absurd (fi
 missed old new fault.NotAGuard unlimited finds = λ s filled has. absurd (finds s filled has.now)
 missed old new fault.WrongSchema unlimited finds = λ s filled has. absurd (finds s filled has.now)
 
--- ---- what rows say, whatever they are
+-- ---- the meaning of any rows
 
--- nothing that rows say is want of memory or a failure
+-- rows never represent lack of memory or a failure
 abbrev IsOfRows : Result (Option (List ℕ)) OpeningFault → Type 0
 IsOfRows (Ok last) = Unit {0}
 IsOfRows (Err fault.NoMemory) = ⊥
@@ -144,7 +144,7 @@ says_of rows failed (Err fault.AlreadyAGuard) of is = is
 says_of rows failed (Err fault.NotAGuard) of is = is
 says_of rows failed (Err fault.WrongSchema) of is = is
 
--- the order of the rows is nothing
+-- the order of the rows doesn't matter
 in_order : (xs ys : List ListRow) → IsPermutation xs ys → last_in xs ≡ last_in ys
 in_order [] ys same = ap last_in (sym (void ys same))
 in_order (x ∷ []) ys same = ap last_in (sym (sole x ys same))

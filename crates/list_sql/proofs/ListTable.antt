@@ -1,4 +1,4 @@
--- The statements on the table of the list, and why its row is refused.
+-- The statements on the table of the list, and the causes of a refusal.
 use Rattle.list_sql.proofs.Words.{AllByRecursion, Binary, Blob, Compare, Database, EVERY_LIST, Eq, FILL_LIST, FailsBy}
 use Rattle.list_sql.proofs.Words.{Fault, HasRows, Holds, INSERT_LIST, Insert, Int, IsTooLong, List, ListRow, Lists, Null}
 use Rattle.list_sql.proofs.Words.{RefusedFor, RefusesBytes, RefusesList, Result, Row, State, Term, Trees, Update, Values}

@@ -1,4 +1,4 @@
--- UPDATE of the struct of one number, whatever its table is: what it makes of the contents, and why it is refused.
+-- UPDATE of the struct with one number, in any table: the contents after it, and the causes of a refusal.
 use Rattle.list_sql.proofs.Words.{All, AllByRecursion, Applies, BadReference, Binary, Bool, Check, Command, Compare}
 use Rattle.list_sql.proofs.Words.{Contents, Database, Datatype, Does, Edit, Enforced, Eq, FailsBy, Fault, ForeignKey}
 use Rattle.list_sql.proofs.Words.{Given, Has, HasOne, Holds, Int, IsPermutation, IsTooLong, Keeps, List, Lists}
@@ -36,7 +36,7 @@ same_trees db tree t = elim (cases_Bool (t == tree)) [
   | inr apart ↦ rw apart refl
 ]
 
--- an edit that only takes rows out is made, where keys and references stay
+-- an edit that only removes rows isn't refused, if keys and references still hold
 pub removal_halts : (db : Trees) (table : Table) (gone : List ℤ)
     → let edit : Edit = record { table = table; gone = gone; news = [] } in
     Has whole.tables table → Keeps Unique whole (with_tree db table.tree (edited db edit))
@@ -57,7 +57,7 @@ removal_halts db table gone listed unique refers (inl (TooDeep, h)) = h
 removal_halts db table gone listed unique refers (inr (inl (row, none, big))) = none
 removal_halts db table gone listed unique refers (inr (inr (next, did, broken))) = broken (refers next did)
 
--- an edit of no row is made
+-- an edit of no row isn't refused
 pub nothing_halts : (db : Trees) (table : Table) → Obeys whole db → Has whole.tables table
     → IsHalted whole db (record { table = table; gone = []; news = [] }) → ⊥
 nothing_halts db table obeys listed = removal_halts db table [] listed
@@ -66,7 +66,7 @@ nothing_halts db table obeys listed = removal_halts db table [] listed
 
 -- ---- UPDATE
 
--- the text that changes the struct of this number so
+-- the text changes the struct with this number by `u`
 pub record IsUpdate {X : Type 0} (sql : List ℕ) (params : Row) (cells : X → Row) (places : List ℕ) (at : ℕ)
     (table : Table)
     (tests project : List Term) (of : Contents → List X) (after : Contents → Contents) (number : X → ℕ) (n : ℕ)
@@ -76,7 +76,7 @@ pub record IsUpdate {X : Type 0} (sql : List ℕ) (params : Row) (cells : X → 
   pub is : IsStatement sql (Update at (record { lets = []; body = on_table table.tree tests project [] }))
       (length params)
   pub typed : accepts_program whole [] (on_table table.tree tests project []) params ≡ true
-  -- the new row of a row's columns, and their new columns
+  -- the new row for a row's columns, and its columns
   pub next : Row → Row
   pub change : Row → Row
   pub on_row : (r : Row) → (column (at_places places r) 0 ≡ rowid r) × (list_all (holds (params ∷ r ∷ [])) tests
@@ -118,7 +118,7 @@ module _ {X : Type 0} {sql : List ℕ} {params : Row} {cells : X → Row} {place
   back x r is = ap (at_places places) (is_made x r is) ∙ (it.on_struct (u x)).2 ∙ sym (it.on_struct x).1 ∙ sym
       (ap it.change is)
 
-  -- the rows that the query shows
+  -- the rows that the query returns
   shown : (trees : Trees) (rows : List Row) → IsPermutation (map (λ r. eval_all project (params ∷ r ∷ []))
       (filter (λ r. list_all (holds (params ∷ r ∷ [])) tests) (trees table.tree))) rows
       → IsPermutation (map (λ r. rowid r ∷ next_row r) (filter (λ r. passes (at_places places r))
@@ -145,7 +145,7 @@ module _ {X : Type 0} {sql : List ℕ} {params : Row} {cells : X → Row} {place
   pub update : Write sql params after
   update = record { command = Update at program; is = it.is; on_rows = tt; does = does }
 
-  -- it is refused where the struct is then too long: its number stays
+  -- it is refused if the struct would be too long: its number stays
   module _ (listed : Has whole.tables (uncounted table)) (fits : fits_i64 (pos n) ≡ true)
       (same : (x : X) → number (u x) ≡ number x) (row_number : (x : X) → rowid (row x) ≡ Int (pos (number x)))
       (long : (x : X) → 10 ^ 9 < size (row x) → IsTooLong (cells x))

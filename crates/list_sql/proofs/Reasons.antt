@@ -1,4 +1,4 @@
--- Why one row is not put into the table.
+-- The causes of refusing one row.
 use Rattle.list_sql.proofs.Words.{All, AllByRecursion, Applies, BadReference, Bool, Check, Datatype, Edit, Enforced}
 use Rattle.list_sql.proofs.Words.{ForeignKey, Has, Index, IsOversized, IsTable, Keeps, List, Mismatch, NoRowid}
 use Rattle.list_sql.proofs.Words.{NotNull, PrimaryKey, Refers, Row, Table, TooDeep, Trees, Unique, Value, Violates}
@@ -40,7 +40,7 @@ differs_from_itself v int h =
     let same = tied_itself int_cmp_total (id_in v) in
     let wrong : false ≡ true = subst (λ o. is_ne o ≡ true) same test in cc
 
--- the tables have no foreign keys, so these fit, whatever an edit adds and takes out
+-- the tables have no foreign keys, so these hold, whatever an edit adds and removes
 pub fit : (adds removes : Bool) → AllByRecursion (λ t. references_fit whole t adds removes ≡ true) whole.tables
 unfolding same_name joined
 fit true true = (refl, tt)
@@ -48,7 +48,7 @@ fit true false = (refl, tt)
 fit false true = (refl, tt)
 fit false false = (refl, tt)
 
--- what is seen of a table and of a row that is put in
+-- what has to be checked of a table and of a row that is inserted
 pub record IsPut (table : Table) (new : Row) : Type 0 where
   pub listed : Has whole.tables table
   pub formed : ((are_typed table.key 0 table.columns (drop 1 new) && has_computed table new) ≡ true)
@@ -106,11 +106,11 @@ module _ (db : Trees) (table : Table) (gone : List ℤ) (new : Row) where
             )
       ]
 
-  -- nor has any where no index is on the table
+  -- without an index on the table, no row has the key of the new one
   pub unclashed : AllByRecursion (λ i. guards i table ≡ true → ⊥) whole.indexes → HasClash → ⊥
   unclashed none (i, here, on, other, there, same) = all_has (λ j. guards j table ≡ true → ⊥) whole.indexes i none here on
 
-  -- Such a row is kept out by its rowid, which is taken or out of range, by its key, by its size, or for want of a parent.
+  -- such a row is refused for its rowid, which is taken or out of range, its key, its size, or lack of a parent
   pub halted : {R : Type 0} → IsPut table new → IsTable (db table.tree) → Keeps Unique whole db
       → (fits_i64 (id_in (rowid new)) ≡ false → R) → (is_taken (left_by db one) new ≡ true → R) → (HasClash → R)
       → (10 ^ 9 < size new → R)

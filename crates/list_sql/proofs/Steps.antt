@@ -56,11 +56,11 @@ stops_then a b c x p late inside =
     let k = late (subst IsTrue (sym p.mode) inside) in
     record { was_open = λ _. p.was_open; committed = λ still. k.committed still ∙ p.committed inside }
 
--- what a part that is done leaves to the next: contents, of which this is known there
+-- a part that succeeded leaves contents, of which `Later` holds for the next part
 abbrev pub Leads : {A B : Type 0} → (A → Database → Type 0) → (B → Database → Type 0) → (A → B) → State → State → Type 0
 Leads {A} Before Later next a b = (x : A) → Before x a.now → (m : Contents) × Goes a b m × Later (next x) b.now
 
--- a part that is done, and then the rest
+-- a part that succeeded, and then the rest
 pub answers_then : {A B X E : Type 0} (Before : A → Database → Type 0) (Due : A → X → Type 0) (after : A → Contents)
     (Later : B → Database → Type 0) (Owed : B → X → Type 0) (afterwards : B → Contents) (next : A → B) (a b c : State)
     (r : Result X E) → Leads Before Later next a b → Answers Later Owed afterwards b c r
@@ -73,7 +73,7 @@ answers_then Before Due after Later Owed afterwards next a b c (Ok v) leads rest
 answers_then Before Due after Later Owed afterwards next a b c (Err e) leads rest due is = λ x before.
     let m = leads x before in stops_then a b c m.0 m.1 (rest (next x) m.2)
 
--- a write that is done leads to what follows
+-- a write that succeeded leads to the next part
 pub leads : (f : Contents → Contents) (a b : State) → ((d : Contents) → Means a.now d → Steps a b (f d))
     → Leads Has Has f a b
 leads f a b one d means = let s = goes a b (f d) (one d means) in (f d, s, s.means)
@@ -85,7 +85,7 @@ makes_then f g a b c r one rest =
     answers_then Has (λ _ _. Unit {0}) (λ d. g (f d)) Has (λ _ _. Unit {0}) g f a b c r (leads f a b one) rest
     (λ _ _ _. tt) (λ _. refl)
 
--- ---- crashes in the midst of it
+-- ---- crashes in the middle
 
 pub waits_then : {A B : Type 0} (Before : A → Database → Type 0) (Later : B → Database → Type 0) (next : A → B)
     (a b c : State) → (HasCleanDisk b → Leads Before Later next a b) → Survives a b (Waits Before a)
@@ -138,7 +138,7 @@ module _ {A X : Type 0} (Before : A → Database → Type 0) (Due : A → X → 
   ends a b c d (Err e) (Err f) begun answers told =
       undone a b c d f begun.1 (λ x before still. (answers x before begun.1.mode).committed still) told.1
 
-  -- what a crash leaves of the whole
+  -- the trees that a crash may leave of the whole
   pub left : {E : Type 0} (a b c d : State) (r : Result X E)
       → (HasCleanDisk b → Begins {X = Unit {0}} {E = Fault} a b (Ok tt))
       → (HasCleanDisk c → Answers Before Due after b c r) → Survives a b (λ _. ⊥) → Survives b c (Waits Before b)

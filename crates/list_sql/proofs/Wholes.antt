@@ -12,7 +12,7 @@ use Rattle.list_sql.proofs.Causes.{cause_of, stops_for}
 use Rattle.list_sql.proofs.Steps.{ends, left}
 use Rattle.list_sql.proofs.TransactionParts.{written}
 
--- what is concluded leaves no transaction open
+-- after a concluded transaction, none is open
 concluded : (r q : Result (Unit {0}) Fault) (c d : State) → Concludes r c d q → d.in_transaction ≡ false
 concluded (Ok x) (Ok y) c d told = told.1.mode
 concluded (Ok x) (Err e) c d told = told.autocommit
@@ -43,7 +43,7 @@ pub still_outside : (a b : State) → Fails a b → a.in_transaction ≡ false �
 still_outside a b (inl same) was = same.0.mode ∙ was
 still_outside a b (inr back) was = back.autocommit
 
--- a call that fails leaves tables as they are
+-- a call that fails leaves the table unchanged
 pub rests_still : (c : Contents) (a b : State) → Fails a b → IsTrue b.is_open
     → IsTrue a.is_open × (Rests (Has c) a → Rests (Has c) b)
 rests_still c a b (inl same) still = (

@@ -1,4 +1,4 @@
--- The words of the libraries and of the definitions that several proof files speak.
+-- The names of libraries and definitions that several proof files use.
 pub use Rattle.sqlite.proofs.Callers.{IsPlain, command_of, one_step, reads_as, runs_as, statement_of, unchanged_then}
 pub use Rattle.sqlite.proofs.StateLemmas.{survives_then}
 pub use Rattle.sqlite.specs.Calls.{IsWrite}

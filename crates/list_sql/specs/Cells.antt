@@ -9,6 +9,6 @@ use Rattle.list_sql.specs.declared.lists.ListRow.{ListRow}
 abbrev pub list_cells : ListRow → Row
 list_cells l = Int (pos l.id) ∷ Int (pos l.schema) ∷ Blob l.bytes ∷ []
 
--- the kinds of those columns
+-- the kinds of these columns
 abbrev pub list_kinds : List Kind
 list_kinds = kind.Number ∷ kind.Number ∷ kind.Blob ∷ []

@@ -1,4 +1,4 @@
--- What the table holds: the structs of its rows, in no order.
+-- The contents of the table: the structs of its rows, in any order.
 use Rattle.std.specs.Prelude.{◌≡◌, ℕ, List, [], ◌∷◌}
 use Rattle.sqlite.specs.Tree.{Trees}
 use Rattle.sqlite.specs.Effect.{Database}
@@ -15,7 +15,7 @@ pub record Contents : Type 0 where
 abbrev pub no_contents : Contents
 no_contents = record { lists = [] }
 
--- where the columns are; an INTEGER PRIMARY KEY is the rowid
+-- the places of the columns in a stored row; an INTEGER PRIMARY KEY is the rowid
 abbrev pub list_places : List ℕ
 list_places = 0 ∷ 2 ∷ 3 ∷ []
 
@@ -23,17 +23,17 @@ list_places = 0 ∷ 2 ∷ 3 ∷ []
 pub record Holds (trees : Trees) (c : Contents) : Type 0 where
   pub lists : Lists list_cells list_places (trees 0) c.lists
 
--- what is enough to find the contents again after an open
+-- this suffices to find the contents again after an open
 pub record Kept (trees : Trees) (c : Contents) : Type 0 where
   pub sound : IsSound whole trees
   pub holds : Holds trees c
 
--- the database has just this table, and it holds these contents
+-- this is the database's only table, and it holds these contents
 pub record Means (db : Database) (c : Contents) : Type 0 where
   pub schema : db.schema ≡ whole
   pub kept : Kept db.trees c
 
--- the database has just this table, and it holds these rows
+-- this is the database's only table, and it holds these rows
 pub record HasRows (rows : List ListRow) (db : Database) : Type 0 where
   pub schema : db.schema ≡ whole
   pub holds : Lists list_cells list_places (db.trees 0) rows

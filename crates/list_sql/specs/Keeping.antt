@@ -1,4 +1,4 @@
--- What a connection keeps of a list guard.
+-- The list guard that a connection keeps.
 use Rattle.std.specs.Prelude.{◌≡◌, ◌≢◌, ◌⊎◌, ◌<◌, [], false, IsTrue, MatchOption, None}
 use Rattle.sqlite.specs.Tree.{Trees}
 use Rattle.sqlite.specs.State.{State as Connection}
@@ -9,7 +9,7 @@ use Rattle.list_sql.specs.Contents.{Kept}
 use Rattle.list_sql.specs.Rows.{list_contents}
 use Rattle.list_sql.specs.Transactions.{Has, Rests}
 
--- what the table may keep: a list that has a byte, or none
+-- the table can represent the state: its list has a byte, or there is none
 abbrev pub IsFilled : State → Type 0
 IsFilled s = MatchOption s.last (Unit {0}) (λ list. list ≢ [])
 
@@ -17,19 +17,19 @@ IsFilled s = MatchOption s.last (Unit {0}) (λ list. list ≢ [])
 abbrev pub HasList : State → Connection → Type 0
 HasList s c = Rests (Has (list_contents s)) c
 
--- The list has a byte, no query has a limit on its steps, no transaction is open, and where no failed disk has shut the
--- connection the table holds the row of the state.
+-- The list has a byte, no query has a limit on its steps, no transaction is open, and unless a failed disk has shut the
+-- connection, the table holds the row of the state.
 pub record Keeps (c : Connection) (s : State) : Type 0 where
   pub filled : IsFilled s
   pub unlimited : c.step_limit ≡ None
   pub autocommit : c.in_transaction ≡ false
   pub rows : IsTrue c.is_open → HasList s c
 
--- what a crash leaves now is the table of the one state or of the other
+-- a crash now leaves the table with the row of one of these two states
 abbrev pub Leaves : Connection → State → State → Type 0
 Leaves c s t = (trees : Trees) → c.may_leave trees → Kept trees (list_contents s) ⊎ Kept trees (list_contents t)
 
--- the disk has failed by now, or a failure has shut the connection
+-- the disk has failed, or a failure has shut the connection
 abbrev pub HasFailed : Connection → Type 0
 HasFailed c = (0 < c.faults) ⊎ (c.is_open ≡ false)
 
@@ -37,7 +37,7 @@ HasFailed c = (0 < c.faults) ⊎ (c.is_open ≡ false)
 abbrev pub IsBlank : Connection → Type 0
 IsBlank c = Rests (IsBare no_schema) c
 
--- what is open keeps the state, and a crash leaves it
+-- an open connection keeps the state, and a crash leaves it
 pub record Stores (c : Connection) (s : State) : Type 0 where
   pub keeps : Keeps c s
   pub is_open : IsTrue c.is_open

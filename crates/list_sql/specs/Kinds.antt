@@ -1,4 +1,4 @@
--- What a column may hold, and what is read from it.
+-- The kinds of columns, and the values that are read from them.
 use Rattle.std.specs.Prelude.{ℕ, pos, Bool, true, false, ◌&&◌, ◌==◌, List, [], length}
 use Rattle.std.specs.List.{list_all, enumerate_from}
 use Rattle.sqlite.specs.Order.{Row, column}
@@ -13,7 +13,7 @@ holds Number (value.Int (pos n)) = true
 holds Blob (value.Blob b) = true
 holds _ _ = false
 
--- whether the row has just these columns, each holding what it may
+-- whether the row has exactly these columns, each with a value of its kind
 abbrev pub has_kinds : List Kind → Row → Bool
 has_kinds kinds row = (length row == length kinds) && list_all (λ p. holds p.1 (column row p.0))
     (enumerate_from 0 kinds)

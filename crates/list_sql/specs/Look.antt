@@ -1,4 +1,4 @@
--- What a look at the schema tells.
+-- Recognising the table by the schema.
 use Rattle.std.specs.Prelude.{◌≡◌, refl, true, false, ℕ, Bool, ◌&&◌, ◌==◌, List, [], ◌∷◌, codes, length, bytes_eq}
 use Rattle.std.specs.List.{list_all, list_any, zip}
 use Rattle.sqlite_schema.specs.Names.{same_name}
@@ -6,7 +6,7 @@ use Rattle.sqlite.specs.Table.{Table}
 use Rattle.store_sql.specs.Schema.{no_schema}
 use Rattle.list_sql.specs.Schema.{whole}
 
--- whether a table has the name of the list's, in any case
+-- whether a table has the name of the list's table, in upper or lower case
 abbrev pub is_list_name : Table → Bool
 is_list_name t = same_name t.name (codes "list")
 
@@ -14,15 +14,15 @@ is_list_name t = same_name t.name (codes "list")
 abbrev pub list_columns : List (List ℕ)
 list_columns = codes "id" ∷ codes "schema" ∷ codes "bytes" ∷ []
 
--- whether a table has just the columns of that of the list, by their names
+-- whether a table has exactly the columns of the list's table, by their names
 abbrev pub has_columns : Table → Bool
 has_columns t = (length t.columns == 3) && list_all (λ p. bytes_eq p.0.name p.1) (zip t.columns list_columns)
 
--- whether a table is that of the list, by its name and the names of its columns
+-- whether a table is the list's table, by its name and the names of its columns
 abbrev pub is_list_table : Table → Bool
 is_list_table t = is_list_name t && has_columns t
 
--- a list guard is seen
+-- the table of a list guard is recognised
 pub whole_is_list : list_any is_list_table whole.tables ≡ true
 unfolding same_name
 whole_is_list = refl
@@ -31,6 +31,6 @@ pub whole_has_table : list_any is_list_name whole.tables ≡ true
 unfolding same_name
 whole_has_table = refl
 
--- a database with no table is none
+-- a database without tables isn't taken for a list guard's
 pub none_is_list : list_any is_list_table no_schema.tables ≡ false
 none_is_list = refl

@@ -1,4 +1,4 @@
--- How a list guard is found in a table, or made in a database without tables.
+-- Finding a list guard in a table, or making one in a database without tables.
 use Rattle.std.specs.Prelude.{◌≡◌, ◌==◌, ℕ, List, [], ◌∷◌, if◌then◌else◌, IsTrue, Option, Some, None, Result, Ok, Err}
 use Rattle.sqlite.specs.Tree.{Trees}
 use Rattle.sqlite.specs.State.{State as Connection, IsUnchanged}
@@ -14,30 +14,30 @@ use Rattle.list_sql.specs.Keeping.{HasFailed, HasList, IsBlank, IsFilled, Stores
 use Rattle.list_sql.specs.Rows.{list_contents, list_in}
 use Rattle.list_sql.specs.Transactions.{Leaves as LeavesAfter}
 
--- ---- what a row says
+-- ---- the meaning of a row
 
--- the list that a row of this schema says; it has the id 1, else it is damaged
+-- the list of a row with this schema, whose id has to be 1
 abbrev pub list_with : ListRow → Result (Option (List ℕ)) OpeningFault
 list_with row = if row.id == 1 then Ok (list_in row.bytes) else Err fault.Damaged
 
--- of the table there is one row, of schema 1
+-- the list of a table, which has to have one row, of schema 1
 abbrev pub last_in : List ListRow → Result (Option (List ℕ)) OpeningFault
 last_in [] = Err fault.NotAGuard
 last_in (row ∷ []) = if row.schema == 1 then list_with row else Err fault.WrongSchema
 last_in (row ∷ other ∷ rows) = Err fault.NotAGuard
 
--- of a table with these rows it is found what they say, or memory is refused, or this failed
+-- the result for a table with these rows: what they represent, or memory was refused, or the database `failed`
 abbrev pub Says : List ListRow → Type 0 → Result (Option (List ℕ)) OpeningFault → Type 0
 Says rows failed (Ok last) = last_in rows ≡ Ok last
 Says rows failed (Err fault.NoMemory) = Unit {0}
 Says rows failed (Err fault.Device) = failed
 Says rows failed (Err e) = last_in rows ≡ Err e
 
--- so it is of each database with this table
+-- this holds for each database with this table
 abbrev pub SaysUnless : Connection → Connection → Result (Option (List ℕ)) OpeningFault → Type 0
 SaysUnless old new r = (rows : List ListRow) → HasRows rows old.now → Says rows (SqlFailed old new) r
 
--- of a table that holds a list guard its last list is found, and nothing has changed; or the call fails, for want of
+-- if the table holds a list guard, its last list is found, and nothing has changed; or the call fails, for lack of
 -- memory or because the database failed
 abbrev pub FindsLast : Connection → Connection → Result (Option (List ℕ)) OpeningFault → Type 0
 FindsLast old new (Ok last) =
@@ -49,11 +49,11 @@ FindsLast old new (Err e) = (s : State) → IsFilled s → Means old.now (list_c
 
 -- ---- an open
 
--- of a table that holds a list guard: this is its last list, and it keeps it
+-- if the table holds a list guard, this is its last list, and the connection keeps it
 abbrev pub Finds : Option (List ℕ) → Connection → Connection → Type 0
 Finds last old new = (s : State) → IsFilled s → HasList s old → (last ≡ s.last) × Stores new s
 
--- a fault is want of memory, or a failure of the database, and no other
+-- the fault is lack of memory, or a failure of the database
 abbrev pub IsExcused : Connection → OpeningFault → Type 0
 IsExcused new fault.NoMemory = Unit {0}
 IsExcused new fault.Device = HasFailed new
@@ -62,18 +62,18 @@ IsExcused new fault.AlreadyAGuard = ⊥
 IsExcused new fault.NotAGuard = ⊥
 IsExcused new fault.WrongSchema = ⊥
 
--- so it is of a table that holds a list guard, which stays
+-- if the table holds a list guard, the fault is one of these, and the table stays
 abbrev pub Misses : Connection → Connection → OpeningFault → Type 0
 Misses old new e =
     (s : State) → IsFilled s → HasList s old → IsExcused new e × (IsTrue new.is_open → HasList s new)
 
 -- ---- a new list guard
 
--- a database without tables keeps a list guard that has approved nothing yet
+-- a database without tables then keeps a list guard that has approved nothing yet
 abbrev pub Founds : Connection → Connection → Type 0
 Founds old new = IsBlank old → Stores new opened
 
--- one without tables still is, and the fault is want of memory, or a failure of the database
+-- a database without tables still has none, and the fault is lack of memory, or a failure of the database
 abbrev pub FoundsNone : Connection → Connection → OpeningFault → Type 0
 FoundsNone old new e = IsBlank old → IsExcused new e × (IsTrue new.is_open → IsBlank new)
 

@@ -1,4 +1,4 @@
--- When the table refuses what is to be written.
+-- The rows that the table refuses.
 use Rattle.std.specs.Prelude.{◌≡◌, ◌⊎◌, ℕ, List, IfErr, Result}
 use Rattle.sqlite.specs.State.{State}
 use Rattle.store_sql.specs.declared.table_fault.Fault.{Fault}
@@ -8,14 +8,14 @@ use Rattle.list_sql.specs.Cells.{list_cells}
 use Rattle.list_sql.specs.Changes.{filled_with}
 use Rattle.list_sql.specs.Contents.{Contents, Means}
 
--- its number is taken, or it is too long
+-- the row's number is taken, or the row is too long
 abbrev pub RefusesList : ListRow → Contents → Type 0
 RefusesList l c = HasOne (λ k. k.id ≡ l.id) c.lists ⊎ IsTooLong (list_cells l)
 
--- the row is too long with these bytes
+-- with these bytes, the row is too long
 abbrev pub RefusesBytes : List ℕ → Contents → Type 0
 RefusesBytes bytes c = HasOne (λ l. (l.id ≡ 1) × IsTooLong (list_cells (filled_with bytes l))) c.lists
 
--- on tables that mean something a fault is want of memory, or a failure of the database, or what these contents refuse
+-- if the table has contents, a fault is lack of memory, or a failure of the database, or a refusal by these contents
 abbrev pub RefusedFor : {X : Type 0} → (Contents → Type 0) → State → State → Result X Fault → Type 0
 RefusedFor Refuses old new r = IfErr r (λ f. (c : Contents) → Means old.now c → HasCauseOr (Refuses c) old new f)

@@ -1,4 +1,4 @@
--- The row of a state, and what a row says of one.
+-- The row of a state, and the state of a row.
 use Rattle.std.specs.Prelude.{ℕ, List, [], ◌∷◌, Option, Some, None}
 use Rattle.list_guard.specs.State.{State}
 use Rattle.list_sql.specs.declared.lists.ListRow.{ListRow}
@@ -9,12 +9,12 @@ abbrev pub bytes_of : Option (List ℕ) → List ℕ
 bytes_of None = []
 bytes_of (Some list) = list
 
--- the list that bytes say
+-- the list that bytes represent
 abbrev pub list_in : List ℕ → Option (List ℕ)
 list_in [] = None
 list_in (b ∷ bytes) = Some (b ∷ bytes)
 
--- the one row, of schema 1
+-- the only row, of schema 1
 abbrev pub list_row : Option (List ℕ) → ListRow
 list_row last = record { id = 1; schema = 1; bytes = bytes_of last }
 

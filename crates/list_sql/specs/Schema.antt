@@ -10,10 +10,10 @@ abbrev pub list : Table
 list = by_number (codes "list") (
     optional (codes "id") Integer ∷ required (codes "schema") Integer ∷ required (codes "bytes") Blob ∷ [])
 
--- the one table
+-- the schema with this table only
 abbrev pub whole : Schema
 whole = created no_schema list
 
--- the table at its tree
+-- the table with its tree's number
 abbrev pub list_at : Table
 list_at = record list { tree = 0 }

@@ -1,5 +1,5 @@
--- All that one statement on the tables does, as one record: what it makes or finds, why it fails, and what a crash
--- leaves. All but the last is said of a call after which the disk has told no lie.
+-- The whole effect of one statement, as one record: what it writes or finds, why it fails, and what a crash leaves. All
+-- but the last assumes that the disk has been faithful when the call ends.
 use Rattle.std.specs.Prelude.{List, Result, Vec}
 use Rattle.std.specs.declared.alloc.Global.{Global}
 use Rattle.sqlite.specs.Effect.{Database}
@@ -14,7 +14,7 @@ use Rattle.list_sql.specs.Refusals.{RefusedFor}
 
 -- ---- writes
 
--- it makes this of the contents, or it fails for one of these causes
+-- the contents are changed by `after`, or the call fails for one of these causes
 pub record Wrote {X : Type 0} (after : Contents → Contents) (Causes : State → State → Result X Fault → Type 0)
     (old new : State) (r : Result X Fault) : Type 0 where
   pub changes : HasCleanDisk new → Changes after old new r
@@ -22,14 +22,14 @@ pub record Wrote {X : Type 0} (after : Contents → Contents) (Causes : State �
   pub stays : HasCleanDisk new → Stays old new r
   pub survives : Survives old new (MayLeave after old)
 
--- of a connection, and of contents that may refuse the write
+-- the same of a connection, if the contents may refuse the write
 abbrev pub Writes : {S X : Type 0} → Ghosts S → (Contents → Contents) → (Contents → Type 0) → Held S → Held S
     → Result X Fault → Type 0
 Writes g after Refuses old new r = Wrote after (RefusedFor Refuses) (state g old) (state g new) r
 
 -- ---- queries
 
--- of a database that is as one of these says it finds all of this, and changes nothing; or it fails
+-- if `Has` holds of the database, the call finds all of `of`, and changes nothing; or it fails
 pub record FoundIn {A X : Type 0} (Has : A → Database → Type 0) (of : A → List X) (old new : State)
     (r : Result (Vec X Global) Fault) : Type 0 where
   pub finds : HasCleanDisk new → FindsIn Has of old new r
@@ -37,7 +37,7 @@ pub record FoundIn {A X : Type 0} (Has : A → Database → Type 0) (of : A → 
   pub fault : HasCleanDisk new → FailsIn Has HasCause old new r
   pub survives : Survives old new Never
 
--- of a connection
+-- the same of a connection
 abbrev pub ReadsIn : {S A X : Type 0} → Ghosts S → (A → Database → Type 0) → (A → List X) → Held S → Held S
     → Result (Vec X Global) Fault → Type 0
 ReadsIn g Has of old new r = FoundIn Has of (state g old) (state g new) r

@@ -1,4 +1,4 @@
--- What is told above the tables.
+-- Faults and results as they are reported above the tables.
 use Rattle.std.specs.Prelude.{Result, Ok, Err}
 use Rattle.store_sql.specs.declared.table_fault.Fault.{Fault}
 use Rattle.store_sql.specs.declared.table_fault.Fault.TheVariants as table
@@ -7,19 +7,19 @@ use Rattle.list_guard.specs.declared.register.RegisterFault.TheVariants as regis
 use Rattle.list_sql.specs.declared.opening_fault.OpeningFault.{OpeningFault}
 use Rattle.list_sql.specs.declared.opening_fault.OpeningFault.TheVariants as opening
 
--- the register's fault of a fault of the tables
+-- the register's fault for a fault of the table
 abbrev pub register_fault : Fault → RegisterFault
 register_fault table.Device = register.Device
 register_fault table.Damaged = register.Damaged
 register_fault table.NoMemory = register.NoMemory
 
--- an opening's fault of a fault of the tables
+-- the fault of an opening for a fault of the table
 abbrev pub opening_fault : Fault → OpeningFault
 opening_fault table.Device = opening.Device
 opening_fault table.Damaged = opening.Damaged
 opening_fault table.NoMemory = opening.NoMemory
 
--- what the register answers of an answer of the table
+-- the register's result for a result of the table
 abbrev pub told : {X Y : Type 0} → (X → Y) → Result X Fault → Result Y RegisterFault
 told of (Ok x) = Ok (of x)
 told of (Err f) = Err (register_fault f)

@@ -1,4 +1,4 @@
--- What a part of a transaction does to the connection, and what the whole of one does.
+-- The effect of a part of a transaction on the connection, and that of a whole one.
 use Rattle.std.specs.Prelude.{◌≡◌, false, true, IfErr, IsTrue, OnErr, Result, Ok, Err}
 use Rattle.sqlite_trees.specs.declared.store.Store.{Ghosts}
 use Rattle.sqlite.specs.Tree.{Trees}
@@ -17,13 +17,13 @@ pub record Rests (P : Database → Type 0) (s : State) : Type 0 where
   pub now : P s.now
   pub committed : P s.committed
 
--- the tables hold these contents
+-- the table holds these contents
 abbrev pub Has : Contents → Database → Type 0
 Has c db = Means db c
 
 -- ---- a part of a transaction
 
--- it is done, and the tables hold these contents
+-- it succeeded, and the table holds these contents
 pub record Goes (old new : State) (c : Contents) : Type 0 where
   pub was_open : IsTrue old.is_open
   pub is_open : IsTrue new.is_open
@@ -31,28 +31,28 @@ pub record Goes (old new : State) (c : Contents) : Type 0 where
   pub committed : IsTrue old.in_transaction → new.committed ≡ old.committed
   pub mode : new.in_transaction ≡ old.in_transaction
 
--- Of a database that is as one of these says: what is due is answered, and the tables hold what comes after it; or it
--- fails, and nothing is committed.
+-- If `Before a` holds of the database, the result is as specified (`Due`), and the table holds the contents `after a`.
+-- Or the part fails, and nothing is committed.
 abbrev pub Answers : {A X E : Type 0} → (A → Database → Type 0) → (A → X → Type 0) → (A → Contents) → State → State
     → Result X E → Type 0
 Answers {A} Before Due after old new (Ok x) = (a : A) → Before a old.now → Due a x × Goes old new (after a)
 Answers {A} Before Due after old new (Err e) =
     (a : A) → Before a old.now → IsTrue old.in_transaction → KeepsCommit old new
 
--- it answers nothing but that it is done
+-- a part without a result but success
 abbrev pub Makes : {A X E : Type 0} → (A → Database → Type 0) → (A → Contents) → State → State → Result X E → Type 0
 Makes Before after old new r = Answers Before (λ _ _. Unit {0}) after old new r
 
--- of a database that is as one of these says a fault is want of memory, or a failure of the database, or this refusal
+-- if `Before a` holds of the database, a fault is lack of memory, or a failure of the database, or this refusal
 abbrev pub FailsFor : {A X : Type 0} → (A → Database → Type 0) → (A → Type 0) → State → State → Result X Fault → Type 0
 FailsFor {A} Before Refused old new r = IfErr r (λ f. (a : A) → Before a old.now → HasCauseOr (Refused a) old new f)
 
--- a crash in its midst leaves what was committed before
+-- in a transaction, a crash in the middle leaves what was committed before
 abbrev pub Waits : {A : Type 0} → (A → Database → Type 0) → State → Trees → Type 0
 Waits {A} Before old trees = (a : A) → Before a old.now → old.in_transaction ≡ false
 
--- All of it, of a database that is as one of these says: the tables hold what comes after it, or it fails, perhaps
--- because this is refused.
+-- The whole effect of a part, if `Before a` holds of the database: the table holds the contents `after a`, or the part
+-- fails, perhaps because this is refused.
 pub record Part {A X : Type 0} (Before : A → Database → Type 0) (after : A → Contents) (refused : A → Type 0)
     (old new : State) (r : Result X Fault) : Type 0 where
   pub makes : HasCleanDisk new → Makes Before after old new r
@@ -60,55 +60,56 @@ pub record Part {A X : Type 0} (Before : A → Database → Type 0) (after : A �
   pub stays : HasCleanDisk new → Stays old new r
   pub survives : Survives old new (Waits Before old)
 
--- of a connection
+-- the same of a connection
 abbrev pub DoesIn : {S A X : Type 0} → Ghosts S → (A → Database → Type 0) → (A → Contents) → (A → Type 0) → Held S
     → Held S → Result X Fault → Type 0
 DoesIn g Before after refused old new r = Part Before after refused (state g old) (state g new) r
 
--- of a connection, and of tables with contents
+-- the same of a connection, if the table has contents
 abbrev pub Does : {S X : Type 0} → Ghosts S → (Contents → Contents) → (Contents → Type 0) → Held S → Held S
     → Result X Fault → Type 0
 Does g f refused old new r = DoesIn g Has f refused old new r
 
 -- ---- its end
 
--- no transaction is open, and the database is what was committed
+-- no transaction is open, and the database is the committed one
 pub record HasEnded (old new : State) : Type 0 where
   pub autocommit : new.in_transaction ≡ false
   pub was_open : IsTrue new.is_open → IsTrue old.is_open
   pub now : IsTrue new.is_open → new.now ≡ old.committed
   pub committed : IsTrue new.is_open → new.committed ≡ old.committed
 
--- the transaction is committed, or nothing of it stays
+-- the transaction is committed, or undone
 abbrev pub Closes : {X : Type 0} → State → State → Result X Fault → Type 0
 Closes old new (Ok x) = Shows old new old.now old.now false
 Closes old new (Err e) = HasEnded old new
 
--- a commit of an open transaction that fails has its cause
+-- if a transaction was open, a commit that fails has its cause
 abbrev pub ClosesFor : {X : Type 0} → State → State → Result X Fault → Type 0
 ClosesFor old new r = old.in_transaction ≡ true → IfErr r (HasCause old new)
 
--- what was answered is answered on, and is committed; or nothing is
+-- a result is passed on and the transaction committed, or it is undone; a fault is passed on and the transaction undone
 abbrev pub Concludes : {X E : Type 0} → Result X E → State → State → Result X E → Type 0
 Concludes (Ok x) old new (Ok y) = (y ≡ x) × Shows old new old.now old.now false
 Concludes (Ok x) old new (Err e) = HasEnded old new
 Concludes (Err e) old new (Ok x) = ⊥
 Concludes (Err e) old new (Err f) = (f ≡ e) × HasEnded old new
 
--- so has one of what was answered
+-- a commit after a success has its cause if it fails
 abbrev pub EndsFor : {X : Type 0} → Result X Fault → State → State → Result X Fault → Type 0
 EndsFor (Ok x) old new r = ClosesFor old new r
 EndsFor (Err e) old new r = Unit {0}
 
--- what a crash may leave once it is answered: what is committed, if anything is
+-- trees that a crash may leave after a success: those of the transaction
 abbrev pub LeavesAnswered : {X E : Type 0} → Result X E → State → Trees → Type 0
 LeavesAnswered (Ok x) old trees = trees ≡ old.now.trees
 LeavesAnswered (Err e) old trees = ⊥
 
 -- ---- the whole
 
--- Of a database at rest that is as one of these says: what is due is answered, and the tables then hold what comes
--- after it; or all is as before. Only a failed disk shuts the connection, and a shut one answers nothing.
+-- If no transaction is open and `Before a` holds of the database, the result is as specified (`Due`), and the table
+-- then holds the contents `after a`. Or the call fails, and nothing has changed. Only a failed disk shuts the
+-- connection, and over a shut connection every call fails.
 abbrev pub Ends : {A X E : Type 0} → (A → Database → Type 0) → (A → X → Type 0) → (A → Contents) → State → State
     → Result X E → Type 0
 Ends {A} Before Due after old new (Ok x) =
@@ -117,35 +118,35 @@ Ends {A} Before Due after old new (Ok x) =
 Ends {A} Before Due after old new (Err e) =
     IsTrue new.is_open → IsTrue old.is_open × ((a : A) → Rests (Before a) old → Rests (Before a) new)
 
--- of a database at rest that is as one of these says, if the connection is open, a fault of the whole is want of
--- memory, or a failure of the database, or this refusal
+-- if `Before a` holds of the database at rest, or the connection is shut, a fault of the whole is lack of memory, or a
+-- failure of the database, or this refusal
 abbrev pub StopsFor : {A : Type 0} → (A → Database → Type 0) → (A → Type 0) → State → State → Fault → Type 0
 StopsFor {A} Before Refused old new f =
     (a : A) → (IsTrue old.is_open → Rests (Before a) old) → HasCauseOr (Refused a) old new f
 
--- no transaction is open, and what the connection shows is committed
+-- no transaction is open, and the connection shows what is committed
 abbrev pub IsAtRest : State → Type 0
 IsAtRest s = (s.in_transaction ≡ false) × (s.now ≡ s.committed)
 
--- A database at rest is the same, whatever its tables mean, unless a failed disk has shut the connection.
+-- A database at rest is unchanged, whatever its contents are, unless a failed disk has shut the connection.
 pub record IsAsBefore (old new : State) : Type 0 where
   pub was_open : IsTrue new.is_open → IsTrue old.is_open
   pub rest : IsTrue new.is_open → IsAtRest old → IsAtRest new
   pub same : IsTrue new.is_open → IsAtRest old → new.now ≡ old.now
 
--- where it fails, all is as before
+-- if it fails, nothing has changed
 abbrev pub KeepsOnErr : {X E : Type 0} → State → State → Result X E → Type 0
 KeepsOnErr old new r = OnErr r (IsAsBefore old new)
 
--- what a crash in the midst of it may leave, beside what was there before: all that comes after it, where the
+-- trees that a crash in the middle may leave, besides those before: they hold the contents `after a`, and the
 -- connection was open
 abbrev pub Leaves : {A : Type 0} → (A → Database → Type 0) → (A → Contents) → State → Trees → Type 0
 Leaves {A} Before after old trees = IsTrue old.is_open × ((a : A) → Rests (Before a) old → Kept trees (after a))
 
 -- ---- one write in a transaction of its own
 
--- All of it, of tables with contents: they hold what comes after it, or it fails, perhaps because this is refused. No
--- transaction is open after it.
+-- The whole effect, if the table has contents: it holds those that `after` makes of them, or the write fails, perhaps
+-- because this is refused. No transaction is open afterwards.
 pub record Whole (after : Contents → Contents) (refused : Contents → Type 0) (old new : State)
     (r : Result (Unit {0}) Fault) : Type 0 where
   pub ends : HasCleanDisk new → Ends Has (λ _ _. Unit {0}) after old new r
@@ -153,7 +154,7 @@ pub record Whole (after : Contents → Contents) (refused : Contents → Type 0)
   pub cause : HasCleanDisk new → old.in_transaction ≡ false → IfErr r (StopsFor Has refused old new)
   pub survives : Survives old new (Leaves Has after old)
 
--- of a connection
+-- the same of a connection
 abbrev pub WritesWhole : {S : Type 0} → Ghosts S → (Contents → Contents) → (Contents → Type 0) → Held S → Held S
     → Result (Unit {0}) Fault → Type 0
 WritesWhole g after refused old new r = Whole after refused (state g old) (state g new) r

@@ -17,7 +17,7 @@ use std::alloc::Global;
 use store_sql::{Fault, Number, begin};
 use text::Text;
 
-/// The schema that is made, and the only one that is opened.
+/// The number of the schema that is made, and the only one that is opened.
 pub(crate) const SCHEMA: u64 = 1;
 
 /// The number as a column holds it.
@@ -31,7 +31,7 @@ fn number(value: u64) -> Number
     number
 }
 
-/// The row where no list was approved.
+/// The row of a list guard that has approved no list.
 fn empty_row(alloc: Global) -> ListRow
     ensures { result ≡ list_row None }
 {
@@ -66,7 +66,7 @@ fn make_whole<S: Alter>(conn: &mut Connection<S>, list: &ListRow) -> Result<(), 
     }
 }
 
-/// Makes the table of a list guard in a database without tables, with its row, or nothing.
+/// Makes the table of a list guard with its row, in a database without tables. If that fails, nothing is made.
 pub(crate) fn create<S: Alter>(alloc: Global, conn: &mut Connection<S>) -> Result<(), Fault>
     ensures ends { On S.Store (EndsOnBlank (list_contents opened)) conn.old conn.new result }
     ensures cause { On S.Store (FailsOnBlank (RefusesList (list_row None) no_contents)) conn.old conn.new result }

@@ -1,4 +1,4 @@
-//! The table itself.
+//! Creating the table itself.
 
 ghost use Rattle.std.specs.Prelude.{◌≡◌};
 ghost use Rattle.store_sql.specs.Schema.{no_schema};
@@ -10,7 +10,7 @@ use crate::sql::CREATE_LIST;
 use sqlite::{Alter, Connection};
 use store_sql::Fault;
 
-/// Makes the table of the list in a database that has none. Where that fails in a transaction, nothing of it is
+/// Makes the table of the list in a database without tables. If that fails in a transaction, nothing of it is
 /// committed.
 pub(crate) fn create_list<S: Alter>(conn: &mut Connection<S>) -> Result<(), Fault>
     ensures completes { On S.Store (Completes no_schema) conn.old conn.new result }

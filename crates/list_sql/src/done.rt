@@ -1,4 +1,4 @@
-//! What a statement answers.
+//! The result of a statement.
 
 ghost use Rattle.std.specs.Prelude.{IfErr};
 ghost use Rattle.store_sql.specs.Done.{IsDone};
@@ -7,7 +7,7 @@ ghost use Rattle.store_sql.specs.Faults.{IsOfStatement};
 use sqlite::Error;
 use store_sql::Fault;
 
-/// What a statement that shows no rows answers.
+/// The result of a statement that returns no rows.
 pub(crate) fn done(answer: Result<usize, Error>) -> Result<(), Fault>
     ensures is { IsDone answer result }
     ensures undamaged { IfErr result IsOfStatement }

@@ -1,4 +1,4 @@
-//! Faults of the tables as faults of the register and of an opening.
+//! The faults of the register and of an opening, for the faults of the table.
 
 ghost use Rattle.std.specs.Prelude.{◌≡◌};
 ghost use Rattle.list_sql.specs.Told.{opening_fault, register_fault};
@@ -7,7 +7,7 @@ use crate::opening_fault::OpeningFault;
 use list_guard::RegisterFault;
 use store_sql::Fault;
 
-/// The register's fault of a fault of the tables.
+/// The register's fault for a fault of the table.
 pub(crate) fn register_fault(fault: Fault) -> RegisterFault
     ensures { result ≡ register_fault fault }
 {
@@ -18,7 +18,7 @@ pub(crate) fn register_fault(fault: Fault) -> RegisterFault
     }
 }
 
-/// An opening's fault of a fault of the tables.
+/// The fault of an opening for a fault of the table.
 pub(crate) fn opening_fault(fault: Fault) -> OpeningFault
     ensures { result ≡ opening_fault fault }
 {

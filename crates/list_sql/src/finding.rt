@@ -1,4 +1,4 @@
-//! A look at a database: is it a list guard's, and which list did it approve last?
+//! Finding whether a database is a list guard's, and which list the guard approved last.
 
 ghost use Rattle.std.specs.Prelude.{◌≡◌, ◌∷◌, [], false, Err};
 ghost use Rattle.std.specs.List.{list_any};
@@ -17,7 +17,7 @@ use sqlite::{Alter, Connection};
 use std::alloc::Global;
 use text::Text;
 
-/// The list of these bytes, if there is one.
+/// The list that these bytes are, or `None` if there is no byte.
 fn list_in(bytes: Text) -> Option<Text>
     ensures { result ≡ list_in bytes }
 {
@@ -27,7 +27,7 @@ fn list_in(bytes: Text) -> Option<Text>
     Some(bytes)
 }
 
-/// The list that a row of this schema says.
+/// The list of a row whose schema is this one.
 fn list_with(row: ListRow) -> Result<Option<Text>, OpeningFault>
     ensures { result ≡ list_with row }
 {
@@ -38,7 +38,7 @@ fn list_with(row: ListRow) -> Result<Option<Text>, OpeningFault>
     Err(OpeningFault::Damaged)
 }
 
-/// The list that the one row says.
+/// The list of the only row.
 fn list_of(row: ListRow) -> Result<Option<Text>, OpeningFault>
     ensures { result ≡ last_in (row ∷ []) }
 {
@@ -48,7 +48,7 @@ fn list_of(row: ListRow) -> Result<Option<Text>, OpeningFault>
     Err(OpeningFault::WrongSchema)
 }
 
-/// The list that the rows of the table say.
+/// The list that the rows of the table represent.
 fn last_in(rows: Vec<ListRow>) -> Result<Option<Text>, OpeningFault>
     ensures { result ≡ last_in rows.items }
 {
@@ -62,7 +62,7 @@ fn last_in(rows: Vec<ListRow>) -> Result<Option<Text>, OpeningFault>
     }
 }
 
-/// The last list of the list guard that a database has.
+/// The list that was approved last by the list guard in a database.
 pub(crate) fn find_last<S: Alter>(
     alloc: Global,
     conn: &mut Connection<S>,

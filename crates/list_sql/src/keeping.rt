@@ -1,4 +1,4 @@
-//! The write, in a transaction of its own.
+//! Writing the list, in a transaction of its own.
 
 ghost use Rattle.list_sql.specs.Changes.{with_bytes};
 ghost use Rattle.list_sql.specs.Refusals.{RefusesBytes};
@@ -9,7 +9,7 @@ use crate::transaction::conclude;
 use sqlite::{Alter, Connection};
 use store_sql::{Fault, begin};
 
-/// Puts these bytes into the row.
+/// Writes these bytes into the row.
 pub(crate) fn fill<S: Alter>(conn: &mut Connection<S>, bytes: &[u8]) -> Result<(), Fault>
     ensures { WritesWhole S.Store (with_bytes bytes.now) (RefusesBytes bytes.now) conn.old conn.new result }
 {

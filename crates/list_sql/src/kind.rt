@@ -1,4 +1,4 @@
-//! What a column may hold, and single columns of a row.
+//! Kinds of columns, and reading single columns of a row.
 
 ghost use Rattle.std.specs.Prelude.{◌≡◌, ◌<◌, ◌^◌, pos};
 ghost use Rattle.std.specs.List.{list_all, enumerate_from};
@@ -14,7 +14,7 @@ use sqlite::types::ValueRef;
 use store_sql::Number;
 use text::Text;
 
-/// What a column may hold.
+/// The kind of values that a column may hold.
 #[derive(Clone, Copy)]
 pub(crate) enum Kind {
     Number,
@@ -42,14 +42,14 @@ fn are_held(kinds: &[Kind], columns: &Row) -> bool
     true
 }
 
-/// Whether the row has just these columns, each holding what it may.
+/// Whether the row has exactly these columns, each with a value of its kind.
 pub(crate) fn is_row_of(row: &Row, kinds: &[Kind]) -> bool
     ensures { result ≡ has_kinds kinds.now row.now }
 {
     row.column_count() == kinds.len() && are_held(kinds, row)
 }
 
-/// The bytes in a column, or no byte where there are none.
+/// The bytes in a column, or no byte if it isn't a BLOB.
 pub(crate) fn blob_at(memory: &mut Memory, row: &Row, at: usize) -> Text
     ensures { IfGranted memory.old memory.new (result ≡ blob_in (column row.now at)) }
 {
@@ -59,7 +59,7 @@ pub(crate) fn blob_at(memory: &mut Memory, row: &Row, at: usize) -> Text
     }
 }
 
-/// The number that a signed one is, or 0 where it is negative.
+/// The number with this value, or 0 if the value is negative.
 fn from_signed(value: i64) -> Number
     ensures { result ≡ number_in (Int value) }
 {
@@ -72,7 +72,7 @@ fn from_signed(value: i64) -> Number
     }
 }
 
-/// The number in a column, or 0 where there is none.
+/// The number in a column, or 0 if it has none.
 pub(crate) fn number_at(row: &Row, at: usize) -> Number
     ensures { result ≡ number_in (column row.now at) }
 {
@@ -82,7 +82,7 @@ pub(crate) fn number_at(row: &Row, at: usize) -> Number
     }
 }
 
-/// The number as a value of SQL.
+/// The number as an SQL value.
 pub(crate) fn value_of(number: Number) -> ValueRef<'static>
     ensures is { owned result ≡ Int (pos number) }
     ensures low { number < 2 ^ 63 }

@@ -1,7 +1,8 @@
-//! A list guard's register in the table of a database.
+//! A list guard's register in an SQLite table.
 //!
-//! The list that was approved last lies in one row, whole. It is put there in one transaction: it outlasts a crash when
-//! the call returns, and a crash leaves what was kept, or the list in hand.
+//! The list that was approved last is the value of one column in the only row. It is written in one transaction: when
+//! the call returns, the list survives a crash. A crash during the call leaves the list that was kept before, or this
+//! one.
 #![tactic(auto)]
 
 mod columns;

@@ -16,14 +16,14 @@ use std::alloc::Global;
 use store_sql::{Fault, Number};
 use text::Text;
 
-/// The one row of the list that was approved last.
+/// The only row, with the list that was approved last.
 #[derive(Drop)]
 pub(crate) struct ListRow {
     /// 1 in a list guard.
     pub id: Number,
     /// The number of the schema.
     pub schema: Number,
-    /// The bytes of the list, or none where no list was approved.
+    /// The bytes of the list, or no byte if no list was approved.
     pub bytes: Text,
 }
 
@@ -68,14 +68,14 @@ impl Columns for ListRow {
     }
 }
 
-/// Puts the row of a list. `Device` also where its id is taken, or the row is too long.
+/// Inserts the row of a list. `Device` also if its id is taken, or the row is too long.
 pub(crate) fn insert_list<S: Alter>(conn: &mut Connection<S>, list: &ListRow) -> Result<(), Fault>
     ensures { Writes S.Store (with_list list.now) (RefusesList list.now) conn.old conn.new result }
 {
     done(conn.execute(INSERT_LIST, &list.values()))
 }
 
-/// Each row of the table, which has one. `Damaged` where a row has another form.
+/// All rows of the table. `Damaged` if a row doesn't have the table's form.
 pub(crate) fn every_list<S: Alter>(
     alloc: Global,
     conn: &mut Connection<S>,
@@ -85,7 +85,7 @@ pub(crate) fn every_list<S: Alter>(
     found(alloc, conn.query_all(EVERY_LIST, &[]))
 }
 
-/// Puts these bytes into the row of id 1, if it is there. `Device` also where the row is then too long.
+/// Writes these bytes into the row with id 1, if there is one. `Device` also if the row would be too long.
 pub(crate) fn update_bytes<S: Alter>(conn: &mut Connection<S>, bytes: &[u8]) -> Result<(), Fault>
     ensures { Writes S.Store (with_bytes bytes.now) (RefusesBytes bytes.now) conn.old conn.new result }
 {

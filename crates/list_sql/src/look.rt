@@ -1,4 +1,4 @@
-//! A look at the schema, before anything is asked of the table.
+//! Looking at the schema, before the table is queried.
 
 ghost use Rattle.std.specs.Prelude.{◌≡◌, length};
 ghost use Rattle.std.specs.Str.{bytes_eq};
@@ -16,7 +16,7 @@ fn has_list_name(table: &Table) -> bool
     same_name(table.name.as_slice(), b"list")
 }
 
-/// Whether the database has a table of the name of the list's.
+/// Whether the database has a table with the name of the list's table.
 pub(crate) fn has_any_table<S: Alter>(conn: &Connection<S>) -> bool
     ensures { result ≡ list_any is_list_name (tables_of S.Store conn.now) }
 {

@@ -6,8 +6,8 @@ ghost use Rattle.list_sql.specs.Granted.{IfGranted};
 use std::alloc::Global;
 use text::{NoMemory, Text};
 
-/// Memory that remembers whether some of it was refused. So all columns of a row are copied with no way out between
-/// them: the proof of a function takes each text apart at each way out.
+/// An allocator that remembers whether memory was refused. So all columns of a row are copied without an early return
+/// between them, at each of which a proof would have to consider each text.
 #[derive(Drop)]
 pub(crate) struct Memory {
     alloc: Global,
@@ -15,7 +15,7 @@ pub(crate) struct Memory {
 }
 
 impl Memory {
-    /// Memory of which none was refused yet.
+    /// An allocator that has refused nothing yet.
     pub(crate) fn new(alloc: Global) -> Memory
         ensures { result.is_refused ≡ false }
     {
@@ -25,7 +25,7 @@ impl Memory {
         }
     }
 
-    /// A copy of the bytes, or no byte where memory is refused.
+    /// A copy of the bytes, or no byte if memory is refused.
     pub(crate) fn copied(&mut self, bytes: &[u8]) -> Text
         ensures { IfGranted self.old self.new (result ≡ bytes.now) }
     {
@@ -38,7 +38,7 @@ impl Memory {
         }
     }
 
-    /// Whether some was refused.
+    /// Whether memory was refused.
     pub(crate) fn is_refused(&self) -> bool
         ensures { result ≡ self.now.is_refused }
     {

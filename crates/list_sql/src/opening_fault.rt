@@ -3,16 +3,16 @@
 /// Why a list guard isn't opened or made.
 #[derive(Clone, Copy, Debug, PartialEq, Eq)]
 pub enum OpeningFault {
-    /// The database has a table of the name that a list guard needs.
+    /// The database has a table with the name that a list guard needs.
     AlreadyAGuard,
-    /// The table of the list is missing, or has not just one row.
+    /// The table of the list is missing, or doesn't have exactly one row.
     NotAGuard,
-    /// The table is that of another version.
+    /// The table has a different schema number, that of another version of this program.
     WrongSchema,
-    /// The row isn't of the form of its table, or has another id.
+    /// The row doesn't have the table's form, or has a different id.
     Damaged,
     /// The database failed, or is shut.
     Device,
-    /// A growth was refused.
+    /// Memory was refused.
     NoMemory,
 }

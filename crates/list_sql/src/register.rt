@@ -1,4 +1,4 @@
-//! The table is a register.
+//! The table as a register.
 
 ghost use Rattle.std.proofs.Common.{inl, inr};
 ghost use Rattle.std.specs.Prelude.{◌≡◌};

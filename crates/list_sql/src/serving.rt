@@ -1,4 +1,4 @@
-//! The write of the register, over a connection.
+//! The register's write, over a connection.
 
 ghost use Rattle.list_guard.specs.Judged.{IsKeepable};
 ghost use Rattle.list_guard.specs.State.{with_last};
@@ -9,7 +9,7 @@ use crate::keeping::fill;
 use list_guard::RegisterFault;
 use sqlite::{Alter, Connection};
 
-/// Keeps a list in the row. Of no byte none is kept.
+/// Keeps a list in the row. A list without a byte isn't kept.
 pub(crate) fn keep<S: Alter>(conn: &mut Connection<S>, list: &[u8]) -> Result<(), RegisterFault>
     ensures { LeadsOf S.Store (IsKeepable list.now) (with_last list.now) conn.old conn.new result }
 {

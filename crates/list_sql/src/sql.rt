@@ -1,4 +1,4 @@
-//! The statements, each in one place.
+//! The SQL statements.
 
 pub(crate) const CREATE_LIST: &str =
     "CREATE TABLE list (id INTEGER PRIMARY KEY, schema INTEGER NOT NULL, \

@@ -1,4 +1,4 @@
-//! A list guard's register, from its connection and back.
+//! A list guard's register, made from a connection.
 
 ghost use Rattle.std.specs.Prelude.{◌≡◌, false, Err, IfErr, IfOk, IsTrue, None, Ok};
 ghost use Rattle.std.specs.List.{list_any};
@@ -15,23 +15,23 @@ use sqlite::{Alter, Connection};
 use std::alloc::Global;
 use text::Text;
 
-/// A list guard's register in the table of a database.
+/// A list guard's register in an SQLite table.
 #[derive(Drop)]
 pub struct ListStore<S: Alter> {
     pub(crate) conn: Connection<S>,
-    // what the row says
+    // the list that the row has
     pub(crate) last: Option<Text>,
 }
 
 impl<S: Alter> ListStore<S> {
-    /// A list guard that has approved nothing yet, in a database without tables. Its table is made with its row or, with
-    /// a fault, which gives the connection back, not at all. No transaction may be open, and the connection may have no
-    /// limit on the steps of a query, since a call that meets one fails.
+    /// Makes a list guard that has approved nothing yet, in a database without tables: its table with its row or, after
+    /// a fault, nothing. A fault returns the connection. No transaction may be open. The connection may have no limit
+    /// on the steps of a query, since a call that reaches one fails.
     ///
     /// # Errors
     ///
-    /// `AlreadyAGuard` where the database has a table of the name that a list guard needs, `Device` where the database
-    /// fails, and `NoMemory` for want of memory.
+    /// `AlreadyAGuard` if the database has a table with the name that a list guard needs, `Device` if the database
+    /// fails, and `NoMemory` if memory is refused.
     pub fn init(
         alloc: Global,
         conn: Connection<S>,
@@ -43,10 +43,10 @@ impl<S: Alter> ListStore<S> {
         ensures already { IsTrue (list_any is_list_name (tables_of S.Store conn)) → result ≡ Err
             (record { 0 = OpeningFault.AlreadyAGuard; 1 = conn }) }
 
-        // Of an empty database want of memory and a failure of the database are the only faults, and it stays empty.
+        // A database without tables fails only for lack of memory or because it failed, and still has no tables.
         ensures none { IfErr result (λ e. On S.Store FoundsNone conn e.1 e.0) }
 
-        // A crash in its midst leaves the database without tables, or with the whole list guard.
+        // A crash in the middle of the call leaves the database without tables, or with the whole list guard.
         ensures crash { IfOk result (λ g. OutlivesBy S.Store LeavesNew conn g.conn) }
         ensures crash_back { IfErr result (λ e. OutlivesBy S.Store LeavesNew conn e.1) }
     {
@@ -60,14 +60,14 @@ impl<S: Alter> ListStore<S> {
         }
     }
 
-    /// The list guard that a database has. A fault gives the connection back. No transaction may be open, and the
+    /// Opens the list guard in a database. A fault returns the connection. No transaction may be open, and the
     /// connection may have no limit on the steps of a query.
     ///
     /// # Errors
     ///
-    /// `NotAGuard` where the table of the list is missing or has not just one row, `WrongSchema` where it is that of
-    /// another version, `Damaged` where its row has another form or id, `Device` where the database failed, and
-    /// `NoMemory` for want of memory.
+    /// `NotAGuard` if the table of the list is missing or doesn't have exactly one row, `WrongSchema` if its schema
+    /// number is a different one, `Damaged` if its row doesn't have the table's form or its id, `Device` if the
+    /// database failed, and `NoMemory` if memory is refused.
     pub fn open(
         alloc: Global,
         conn: Connection<S>,
@@ -75,19 +75,19 @@ impl<S: Alter> ListStore<S> {
         requires outside { IsOutside S.Store conn }
         requires unlimited { IsUnlimited S.Store conn }
 
-        // It keeps the list that the table holds, and a crash leaves it.
+        // The guard keeps the list that the table holds, and a crash leaves it.
         ensures opened { IfOk result (λ g. Between S.Store (Finds g.last) conn g.conn) }
 
-        // It is opened just where the one row says a list of this schema, or none; each refusal is what the rows say.
+        // It is opened exactly if the only row has this schema and the id 1. Each refusal has its cause in the rows.
         ensures said { IfOk result (λ g. On S.Store SaysUnless conn g.conn (Ok g.last)) }
         ensures refused { IfErr result (λ e. On S.Store SaysUnless conn e.1 (Err e.0)) }
 
-        // Where it holds one, want of memory and a failure of the database are the only faults.
+        // If the table holds a list guard, the call fails only for lack of memory or because the database failed.
         ensures missed { IfErr result (λ e. On S.Store Misses conn e.1 e.0) }
         ensures none { list_any is_list_table (tables_of S.Store conn) ≡ false → result ≡ Err
             (record { 0 = OpeningFault.NotAGuard; 1 = conn }) }
 
-        // A disk that has returned what was written as the call ends had done so when it began.
+        // A disk that has been faithful when the call ends had been so when it began.
         ensures honest { IfOk result (λ g. StaysClean S.Store conn g.conn) }
         ensures honest_back { IfErr result (λ e. StaysClean S.Store conn e.1) }
     {
@@ -98,7 +98,7 @@ impl<S: Alter> ListStore<S> {
         }
     }
 
-    /// The connection, with the table as it is.
+    /// The connection, with its table unchanged.
     pub fn into_connection(self) -> Connection<S>
         ensures { result ≡ self.conn }
     {

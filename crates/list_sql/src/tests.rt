@@ -1,4 +1,4 @@
-//! What only calls can show: that they answer where memory and the disk suffice.
+//! Tests of what isn't proved: that calls answer if memory and the disk suffice.
 
 use crate::ListStore;
 use list_guard::{ListRegister, RegisterFault};

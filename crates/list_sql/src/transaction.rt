@@ -1,4 +1,4 @@
-//! Transactions, each of which ends whole or undone.
+//! Ending a transaction: it is committed as a whole, or undone.
 
 ghost use Rattle.std.specs.Prelude.{◌≡◌};
 ghost use Rattle.list_sql.specs.Transactions.{Closes, ClosesFor, Concludes, EndsFor, HasEnded, LeavesAnswered};
@@ -7,7 +7,7 @@ ghost use Rattle.store_sql.specs.Honest.{Between, On, Outlives, OutlivesBy};
 use sqlite::{Alter, Connection};
 use store_sql::{Fault, commit, rollback};
 
-/// Leaves no transaction open, and nothing of one that was.
+/// Rolls back the open transaction, if there is one.
 pub(crate) fn undo<S: Alter>(conn: &mut Connection<S>)
     ensures ended { Between S.Store HasEnded conn.old conn.new }
     ensures survives { Outlives S.Store (λ _. ⊥) conn.old conn.new }
@@ -17,7 +17,7 @@ pub(crate) fn undo<S: Alter>(conn: &mut Connection<S>)
     }
 }
 
-/// Commits, or leaves nothing of the transaction. A commit fails for want of memory, or because the database failed.
+/// Commits, or undoes the transaction. A commit fails only for lack of memory, or because the database failed.
 pub(crate) fn close<S: Alter>(conn: &mut Connection<S>) -> Result<(), Fault>
     ensures closes { On S.Store Closes conn.old conn.new result }
     ensures cause { On S.Store ClosesFor conn.old conn.new result }
@@ -32,7 +32,7 @@ pub(crate) fn close<S: Alter>(conn: &mut Connection<S>) -> Result<(), Fault>
     }
 }
 
-/// Commits what was answered, and leaves nothing of a transaction that failed.
+/// Commits a transaction that succeeded, and undoes one that failed.
 pub(crate) fn conclude<S: Alter, T: Drop>(
     conn: &mut Connection<S>,
     answer: Result<T, Fault>,

@@ -4,7 +4,7 @@ use Rattle.wire.specs.Texts.{string_text}
 use Rattle.list_guard.proofs.Counted.{CountsOn}
 use Rattle.list_guard.proofs.counting.key_id_count.Given as goal
 
--- the key ids before the cursor are counted, and each has a byte at least
+-- the key IDs before the cursor are counted, and each takes at least one byte
 abbrev pub invariant-loop-cursor : goal.invariant-loop-cursor
 invariant-loop-cursor l =
     CountsOn string_text IsString (λ _. 1) l.bytes l.cursor l.count × (l.count + length l.cursor ≤ length l.bytes)

@@ -14,7 +14,7 @@ use Rattle.list_sql.proofs.Steps.{Leads, answers_then, goes, waits_then}
 use Rattle.list_sql.proofs.TransactionParts.{written}
 use Rattle.list_sql.proofs.creating.make.Goals as goal
 
--- a database without tables, in which that of a list guard is made
+-- a database without tables, in which the table of a list guard is made
 bare_leads : (a b : State) → (IsBare no_schema a.now → Steps a b no_contents)
     → Leads (λ (_ : Unit {0}). IsBare no_schema) Has (λ _. no_contents) a b
 bare_leads a b made x bare = let s = goes a b no_contents (made bare) in (no_contents, s, s.means)
