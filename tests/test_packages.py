@@ -422,12 +422,12 @@ def test_bundles_of_clients_that_are_not_named_follow_too(room, authority, capsy
     do, _ = authority
     folder = room / "authority"
     do("--server", "db.example.org", "--caller", "ana", "--reader", "eye")
-    assert "new bundles" not in capsys.readouterr().err, "nobody has an old one"
+    assert "set these clients up again" not in capsys.readouterr().err, "nobody has an old one"
     (folder / "kept.bundle").write_text("no bundle\n")
     for name in ("db-example-org", "eye"):
         run(["authority", "renew", folder, name], check=True)
     assert [f"make the bundles db.example.org, eye in {folder}"] == do()
-    assert "these have new bundles, so set up again whoever has an old one: db.example.org, eye\n" in (
+    assert "set these clients up again, since their bundles have changed: db.example.org, eye\n" in (
         capsys.readouterr().err)
     for name, host in (("db-example-org", "db.example.org"), ("eye", "eye")):
         text = (folder / f"{host}.bundle").read_text()
