@@ -85,7 +85,7 @@ impl<S: Alter> GuardStore<S> {
         // The register keeps each guard that the tables hold, and a crash leaves it.
         ensures opened { IfOk result (λ g. Between S.Store (Finds g.scope) conn g.conn) }
 
-        // Opened exactly if there is one row, of this schema, with a scope; each refusal has its cause in the rows.
+        // Opened exactly when there is one row, of this schema, with a scope; each refusal has its cause in the rows.
         ensures said { IfOk result (λ g. On S.Store SaysUnless conn g.conn (Ok g.scope)) }
         ensures refused { IfErr result (λ e. On S.Store SaysUnless conn e.1 (Err e.0)) }
 

@@ -78,7 +78,7 @@ impl<S: Alter> ListStore<S> {
         // The guard keeps the list that the table holds, and a crash leaves it.
         ensures opened { IfOk result (λ g. Between S.Store (Finds g.last) conn g.conn) }
 
-        // It is opened exactly if the only row has this schema and the id 1. Each refusal has its cause in the rows.
+        // It is opened exactly when the only row has this schema and the id 1. Each refusal has its cause in the rows.
         ensures said { IfOk result (λ g. On S.Store SaysUnless conn g.conn (Ok g.last)) }
         ensures refused { IfErr result (λ e. On S.Store SaysUnless conn e.1 (Err e.0)) }
 
