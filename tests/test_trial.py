@@ -98,7 +98,7 @@ def test_a_command_that_keeps_no_office_is_tried(words, done, unbuilt):
     assert (3, done) == (came.returncode, came.stdout)
 
 
-@pytest.mark.parametrize("name", ["a b", "new\nline", "*", "file=x", "\"$HOME\"", "apply", "check", "-", "-odd", "--db"])
+@pytest.mark.parametrize("name", ["a b", "new\nline", "*", "file=x", '"$HOME"', "apply", "check", "-", "-odd", "--db"])
 def test_a_file_of_any_name_is_tried(name, unbuilt, room):
     """The help says that one that begins with `-` goes after `--`."""
     (room / name).write_text("its own\n")
