@@ -243,6 +243,10 @@ def test_a_peer_that_stays_behind_its_response_is_not_waited_for(system):
             assert time.monotonic() - begun < STEP / 2e6
 
 
+def test_what_a_peer_sends_behind_its_request_is_not_read_without_end(system):
+    assert ([NO_LIST] * 2, ends()) == system.met(LIST, LIST, ENDLESS="yes")
+
+
 @pytest.mark.parametrize(("requests", "faults"), [((LIST,), [b"1 Socket"]), ((), [b"1 Socket", b"2 Socket"])])
 def test_an_accept_that_fails_counts_as_a_connection(system, requests, faults):
     assert ([NO_LIST] * len(requests), ends(*faults)) == system.met(*requests, connections=2, UNACCEPTED=len(faults))
