@@ -239,8 +239,9 @@ def test_a_peer_that_stays_behind_its_response_is_not_waited_for(system):
             server.go_on()
             assert NO_LIST == given(peer)
             begun = time.monotonic()
-            assert (NO_LIST, ends()) == (given(other), server.ended())
+            assert NO_LIST == given(other)
             assert time.monotonic() - begun < STEP / 2e6
+        assert ends() == server.ended()
 
 
 def test_what_a_peer_sends_behind_its_request_is_not_read_without_end(system):
