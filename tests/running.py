@@ -189,6 +189,17 @@ class Served:
                 came += piece
         return Response(came)
 
+    def work_of(self, asked):
+        """How long a processor works for the server while this function asks it, in seconds. The server has one thread.
+        It ends with a short request: then what came before has been done."""
+        def worked():
+            self.get("/v1/nothing")
+            return int(pathlib.Path(f"/proc/{self.process.pid}/schedstat").read_text().split()[0]) / 1e9
+
+        before = worked()
+        asked()
+        return worked() - before
+
     def post(self, caller, key, message):
         return self.ask(post(caller, key, message))
 

@@ -78,3 +78,16 @@ def test_heads_are_told(heads_tool, room):
     found = told(heads_tool, room, [head for head, _, _ in TOLD])
     assert [(head, (size, word), (size, word)) for head, size, word in TOLD] == [
         (head, *both) for (head, _, _), both in zip(TOLD, found)]
+
+
+def padded(size):
+    """A GET with a head of so many bytes."""
+    line = b"GET /v1/krl HTTP/1.1\r\nx: "
+    return line + b"y" * (size - len(line) - 4) + b"\r\n\r\n"
+
+
+def test_a_long_head_is_not_read_anew_at_each_byte(make_office):
+    """A processor works for it twenty times as long as for a short one at most."""
+    with make_office().serving() as server:
+        short, long = (server.work_of(lambda: [server.ask(padded(size)) for _ in range(20)]) for size in (40, 8192))
+    assert (True, short, long) == (long < 20 * short, short, long)

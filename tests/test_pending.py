@@ -5,8 +5,11 @@ renewals add to what is pending, deliveries and revocations take away, also by k
 repeated messages change nothing. The clock stands still and the nonces are all alike, so that both make the same
 bodies.
 """
+import contextlib
 import os
 import random
+import sqlite3
+import statistics
 
 from asking import CA, deliver, department, get, issue, key_blob, post, renew, revoke_keyid, revoke_range, revoke_serial
 from plain_office import PlainOffice
@@ -71,3 +74,37 @@ def test_pending_over_a_restart_and_many_at_once(make_office):
         assert server.get("/v1/pending").text == due
         server.post("root", "k", revoke_keyid("web/j1"))
         assert server.get("/v1/pending").text == due.replace(f"2502 {more[1]}\n", "")
+
+
+def fill(db, count):
+    """Puts so many certificates into an office with one, of which the last three aren't signed. Every second serial and
+    some key ids are revoked."""
+    with contextlib.closing(sqlite3.connect(db)) as file:
+        department, key_id, body = file.execute("SELECT department, keyid, body FROM cert").fetchone()
+        file.executemany("INSERT OR REPLACE INTO cert VALUES (?, ?, ?, ?, ?)", (
+            (serial, department, key_id, body[:108] + serial.to_bytes(8, "big") + body[116:],
+             None if serial > count - 3 else bytes(64)) for serial in range(1, count + 1)))
+        file.executemany("INSERT INTO run VALUES (?, ?)", ((serial, serial) for serial in range(1, count - 3, 2)))
+        file.executemany("INSERT INTO revoked_keyid VALUES (?)", ((f"web/x{number:05}",) for number in range(1000)))
+        file.execute("UPDATE office SET next = ?, version = ?", (count + 1, count))
+        file.commit()
+
+
+def test_only_the_first_ask_looks_at_all(make_office):
+    """Also after messages that revoke nothing, a later ask takes a small part of its time."""
+    office = make_office(last=1_000_000)
+    office.apply([post("root", "web", department()), post("ana", "i1", issue("web/1"))])
+    fill(office.db, 40_000)
+    with office.serving() as server:
+        def asked():
+            assert server.get("/v1/pending").body.count(b"\n") == waiting
+
+        waiting, later = 3, []
+        first = server.work_of(asked)
+        for number in range(9):
+            digest = server.post("ana", f"j{number}", issue(f"web/j{number}")).text.split()[3]
+            if number % 2:
+                server.post("station", f"d{number}", deliver(40_001 + number, digest))
+            waiting += 1 - number % 2
+            later.append(server.work_of(asked))
+    assert (True, first, later) == (30 * statistics.median(later) < first, first, later)

@@ -231,6 +231,23 @@ def test_a_response_comes_whole_before_a_body_that_is_not_read(system):
             assert 0 == kept.getsockopt(socket.SOL_SOCKET, socket.SO_ERROR)
 
 
+def test_a_peer_that_stays_behind_its_response_is_not_waited_for(system):
+    """The next is served at once, and not after ten seconds."""
+    with system.serving(2) as server:
+        peer, other = server.client(LIST), server.client(LIST)
+        with peer.dup():
+            server.go_on()
+            assert NO_LIST == given(peer)
+            begun = time.monotonic()
+            assert NO_LIST == given(other)
+            assert time.monotonic() - begun < STEP / 2e6
+        assert ends() == server.ended()
+
+
+def test_what_a_peer_sends_behind_its_request_is_not_read_without_end(system):
+    assert ([NO_LIST] * 2, ends()) == system.met(LIST, LIST, ENDLESS="yes")
+
+
 @pytest.mark.parametrize(("requests", "faults"), [((LIST,), [b"1 Socket"]), ((), [b"1 Socket", b"2 Socket"])])
 def test_an_accept_that_fails_counts_as_a_connection(system, requests, faults):
     assert ([NO_LIST] * len(requests), ends(*faults)) == system.met(*requests, connections=2, UNACCEPTED=len(faults))
@@ -348,6 +365,20 @@ def test_messages_come_at_the_moment_of_this_systems_clock(system):
     date = listed[place:place + 8]
     assert before <= int.from_bytes(date, "big") <= time.time()
     assert REVOKED_LIST.replace(then, date) == listed
+
+
+def test_a_server_that_has_waited_has_the_moment_of_the_connection(system):
+    """And not that at which it began to wait."""
+    then = (3000).to_bytes(8, "big")
+    place = REVOKED_LIST.index(then)
+    with system.serving(2) as server:
+        server.go_on()
+        time.sleep(2)
+        before = int(time.time())
+        peer = server.client(REVOCATION)
+        assert REVOKED == given(peer)
+        listed = given(server.client(LIST))
+        assert before <= int.from_bytes(listed[place:place + 8], "big") <= time.time()
 
 
 # The clock is read when the connection is accepted, before the request is read, and before the response is written.

@@ -63,7 +63,7 @@ def test_other_words_are_a_mistake(words, trial, room):
 
 # A stand-in for `rt`: it says in which crate it was asked for what, and what the copied file holds.
 RT = """#!/bin/sh
-echo "${PWD##*/}: $*" | sed 's/--data [^ ]*=/&/; s,=/[^ ]*/,=,'
+echo "${PWD##*/}: $*" | sed 's/--data [^ ]*=/&/; s,=/[^ ]*/,=,g'
 for word; do case "$word" in file=*) cat "${word#file=}" ;; esac; done
 echo 'run=ended status=3 proved=no' >&2
 exit 3
@@ -96,6 +96,28 @@ def unbuilt(room):
 def test_a_command_that_keeps_no_office_is_tried(words, done, unbuilt):
     came = unbuilt(*words.split())
     assert (3, done) == (came.returncode, came.stdout)
+
+
+@pytest.mark.parametrize("name", ["a b", "new\nline", "*", "file=x", '"$HOME"', "apply", "check", "-", "-odd", "--db"])
+def test_a_file_of_any_name_is_tried(name, unbuilt, room):
+    """The help says that one that begins with `-` goes after `--`."""
+    (room / name).write_text("its own\n")
+    came = unbuilt("apply", *["--"] * (name[1:] != "" and name.startswith("-")), name)
+    assert (3, b"its own") == (came.returncode, came.stdout.splitlines()[-1])
+
+
+def test_a_list_of_any_name_is_tried(unbuilt, room):
+    for name in ("apply", "check"):
+        (room / name).write_text(f"{name}\n")
+    done = b"sshoffice: try --steps 1 --data ca=ca --data file=file -- check --ca ca file 1 x\ncheck\n"
+    assert done == unbuilt(*"check --ca apply check 1 x".split()).stdout
+
+
+def test_a_long_file_is_tried_whole(unbuilt, room):
+    """The longest record of a file is of more than 64 KiB."""
+    held = b"".join(b"%d\n" % number for number in range(100_000))
+    (room / "long").write_bytes(held)
+    assert unbuilt("apply", "long").stdout.endswith(b"-- file\n" + held)
 
 
 @pytest.mark.parametrize("words", ["apply --db office.db some", "serve"])

@@ -10,7 +10,8 @@
      SMALL_SOCKETS    a connection that is accepted holds few bytes that its peer doesn't read
      TURNED_BYTES     the first byte of all that a socket gives is another one
      TURNED_END       so is the last, of more than one
-     LATE_BYTE        the first socket that ends gives a byte more */
+     LATE_BYTE        the first socket that ends gives a byte more
+     ENDLESS          a socket that has given all gives zeros, and never ends */
 #include <errno.h>
 #include <stdio.h>
 #include <stdlib.h>
@@ -89,6 +90,10 @@ ssize_t recv(int socket, void *bytes, size_t size, int flags) {
     if (got == 0 && size > 0 && getenv("LATE_BYTE") && !ended++) {
         given[0] = 0;
         got = 1;
+    }
+    if (got <= 0 && getenv("ENDLESS")) {
+        memset(bytes, 0, size);
+        got = size;
     }
     return got;
 }
