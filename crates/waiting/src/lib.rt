@@ -3,7 +3,7 @@
 //! `Waiting` is a register over any other. Between two requests for the pending certificates it remembers the rows that
 //! were pending at the last one, the place up to which it has read certificates, and the revocations. So a request
 //! checks those rows and reads the certificates issued since, and not every certificate, and reads the revocations only
-//! if one came since the last request.
+//! after a message that may revoke.
 #![tactic(auto)]
 
 mod asking;
