@@ -138,8 +138,11 @@ def run(words, shown=None, **how):
     done = subprocess.run([str(it) for it in words], text=True, errors="replace",
                           **({"stdin": subprocess.DEVNULL, "capture_output": True} | how))
     if done.returncode:
-        # What it has printed may be part of a private key.
-        said = (done.stderr or done.stdout or "").strip()[-600:] or f"status {done.returncode}"
+        # What it has printed may be part of a private key. Some programs give their reason there, but none that is
+        # killed.
+        printed = done.stdout or ""
+        is_secret = done.returncode < 0 or "PRIVATE KEY" in printed
+        said = (done.stderr or ("" if is_secret else printed)).strip()[-600:] or f"status {done.returncode}"
         fault = Fault(f"{shown or ' '.join(map(str, words))} failed: {said}")
         fault.status = done.returncode
         raise fault
