@@ -182,8 +182,9 @@ def put_database(user, path, make):
     remove()
     try:
         make(new)
-        # Its log becomes a part of it, so that one name is that of all.
-        as_user(user, "/usr/bin/python3", "-c", CLOSE, new)
+        # Its log becomes a part of it, so that one name is that of all. -I: this user runs no module of the folder in
+        # which the command was typed.
+        as_user(user, "/usr/bin/python3", "-I", "-c", CLOSE, new)
         if pathlib.Path(f"{new}-wal").exists():
             raise Fault(f"{new} is in use")
         as_user(user, "mv", "--no-target-directory", new, str(path))

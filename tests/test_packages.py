@@ -700,6 +700,42 @@ def test_a_first_list_that_is_none_leaves_no_guard(room, content, why):
     assert [] == [*room.glob("lists.db*")]
 
 
+WRITE = """
+import os, sqlite3, sys
+database = sqlite3.connect(sys.argv[1])
+database.execute("PRAGMA journal_mode = wal")
+database.execute("CREATE TABLE it(text)")
+database.execute("INSERT INTO it VALUES (?)", [sys.argv[2]])
+database.commit()
+os._exit(0)
+"""
+
+
+@pytest.fixture
+def making(room, monkeypatch):
+    """A step that makes a database, of one user, in a room of its own. Its log is left, as after a kill."""
+    common = load("setting_up.py")
+    monkeypatch.setattr(common, "as_user", lambda user, *words: common.run(words))
+
+    def write(path, text):
+        run(["/usr/bin/python3", "-I", "-c", WRITE, path, text], check=True)
+
+    def do():
+        steps = common.Steps(argparse.Namespace(yes=True), "set-up")
+        steps.database("office", room / "a.db", "a database", lambda new: write(new, "new"))
+        steps.carry_out()
+        return run(["sqlite3", room / "a.db", "SELECT text FROM it"], check=True).stdout.decode().strip()
+    return common, write, do
+
+
+def test_a_database_is_made_by_no_module_of_the_current_folder(room, making):
+    """It is made as the user who has the CA's key, maybe in a folder into which anybody may write."""
+    _, _, do = making
+    (room / "sqlite3.py").write_text("open('taken', 'w')\n")
+    assert pathlib.Path.cwd() == room
+    assert "new" == do() and not (room / "taken").exists()
+
+
 def test_a_file_that_is_not_written_whole_leaves_nothing(room, monkeypatch):
     """It may have half a private key."""
     common = load("setting_up.py")
