@@ -232,6 +232,10 @@ class Steps:
         """A step that makes a database, unless it is there."""
         if path.exists():
             return
+        # The new one would be read with this log, and be the old one again.
+        log = pathlib.Path(f"{path}-wal")
+        if log.exists() and log.stat().st_size:
+            raise Fault(f"{log} is the log of a file that isn't there: put {path} back, or the log where that is now")
         left = "" if not pathlib.Path(f"{path}.new").exists() else (
             f"; an earlier run was interrupted and left {path}.new, which is made again")
         self.add(f"make {what} {path}{left}", lambda: put_database(user, path, make))

@@ -736,6 +736,19 @@ def test_a_database_is_made_by_no_module_of_the_current_folder(room, making):
     assert "new" == do() and not (room / "taken").exists()
 
 
+def test_a_new_database_gets_no_log_of_an_old_one(room, making):
+    """SQLite would read it, and the new database would be the old one."""
+    common, write, do = making
+    write(room / "a.db", "old")
+    (room / "a.db").rename(room / "kept.db")
+    before = (room / "a.db-wal").read_bytes()
+    with pytest.raises(common.Fault, match="a.db-wal is the log of a file that isn't there"):
+        do()
+    assert before == (room / "a.db-wal").read_bytes() and not (room / "a.db").exists()
+    (room / "a.db-wal").rename(room / "kept.db-wal")
+    assert "new" == do()
+
+
 def test_a_file_that_is_not_written_whole_leaves_nothing(room, monkeypatch):
     """It may have half a private key."""
     common = load("setting_up.py")
