@@ -192,6 +192,34 @@ def test_what_cannot_be_put_in_place_costs_few_serials(given, room):
     assert 0o644 == given.old.stat().st_mode & 0o777
 
 
+@pytest.mark.parametrize("amiss, why", [
+    (lambda room: (room / "given-cert.pub").write_text("none\n"), "host-cert.new.pub"),
+    (lambda room: certify(room, "host.pub", days="always:forever"), "has no validity that ends"),
+    (lambda room: run(["ssh-keygen", "-q", "-h", "-I", "db/db.example.org", "-V", "-1d:+10d", "-z", "7", "-s",
+                       room / "ca", room / "given.pub"], check=True), "what came was left out: it is for every host"),
+    (lambda room: (room / "cas.pub").write_text(""), "ssh-keygen can't read"),
+], ids=["no certificate", "without an end", "without principals", "no file of CAs"])
+def test_what_cannot_be_checked_costs_few_serials(given, room, amiss, why):
+    """The timer comes each minute."""
+    certify(room, "host.pub")
+    amiss(room)
+    old, asked = given.present.read_bytes(), room / "asked"
+    for it in range(2):
+        status, told = given()
+        assert (int(not it), not it) == (status, why in told), told
+        assert (old, 2) == (given.present.read_bytes(), len(asked.read_text().splitlines()))
+
+
+def test_what_is_left_out_costs_few_serials_once_the_old_one_has_ended(given, room):
+    shutil.copy(certify(room, "host.pub", "old", days="-9d:-1h"), given.present)
+    certify(room, "other.pub")
+    assert 1 == given()[0]
+    os.utime(given.state / "failed", (time.time() - 600,) * 2)
+    assert (0, "") == given() and 2 == len((room / "asked").read_text().splitlines())
+    os.utime(given.state / "failed", (time.time() - 3601,) * 2)
+    assert 1 == given()[0]
+
+
 @pytest.mark.root
 def test_root_leaves_no_file_of_its_own(given, room):
     """A file of root's in the user's folder would be in the way of the next run by the timer."""
