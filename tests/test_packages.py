@@ -454,6 +454,16 @@ def test_a_front_that_is_set_up_again_keeps_its_certificate(room, authority, hos
     assert certificate == (room / "authority/server.crt").read_bytes()
 
 
+def test_a_front_without_a_certificate_gets_one(room, authority):
+    """As after a kill, when the authority's key is in place and the certificate isn't yet."""
+    do, fault = authority
+    (room / "authority/server.crt").unlink()
+    with pytest.raises(fault, match="no certificate of the front yet: name its HOST"):
+        do()
+    assert ["make the front's certificate again, for front.example.org"] == do("front.example.org")
+    assert (room / "authority/server.crt").exists() and [] == do()
+
+
 @pytest.mark.parametrize("hosts", [["a b"], ["a", "b,email:c"], ["a", "-b"], ["a", ""], ["a", "*"], ["*.a"]], ids=str)
 def test_what_is_no_host_of_a_front(room, hosts):
     done = run_as_root(TOP / "setup/vethlumi-front-setup", "--yes", "--authority", "authority", "--", *hosts)
