@@ -1083,8 +1083,10 @@ def test_a_server_is_set_up_once_sshd_reads_the_list(room, settle):
 STAND_IN = """#!/usr/bin/python3 -B
 import json, pathlib, re, shlex, sys
 name, room = pathlib.Path(sys.argv[0]).name, pathlib.Path(__file__).parent.parent
-words = [it for it in sys.argv[1:] if not re.search("^(-o|-q|Connect.*|Server.*|Forward.*|RequestTTY.*)$", it)]
-if name != "vethlumi-client-setup" and not {"ForwardAgent=no", "ForwardX11=no", "RequestTTY=no"} <= {*sys.argv}:
+settings = re.compile("^(-[oq]|(Connect|Server|Forward|RequestTTY|ClearAll|GSSAPI).*)$")
+words = [it for it in sys.argv[1:] if not settings.search(it)]
+if name != "vethlumi-client-setup" and not {"ForwardAgent=no", "ForwardX11=no", "RequestTTY=no",
+        "ClearAllForwardings=yes", "GSSAPIDelegateCredentials=no"} <= {*sys.argv}:
     sys.exit("the other machine may use this one's agent")
 if name == "ssh":
     words = [words[0], *shlex.split(words[1])]
@@ -1276,6 +1278,11 @@ def test_of_several_cas_a_machine_trusts_those_that_are_named(installing, room, 
     (["station"], "station needs MACHINE"), (["client", "c"], "give --office too"), ([], "arguments are required"),
     (["stations", "s"], "invalid choice"), (["station", "a b"], "no machine"), (["station", "ana;x@s"], "no machine"),
     (["station", "s/t"], "no machine"), ([*CLIENT, "--office=-oProxyCommand=x"], "no machine"),
+    # The bundles of another folder, or none, would be carried to machines.
+    (["office", "o", "--station", "s", "--authority", "/srv/a"], "office takes no --authority: bundles are read from"),
+    (["office", "o", "--station", "s", "--auth=/srv/a"], "office takes no --authority"),
+    (["station", "s", "--station", "t"], "station takes no --station"),
+    (["office", "o", "--station", "s", "--office", "p"], "office takes no --office"),
     (["office", "o"], "give --station too"), (["server", "s", "--station", "s"], "give --office too"),
     (["station", "-s"], "station needs MACHINE"), (["station", "s."], "no machine"), (["station", ".s"], "no machine"),
     (["station", "\u0455"], "no machine"), (["station", "s\n"], "no machine"), (["station", 254 * "s"], "no machine"),
@@ -1334,6 +1341,16 @@ def test_a_client_is_installed_on_another_machine(installing):
     assert [(f"{installing.room}/vethlumi-client_1.0.0_all.deb", "ana@c:")] == [it for it in said if it[-1] == "ana@c:"]
     assert ("ana@c", "sudo", "-n", "vethlumi-client-setup", "--hosts", "*.org", "--yes", "--ca") == said[-1][:8]
     assert f"{CA} first\n[office]\nhttps://office:8443\n" == said[-1][-1]
+    # What is shown can be typed.
+    assert "  on c: vethlumi-client-setup --hosts '*.org' --yes - <(s: /etc/vethlumi/station/cas.pub, o: /var/" in told
+
+
+def test_ssh_takes_the_options_that_it_gets():
+    """So that a taken machine gets nothing of the user's, whatever the user's settings for ssh are."""
+    told = run(["ssh", "-G", *load("vethlumi-install").SSH, "-F", "/dev/null", "host"], check=True)
+    lines = told.stdout.decode().splitlines()
+    assert {"forwardagent no", "forwardx11 no", "requesttty false", "clearallforwardings yes",
+            "gssapidelegatecredentials no"} <= {*lines} and b"" == told.stderr
 
 
 NOT_THERE = r".* test -e \S+/{} && echo yes \|\| true"
