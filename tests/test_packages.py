@@ -1303,6 +1303,7 @@ def test_bad_words_install_nothing(installing, words, why):
     # The first one was lost or has ended: its unit is off.
     ("first\n+second\nsecond\n", [], ["second"]), ("first\nsecond\n", ["--name", "second"], ["second"]),
     ("+first\nfirst\n+second\nsecond\n", [], ["first", "second"]),
+    ("+first\nfirst\n=begun\n", [], ["first"]), ("first\n=begun\n", ["--name", "first"], ["first"]),
 ])
 def test_the_office_gets_the_keys_that_sign(installing, told_of, named, due):
     """A lost CA's line would be offered to servers, and its station started again."""
@@ -1319,7 +1320,7 @@ def test_which_keys_sign(room):
     keys = load("vethlumi-install").KEYS
     for it in ("etc/vethlumi/station", "etc/systemd/system/multi-user.target.wants"):
         (room / it).mkdir(parents=True)
-    here = keys.replace("/etc/", f"{room}/etc/")
+    here = re.sub("(?<= )/(?=etc/|var/)", f"{room}/", keys)
 
     def told():
         return run(["sh", "-c", here], check=True).stdout.decode().split()
@@ -1333,6 +1334,9 @@ def test_which_keys_sign(room):
     for it in ("office-station@second", "office-station@third", "office"):
         (wants / f"{it}.service").symlink_to("/nowhere")
     assert ["+second", "+third", "first", "second"] == told()
+    (room / "var/lib/office-station").mkdir(parents=True)
+    (room / "var/lib/office-station/lists.db").touch()
+    assert ["+second", "+third", "first", "second", "=begun"] == told()
 
 
 def test_a_client_is_installed_on_another_machine(installing):
@@ -1367,6 +1371,10 @@ NOT_THERE = r".* test -e \S+/{} && echo yes \|\| true"
      "s has no /etc/vethlumi/station/second.office: first type vethlumi-install station s --name second"),
     (["office", "o", "--station", "s", "--yes"], {KEYS_OF: "first\nsecond\n"},
      "s has several keys, and the unit of none is enabled: name one by --name: first, second"),
+    # The only key was lost, and its unit is off: it would be started again.
+    (["office", "o", "--station", "s", "--yes"], {KEYS_OF: "first\n=begun\n"},
+     "s has signed before, and the unit of no key is enabled: name the key that is to sign by --name, and none whose "
+     "CA was lost: first"),
     (["office", "o", "--station", "s", "--name", "third", "--yes"], {KEYS_OF: "+first\nfirst\n"},
      "s has no /etc/vethlumi/station/third.office: first type vethlumi-install station s --name third"),
     (["server", "c", *CLIENT[1:], "--yes"], {NOT_THERE.format("station.bundle"): ""},
