@@ -332,9 +332,14 @@ def fetch_list():
         time.sleep(2)
 
 
+def plain(text):
+    """A text without what steers a terminal: it may have come from a machine that was taken."""
+    return "".join(it if it.isprintable() or it in "\n\t" else "?" for it in text)
+
+
 def tell(text):
     """Tells people something beside the output."""
-    print(text, file=sys.stderr, flush=True)
+    print(plain(text), file=sys.stderr, flush=True)
 
 
 def main(program, doc, options, do, is_for_root=True, passes_on=False):

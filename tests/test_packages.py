@@ -1097,6 +1097,9 @@ for form, text in json.loads((room / "answers").read_text()).items():
     if re.fullmatch(form, " ".join(words)):
         if isinstance(text, int):
             sys.exit(text)
+        if isinstance(text, list):
+            text, told = text
+            print(told, end="", file=sys.stderr)
         print(text, end="")
         sys.exit()
 sys.exit("nothing is known of " + " ".join(words))
@@ -1135,6 +1138,7 @@ class Installing:
         done = run([command, *words], cwd=self.room,
                    env=os.environ | {"PATH": f"{self.room}/bin:{os.environ['PATH']}"})
         said = [json.loads(it) for it in (self.room / "said").read_text().splitlines()]
+        self.printed = done.stdout.decode()
         return done.returncode, done.stderr.decode(), [(*it[1], *([it[2]] if it[2] else [])) for it in said]
 
 
@@ -1194,8 +1198,23 @@ def test_where_the_packages_are(installing, room):
 def test_old_lists_of_packages_are_fetched_again(installing, lists, due):
     """Once: what fails after that has another reason, which is told."""
     status, told, said = installing("station", "s", "--yes", **{".* dpkg .*": f"amd64\n{lists}", INSTALL: 100})
-    assert (1, True) == (status, "apt-get install -y ./vethlumi-station_1.0.0_amd64.deb: env on s failed" in told), told
+    assert (1, True) == (status, "./vethlumi-station_1.0.0_amd64.deb: env on s failed" in told), told
     assert due == [word for it in said for word in ("update", "install") if word in it]
+
+
+def test_what_a_machine_says_steers_no_terminal(installing):
+    """A machine that was taken may say anything."""
+    said = "\x1b[2J\x9b1A\u202e\tyes\n"
+    status, told, _ = installing("station", "s", "--yes", **{".*-setup .*": [f"CA {said}", f"told {said}"]})
+    assert (0, "CA ?[2J?1A?\tyes\n", True) == (status, installing.printed, "\ntold ?[2J?1A?\tyes\n" in told), told
+    status, told, _ = installing("client", *CLIENT_OF, "--yes", **{".* test -e .*": said})
+    assert (1, True) == (status, told.isascii()), told
+
+
+def test_a_set_up_that_fails_on_a_machine_ends_with_1(installing):
+    for ended, due in {7: "vethlumi-station-setup on s ended with status 7", 255: "no connection to root@s"}.items():
+        status, told, _ = installing("station", "s", "--yes", **{".*-setup .*": ended})
+        assert (1, True) == (status, due in told), told
 
 
 @pytest.mark.parametrize("words, form", [

@@ -289,6 +289,33 @@ def test_a_refusal_that_no_office_gives_keeps_the_message(room, alice):
     assert 1 == len(list((room / "home/.local/state/vethlumi").iterdir())), told
 
 
+def on_terminal(client, *words):
+    """What a command of the client prints to a terminal, which ends each line with a carriage return."""
+    terminal, end = pty.openpty()
+    done = subprocess.run(client.words(*words), env=client.environment(), stdin=subprocess.DEVNULL, stdout=end,
+                          stderr=subprocess.PIPE, timeout=60)
+    os.close(end)
+    assert b"" == done.stderr
+    # What it wrote is there at once, and is short.
+    printed = os.read(terminal, 65536)
+    os.close(terminal)
+    return printed.decode()
+
+
+def test_what_came_steers_no_terminal(room):
+    """A file gets the signers as they came."""
+    with Web(response("ana \x1b]0;taken\x07 \x9b2J\n".encode())) as web:
+        client = Client(room / "home", web.url, caller="ana")
+        assert "ana \x1b]0;taken\x07 \x9b2J\n" == client("signers")[1]
+        assert "ana ?]0;taken? ?2J\r\n" == on_terminal(client, "signers")
+
+
+def test_a_reply_that_no_office_gives_steers_no_terminal(room):
+    with Web(response("revoked version \x1b[2J\n".encode())) as web:
+        status, out, _ = Client(room / "home", web.url, caller="ana")("revoke", "web/zoe", "--yes")
+    assert (0, "revoked; the list has version ?\n") == (status, out)
+
+
 @pytest.mark.parametrize("answer", BROKEN.values(), ids=BROKEN)
 @pytest.mark.parametrize("words", ["status", "list", "certs", "show 1", "figures", "revoke 1"])
 def test_a_page_that_no_office_gives_is_no_answer(room, words, answer):

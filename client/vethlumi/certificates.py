@@ -9,7 +9,7 @@ from vethlumi import formats
 from vethlumi.cli import as_json, main, pass_job, put_file, read_text, waiting
 from vethlumi.formats import BadFormat, Certificate
 from vethlumi.office import trying
-from vethlumi.printing import print_fields, print_json, print_table, say
+from vethlumi.printing import print_fields, print_json, print_table, print_text, say
 from vethlumi.settings import NOT_SIGNED
 
 STATES = ("pending", "signed", "revoked")
@@ -30,7 +30,7 @@ def collect(job, kept, serial, key, out):
         put_file(out, line)
         click.echo(f"{out} serial {serial}")
     else:
-        click.echo(line, nl=False)
+        print_text(line)
     kept.drop()
 
 
@@ -100,7 +100,7 @@ def get(job, serial, out):
     if line is None:
         say(f"serial {serial} has no signature yet")
         sys.exit(NOT_SIGNED)
-    put_file(out, line) if out else click.echo(line, nl=False)
+    put_file(out, line) if out else print_text(line)
 
 
 @main.command()

@@ -55,7 +55,8 @@ class Office:
         """The reply to a message of the outbox, as words: `issued 1` is ["issued", "1"]."""
         sender = f"callers/{self.caller}/requests" if self.caller else "requests"
         reply = self.answer("POST", f"/v1/{sender}/{kept.key}", kept.message.encode())
-        return reply.decode("ascii", "replace").split()
+        # A word that would steer a terminal is none.
+        return [it if it.isprintable() else "?" for it in reply.decode("ascii", "replace").split()]
 
     def page(self, path, read):
         """What a page says, by the function that reads its bytes."""

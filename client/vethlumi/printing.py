@@ -18,6 +18,11 @@ def print_json(record):
     click.echo(json.dumps(record, ensure_ascii=False))
 
 
+def print_text(text):
+    """Prints a text that has come from elsewhere: as it is, unless a terminal shows it."""
+    click.echo(plain(text) if sys.stdout.isatty() else text, nl=False)
+
+
 def print_table(columns, rows, empty):
     """Prints rows of texts under columns, or what is said where there is none."""
     if not rows:

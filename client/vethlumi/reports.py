@@ -9,7 +9,7 @@ from vethlumi.certificates import STATES
 from vethlumi.cli import as_json, main, pass_job, put_file, read_text
 from vethlumi.formats import BadFormat, Certificate
 from vethlumi.office import NoAnswer, trying
-from vethlumi.printing import print_fields, print_json, print_table, say
+from vethlumi.printing import print_fields, print_json, print_table, print_text, say
 from vethlumi.refusals import Refused
 from vethlumi.settings import NO_ANSWER, REFUSED
 
@@ -31,11 +31,9 @@ def status(job, as_json):
         "outbox": len(job.outbox.all()),
     }
     if as_json:
-        print_json(record)
-        return
+        return print_json(record)
     print_fields({name: value for name, value in record.items() if name != "cas"})
-    print_table(("CA", "since", "fingerprint"),
-                [(str(it["number"]), it["since"], it["fingerprint"]) for it in record["cas"]], "")
+    print_table(("CA", "since", "fingerprint"), [tuple(map(str, it.values())) for it in record["cas"]], "")
 
 
 @main.command("list")
@@ -49,25 +47,23 @@ def list_(job, out, check, as_json):
     if check:
         is_revoked = found.revokes(Certificate.of_line(read_text(check)))
         print_json({"revoked": is_revoked}) if as_json else click.echo("revoked" if is_revoked else "clear")
-        return
-    if out:
+    elif out:
         put_file(out, data)
         click.echo(f"{out} version {found.version}")
-        return
-    record = found.as_record()
-    if as_json:
-        print_json(record)
-        return
-    print_fields({name: record[name] for name in ("version", "date", "bytes")})
-    for section in record["cas"]:
-        print_fields(section)
+    elif as_json:
+        print_json(found.as_record())
+    else:
+        record = found.as_record()
+        print_fields({name: record[name] for name in ("version", "date", "bytes")})
+        for section in record["cas"]:
+            print_fields(section)
 
 
 @main.command()
 @pass_job
 def signers(job):
     """Print the allowed signers file for ssh-keygen -Y verify."""
-    click.echo(job.office.page("/v1/signers", bytes.decode), nl=False)
+    print_text(job.office.page("/v1/signers", bytes.decode))
 
 
 @main.command("figures")
@@ -98,8 +94,7 @@ def outbox(job, send, drop, as_json):
         found = next((it for it in kept if it.key == drop), None)
         if not found:
             raise BadFormat(f"the outbox has no message {drop}")
-        found.drop()
-        return
+        return found.drop()
     for it in kept:
         line = it.message.partition("\n")[0]
         reply = " ".join(trying(lambda it=it: job.office.post(it), job.ends, say)) if send else ""
