@@ -126,6 +126,16 @@ def test_a_key_is_taken_out_also_if_the_front_is_away(fetch, names, room):
     assert text(B) == of()
 
 
+def test_a_front_that_is_being_restarted_is_asked_again(fetch, room):
+    port = free_port()
+    with concurrent.futures.ThreadPoolExecutor() as pool:
+        fetched = pool.submit(fetch, b"", A, url=f"http://127.0.0.1:{port}")
+        time.sleep(2)
+        with Web(response(body(A)), port=port):
+            assert (0, []) == fetched.result()
+    assert text(A) == of()
+
+
 def test_the_file_is_never_emptied(fetch, names, room):
     (room / "keys").write_text(text(A))
     status, errors = fetch(body(A), B)

@@ -15,7 +15,7 @@ import pytest
 
 from fetching import Web, response, script, shown, small_disk
 from publishing import CA, HIGHEST, LIST, NEWER, OTHER_CA, Signer, is_signed, key_line, krl, section, statement
-from running import EXAMPLES, run
+from running import EXAMPLES, free_port, run
 
 UNSIGNED = ["--unsigned", "--ca", "ca.pub"]
 
@@ -89,6 +89,17 @@ def test_a_newer_list_is_taken(either, web, room):
         assert web.requests[-1].startswith(either.route)
     assert 0o644 == os.stat("list").st_mode & 0o777
     assert either.kept == sorted(it for it in shown() if it.startswith("list"))
+
+
+def test_a_front_that_is_being_restarted_is_asked_again(signer, room):
+    port = free_port()
+    words = ["fetch-list", "--signers", signer.allowed, "--", f"http://127.0.0.1:{port}", "list"]
+    with concurrent.futures.ThreadPoolExecutor() as pool:
+        fetched = pool.submit(script, *words)
+        time.sleep(2)
+        with Web(response(signer.published(LIST)), port=port):
+            assert (0, "") == said_by(fetched.result())
+    assert LIST == (room / "list").read_bytes()
 
 
 def test_its_time_is_that_of_the_last_fetch(either, room):
