@@ -10,7 +10,8 @@ import time
 import pytest
 
 from asking import department, issue, lasting, revoke_serial
-from running import fingerprint, is_revoked, left_out, new_key, run, until
+from blocks import blocks
+from running import TOP, fingerprint, is_revoked, left_out, new_key, run, until
 from stations import new_station
 
 # ---- a copy while the office serves
@@ -113,9 +114,12 @@ def office_with_a_list(sshstation, make_office, room, name):
 
 
 def test_two_lists_that_are_joined_revoke_under_both_cas(sshstation, make_office, room):
+    """By the commands of the page, where both have come."""
     fingerprints = [office_with_a_list(sshstation, make_office, room, name) for name in ("a", "b")]
     assert (True, False) == (is_revoked("a.krl", "a-cert.pub"), is_revoked("b.krl", "a-cert.pub"))
-    run(["sh", "-c", "{ cat a.krl && tail -c +45 b.krl; } >joined.krl"], check=True)
-    shown = run(["ssh-keygen", "-Q", "-l", "-f", "joined.krl"], check=True).stdout.decode()
+    page = blocks((TOP / "docs/GROWING.md").read_text())
+    [lines] = [it.lines for it in page if any("tail -c" in line for line in it.lines)]
+    run(["sh", "-e", "-c", "\n".join(it for it in lines if not it.startswith("fetch-list "))], check=True)
+    shown = run(["ssh-keygen", "-Q", "-l", "-f", "revoked.krl"], check=True).stdout.decode()
     assert fingerprints == re.findall(r"^# CA key .*(SHA256:[^ \n]*)", shown, re.M)
-    assert (True, True) == (is_revoked("joined.krl", "a-cert.pub"), is_revoked("joined.krl", "b-cert.pub"))
+    assert (True, True) == (is_revoked("revoked.krl", "a-cert.pub"), is_revoked("revoked.krl", "b-cert.pub"))

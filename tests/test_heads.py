@@ -37,6 +37,9 @@ TOLD = [
     (b"G@T /v1/krl HTTP/1.1\r\n\r\n", 2, "hopeless"),
     (b"GET /v1/krl HTTP/1.1\r\na b: c\r\n\r\n", 24, "hopeless"),
     (b"GET /v1/krl HTTP/1.1\r\na: b\0c\r\n\r\n", 27, "hopeless"),
+    (b"GET /v1/k\x7frl HTTP/1.1\r\n\r\n", 10, "hopeless"),
+    # At the end of the line 33.
+    (LONG + b"c:d\r\n" * 2 + b"\r\n", 181, "hopeless"),
 ]
 
 

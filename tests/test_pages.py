@@ -65,7 +65,7 @@ ELSEWHERE = {
     "sqlite3 office.db 'PRAGMA integrity_check'":
         Elsewhere("it looks at a copy of an office", "tests/test_growing.py", "PRAGMA integrity_check"),
     "fetch-list --signers a.signers --cacert ca.crt https://a.example.org:8443 a.krl":
-        Elsewhere("it asks two fronts", "tests/test_growing.py", "tail -c +45"),
+        Elsewhere("it asks two fronts", "tests/test_growing.py", "tail -c"),
     "office-restore /var/backups/office/office.db":
         Elsewhere("it wants the units in service", "tests/test_boxes.py", "office-restore"),
     "cat /etc/vethlumi/alert": Elsewhere("it wants the units in service", "tests/test_boxes.py", "etc/vethlumi/alert"),

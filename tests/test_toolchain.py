@@ -65,6 +65,13 @@ def test_another_toolchain_is_found(told, name):
     assert due == [it.partition("(")[0] for it in without_arguments[name]]
 
 
+def test_the_scripts_take_what_is_listed_and_nothing_else():
+    """`share_work`, which older toolchains don't have, is called only where it is."""
+    scripts = [TOP / "build", TOP / "check", *(it for it in (TOP / "tools").iterdir() if it.is_file())]
+    taken = {it for script in scripts for it in re.findall(r"\brt\.((?:rtlib\.)?\w+)", script.read_text())}
+    assert {"share_work"} == taken - {*NAMES, *VALUES.split()}
+
+
 def test_the_stamp_of_a_crate_reads_each_file_once(told):
     """There are thousands of ways from the program down to the lowest crates."""
     files = told[2]
