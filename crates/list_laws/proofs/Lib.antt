@@ -1,0 +1,4 @@
+pub mod Sizes
+pub mod Growing
+pub mod Accounted
+pub mod Jumping
