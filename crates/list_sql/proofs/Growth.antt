@@ -4,7 +4,8 @@ use Rattle.list_sql.proofs.Words.{Result, Row, State, [], list, list_cells, list
 use Rattle.store_sql.proofs.Later.{stops}
 
 -- a table without rows has no structs
-lists_none : {X : Type 0} (cells : X → Row) (places : List ℕ) (rows : List Row) → rows ≡ [] → Lists cells places rows []
+pub lists_none : {X : Type 0} (cells : X → Row) (places : List ℕ) (rows : List Row) → rows ≡ []
+    → Lists cells places rows []
 lists_none cells places rows is = subst (λ rs. Lists cells places rs []) (sym is)
     (record { same = IsPermutation-refl []; apart = tt })
 
