@@ -1,5 +1,5 @@
 -- The result of the write: the rows are those in the table, and the table has room for them.
-use Rattle.std.proofs.Common.{◌≡◌, ◌≢◌, ℕ, ◌<◌, ◌≤◌, ◌^◌, List, [], ◌∷◌, None, Some, Result, IsTrue, inl, inr, ap}
+use Rattle.std.proofs.Common.{◌≡◌, ◌≢◌, ℕ, List, [], ◌∷◌, Result, IsTrue, inl, inr, ap}
 use Rattle.std.proofs.Common.{refl, arith, length, sym, ◌∙◌, Bool, true, false}
 use Rattle.std.specs.Prelude.{◌==◌}
 use Rattle.std.proofs.lemmas.Bool.{eqb-true}
@@ -12,7 +12,6 @@ use Rattle.list_guard.specs.Judged.{IsKeepable}
 use Rattle.list_guard.specs.State.{State, with_last}
 use Rattle.list_sql.specs.Changes.{with_rows}
 use Rattle.list_sql.specs.Contents.{no_contents}
-use Rattle.list_sql.specs.Keeping.{IsFilled}
 use Rattle.list_sql.specs.Refusals.{RefusesList, RefusesNone}
 use Rattle.list_sql.specs.Registering.{Leads}
 use Rattle.list_sql.specs.Rows.{empty_row, list_contents}

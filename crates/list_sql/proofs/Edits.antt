@@ -1,7 +1,7 @@
 -- The structs of one table after INSERT.
 use Rattle.list_sql.proofs.Words.{Applies, Chosen, Enforced, IsPermutation, IsPermutation-cons, IsPermutation-map}
 use Rattle.list_sql.proofs.Words.{IsPermutation-trans, IsTable, IsTable-put_row, List, Lists, Row, Table, Trees, []}
-use Rattle.list_sql.proofs.Words.{at_places, cast_row, edit_of, map, rowid, subst, sym, whole, with_rowid, ℕ, ◌∷◌}
+use Rattle.list_sql.proofs.Words.{at_places, cast_row, edit_of, map, subst, sym, whole, with_rowid, ℕ, ◌∷◌}
 use Rattle.list_sql.proofs.Words.{◌≡◌}
 use Rattle.store_sql.proofs.Rows.{inserted}
 

@@ -1,5 +1,5 @@
 -- Making the table.
-use Rattle.list_sql.proofs.Words.{Completes, Creates, Err, Fault, IsBare, IsPermutation-refl, IsSound, List, Lists, Ok}
+use Rattle.list_sql.proofs.Words.{Completes, Creates, Err, Fault, IsPermutation-refl, IsSound, List, Lists, Ok}
 use Rattle.list_sql.proofs.Words.{Result, Row, State, [], list, list_cells, list_places, no_schema, subst, sym, ℕ, ◌≡◌}
 use Rattle.store_sql.proofs.Later.{stops}
 

@@ -1,5 +1,5 @@
 -- Finding the list in the rows.
-use Rattle.std.proofs.Common.{◌≡◌, List, ◌∷◌, [], Ok, Err, Result, IsTrue, None, sym, subst, refl, ◌∙◌, inl, inr, pos}
+use Rattle.std.proofs.Common.{◌≡◌, List, ◌∷◌, [], Ok, Err, Result, IsTrue, None, sym, subst, ◌∙◌, inl, inr, pos}
 use Rattle.std.proofs.Common.{Bool, Equal, Option, Some, ap, ap₂, false, length, true, ℕ}
 use Rattle.std.proofs.lemmas.Cmp.{tied_itself}
 use Rattle.std.specs.List.Sorted.{IsPermutation}
@@ -33,7 +33,7 @@ use Rattle.list_sql.specs.Transactions.{Has}
 use Rattle.list_sql.proofs.Answering.{has_failed}
 use Rattle.list_sql.proofs.Elsewhere.{list_apart}
 use Rattle.list_sql.proofs.Lookups.{AreApart, in_order}
-use Rattle.list_sql.proofs.Pieces.{list_again}
+use Rattle.list_sql.proofs.PieceLemmas.{list_again}
 use Rattle.list_sql.proofs.Wholes.{rests_still}
 
 -- ---- the rows of a table

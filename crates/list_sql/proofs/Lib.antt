@@ -19,4 +19,4 @@ pub mod Answering
 pub mod Changed
 pub mod Lasts
 pub mod Lookups
-pub mod Pieces
+pub mod PieceLemmas

@@ -1,6 +1,6 @@
 -- What the rows of a table represent, in whatever order they are found.
-use Rattle.std.proofs.Common.{◌≡◌, ◌⊎◌, ◌∷◌, ◌++◌, ◌∙◌, ◌<◌, ◌+◌, ◌≤◌, ℕ, zero, suc, Bool, true, false, List, []}
-use Rattle.std.proofs.Common.{Option, None, Some, Result, Err, Ok, add-one, ap, ap₂, arith, inl, inr, length, refl, sym}
+use Rattle.std.proofs.Common.{◌≡◌, ◌⊎◌, ◌∷◌, ◌++◌, ◌∙◌, ◌<◌, ◌+◌, ℕ, zero, suc, Bool, true, false, List, []}
+use Rattle.std.proofs.Common.{Option, None, Some, Err, add-one, ap, ap₂, arith, inl, inr, length, refl, sym}
 use Rattle.std.specs.Prelude.{find, ◌&&◌, ◌==◌, ◌||◌}
 use Rattle.std.specs.List.{list_all}
 use Rattle.std.specs.List.Sorted.{IsPermutation}
@@ -10,7 +10,6 @@ use Rattle.sqlite_rules.proofs.ListLemmas.{all_from, all_has, test_from, test_ha
 use Rattle.sqlite_rules.specs.Lists.{Has}
 use Rattle.sqlite_trees.proofs.ListLemmas.{all-permutation}
 use Rattle.list_sql.specs.declared.lists.ListRow.{ListRow}
-use Rattle.list_sql.specs.declared.opening_fault.OpeningFault.{OpeningFault}
 use Rattle.list_sql.specs.declared.opening_fault.OpeningFault.TheVariants as fault
 use Rattle.list_sql.specs.Opening.{add_row, has_id, has_schema, is_known, joined, last_in, listed, row_with}
 

@@ -1,7 +1,7 @@
 //! Finding whether a database is a list guard's, and which list the guard approved last.
 
 ghost use Rattle.std.specs.Prelude.{◌≡◌, true, false, length, Err, option_copied};
-ghost use Rattle.std.specs.List.{list_any};
+ghost use Rattle.std.specs.List.{list_all, list_any};
 ghost use Rattle.store_sql.specs.Honest.{On, Outlives, tables_of};
 ghost use Rattle.list_sql.specs.Calls.{Never, OnlyLooks};
 ghost use Rattle.list_sql.specs.Look.{is_list_table};
@@ -68,12 +68,17 @@ fn has_schema(row: &ListRow, schema: u64) -> bool
     row.schema.get() == schema
 }
 
+fn have_schema(rows: &[ListRow], schema: u64) -> bool
+    ensures { result ≡ list_all (has_schema schema) rows.now }
+{
+    rows.iter().all(|row| has_schema(row, schema))
+}
+
 /// Whether all rows have this schema, or there is one row, of the first schema.
 fn are_known(rows: &[ListRow]) -> bool
     ensures { result ≡ is_known rows.now }
 {
-    rows.iter().all(|row| has_schema(row, SCHEMA))
-        || (rows.len() == 1 && rows.iter().all(|row| has_schema(row, FIRST_SCHEMA)))
+    have_schema(rows, SCHEMA) || (rows.len() == 1 && have_schema(rows, FIRST_SCHEMA))
 }
 
 /// The list that the rows of the table represent.

@@ -1,9 +1,11 @@
-use Rattle.std.proofs.Common.{ap, sym, ◌∙◌}
+use Rattle.std.proofs.Common.{◌≡◌, List, ap, subst, sym, ◌∙◌}
 use Rattle.std.specs.List.{list_any}
 use Rattle.std.proofs.lemmas.Bool.{both_ways}
 use Rattle.sqlite.specs.Held.{state}
 use Rattle.sqlite.specs.Schema.{Schema}
+use Rattle.list_sql.specs.declared.lists.ListRow.{ListRow}
 use Rattle.list_sql.specs.Look.{is_list_table, whole_is_list}
+use Rattle.list_sql.specs.Opening.{IsUnlessRefused, last_in}
 use Rattle.list_sql.proofs.Lasts.{found_last, its_rows, not_found, says, says_fault}
 use Rattle.list_sql.proofs.finding.find_last.Goals as goal
 
@@ -19,13 +21,15 @@ returns-then-not-has_list-clause-says g c clean rows has =
 
 pub returns-in-Ok-clause-finds : goal.returns-in-Ok-clause-finds
 returns-in-Ok-clause-finds g c clean =
-    let told = rw c.as_slice.ensures at c.last_in.ensures in
+    let shown : c.as_slice.result.now ≡ c.in-Ok.rows.items = c.as_slice.ensures.value in
+    let told = subst (λ (all : List ListRow). IsUnlessRefused (last_in all) c.last_in.result) shown c.last_in.ensures in
     found_last (state g.S.Store c.args.conn.now) (state g.S.Store c.every_list.new.conn) c.in-Ok.rows.items
     c.last_in.result told (λ d means. c.in-Ok.ensures.finds clean d.lists (its_rows d _ means))
 
 pub returns-in-Ok-clause-says : goal.returns-in-Ok-clause-says
 returns-in-Ok-clause-says g c clean rows has =
-    let told = rw c.as_slice.ensures at c.last_in.ensures in
+    let shown : c.as_slice.result.now ≡ c.in-Ok.rows.items = c.as_slice.ensures.value in
+    let told = subst (λ (all : List ListRow). IsUnlessRefused (last_in all) c.last_in.result) shown c.last_in.ensures in
     says (state g.S.Store c.args.conn.now).now rows c.in-Ok.rows.items _ c.last_in.result has
     (c.in-Ok.ensures.finds clean rows has).1 told
 

@@ -1,4 +1,4 @@
-use Rattle.std.proofs.Common.{◌∙◌, ap, length, subst, sym, true}
+use Rattle.std.proofs.Common.{◌∙◌, ap, length, subst, sym}
 use Rattle.list_sql.specs.Opening.{IsUnlessRefused, joined, listed}
 use Rattle.list_sql.proofs.Lookups.{no_rows, some_length, some_rows}
 use Rattle.list_sql.proofs.finding.last_in.Goals as goal

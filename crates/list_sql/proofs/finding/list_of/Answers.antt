@@ -1,11 +1,8 @@
-use Rattle.std.proofs.Common.{◌≡◌, ◌+◌, ◌∙◌, Ok, Some, ap, arith, length, refl, sym, true}
+use Rattle.std.proofs.Common.{◌≡◌, ◌∙◌, Ok, Some, ap, arith, length, sym, true}
 use Rattle.list_sql.specs.Opening.{joined, listed}
 use Rattle.list_sql.specs.Rows.{list_in}
 use Rattle.list_sql.proofs.Lookups.{joined_more, joined_none}
 use Rattle.list_sql.proofs.finding.list_of.Goals as goal
-
-pub loop-at-init : goal.loop-at-init
-loop-at-init c = ap Some (sym c.new.ensures.items)
 
 pub returns-in-None : goal.returns-in-None
 returns-in-None c = sym (ap (listed true) (joined_none c.args.rows.now c.loop-at.at (length c.args.rows.now)

@@ -1,5 +1,5 @@
 use Rattle.sqlite.specs.Held.{state}
-use Rattle.list_sql.proofs.Pieces.{Written}
+use Rattle.list_sql.proofs.PieceLemmas.{Written}
 use Rattle.list_sql.proofs.keeping.replace.Given as goal
 
 -- the table holds the rows of the pieces before this one

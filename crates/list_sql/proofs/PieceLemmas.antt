@@ -1,5 +1,5 @@
 -- A list in pieces: how its rows are written, and that they represent it.
-use Rattle.std.proofs.Common.{◌≡◌, ◌≢◌, ◌∷◌, ◌++◌, ◌∙◌, ◌<◌, ◌+◌, ◌-◌, ◌*◌, ◌≤◌, ℕ, zero, suc, true, List, [], Option}
+use Rattle.std.proofs.Common.{◌≡◌, ◌≢◌, ◌∷◌, ◌∙◌, ◌<◌, ◌+◌, ◌-◌, ◌*◌, ◌≤◌, ℕ, zero, suc, true, List, [], Option}
 use Rattle.std.proofs.Common.{◌%◌, None, Some, Ok, Err, Result, ap, ap₂, arith, drop, inl, inr, length, map, mod-lt}
 use Rattle.std.proofs.Common.{refl, sym, take, take-add, take_all}
 use Rattle.std.specs.Prelude.{MatchOption}
@@ -19,7 +19,7 @@ use Rattle.list_sql.specs.Changes.{with_list, with_pieces}
 use Rattle.list_sql.specs.Contents.{Contents}
 use Rattle.list_sql.specs.Opening.{add_row, has_schema, is_known, joined, last_in, listed, row_with}
 use Rattle.list_sql.specs.Refusals.{RefusesList, RefusesNone}
-use Rattle.list_sql.specs.Rows.{bytes_of, first_rows, list_in, list_rows, piece_at, piece_count, piece_row, piece_size}
+use Rattle.list_sql.specs.Rows.{bytes_of, first_rows, list_in, list_rows, piece_count, piece_row, piece_size}
 use Rattle.list_sql.specs.Transactions.{Has as HasContents, Part, Waits}
 use Rattle.list_sql.proofs.Causes.{fails_then}
 use Rattle.list_sql.proofs.Lookups.{AreApart, found_is, some_rows}
@@ -135,6 +135,6 @@ list_again last apart filled =
     let list = bytes_of last in
     let many : length (list_rows list) ≡ piece_count (length list) =
     length-map-range_with_len (piece_row list) 0 (piece_count (length list)) in
+    let known : is_known (list_rows list) ≡ true = or_left _ _ (all_new list 0 (piece_count (length list))) in
     some_rows (list_rows list) (omega (arith, many))
-    ∙ ap₂ listed (or_left _ _ (all_new list 0 (piece_count (length list))))
-    (ap (joined (list_rows list)) many ∙ whole_joined list apart) ∙ ap Ok (list_back last filled)
+    ∙ ap₂ listed known (ap (joined (list_rows list)) many ∙ whole_joined list apart) ∙ ap Ok (list_back last filled)
