@@ -1,13 +1,14 @@
 -- The statements on the table of the list, and the causes of a refusal.
 use Rattle.list_sql.proofs.Words.{AllByRecursion, Applies, Blob, Contents, DELETE_LISTS, Database, Delete, Does}
-use Rattle.list_sql.proofs.Words.{EVERY_LIST, Edit, Enforced, FailsBy, Fault, Given, Has, HasRows, Holds, INSERT_LIST, Insert, Int}
-use Rattle.list_sql.proofs.Words.{IsAnswer, IsPermutation, IsPermutation-map, IsPermutation-trans, IsTooLong, List}
-use Rattle.list_sql.proofs.Words.{ListRow, Lists, Means, None, Null, Ok, Option, Program, Query, RefusedFor}
-use Rattle.list_sql.proofs.Words.{RefusesList, RefusesNone, Result, Row, State, Tally, Term, Trees, Values, [], accepts_program, ap}
-use Rattle.list_sql.proofs.Words.{arith, codes, col, column, drop, edit_of, everything, false, filter, id_in, ids_of}
-use Rattle.list_sql.proofs.Words.{inl, inr, is_int, list_at, list_cells, list_places, lit, lt-ltb, map, map-map}
-use Rattle.list_sql.proofs.Words.{overlay, pos, refl, rowid, statement_of, subst, true, understood, whole, with_list}
-use Rattle.list_sql.proofs.Words.{with_tree, without_rows, ℕ, ◌++◌, ◌<◌, ◌^◌, ◌∙◌, ◌∷◌, ◌≡◌}
+use Rattle.list_sql.proofs.Words.{EVERY_LIST, Edit, Enforced, FailsBy, Fault, Given, Has, HasRows, Holds, INSERT_LIST}
+use Rattle.list_sql.proofs.Words.{Insert, Int, IsAnswer, IsPermutation, IsPermutation-map, IsPermutation-trans}
+use Rattle.list_sql.proofs.Words.{IsTooLong, List, ListRow, Lists, Means, None, Null, Ok, Option, Program, Query}
+use Rattle.list_sql.proofs.Words.{RefusedFor, RefusesList, RefusesNone, Result, Row, State, Tally, Term, Trees, Values}
+use Rattle.list_sql.proofs.Words.{[], accepts_program, ap, arith, codes, col, column, drop, edit_of, everything, false}
+use Rattle.list_sql.proofs.Words.{filter, id_in, ids_of, inl, inr, is_int, list_at, list_cells, list_places, lit}
+use Rattle.list_sql.proofs.Words.{lt-ltb, map, map-map, overlay, pos, refl, rowid, statement_of, subst, true}
+use Rattle.list_sql.proofs.Words.{understood, whole, with_list, with_tree, without_rows, ℕ, ◌++◌, ◌<◌, ◌^◌, ◌∙◌, ◌∷◌}
+use Rattle.list_sql.proofs.Words.{◌≡◌}
 use Rattle.std.proofs.lemmas.List.Sorted.{IsPermutation-to_front}
 use Rattle.sqlite_rules.specs.Edit.{edited}
 use Rattle.store_sql.proofs.CallLemmas.{FindIn, IsSelect}
