@@ -58,7 +58,10 @@ class Lists:
     def kept(self):
         """The bytes of the list that is kept; none, where there is no list."""
         with contextlib.closing(sqlite3.connect("lists.db")) as tables:
-            return tables.execute("SELECT bytes FROM list").fetchone()[0] or None
+            rows = tables.execute("SELECT id, schema, bytes FROM list ORDER BY id").fetchall()
+        assert [(it + 1, 2) for it in range(len(rows))] == [row[:2] for row in rows]
+        assert {65536} >= {len(row[2]) for row in rows[:-1]} and len(rows[-1][2]) <= 65536
+        return b"".join(row[2] for row in rows) or None
 
 
 @pytest.fixture
@@ -152,6 +155,46 @@ def test_a_list_may_speak_of_the_cas_that_are_named_alone(lists):
     assert "OtherCa" == lists.judge(both, cas=(0x12,))
 
 
+# ---- long lists
+
+SHORT = published(((0x11, {1}),), set(), 1)
+LONG = published(((0x11, {1, *range(10, 50000, 2)}),), set(), 2)
+SHORTER = header(3) + section(0x11, ranged(1, 100000))
+
+
+@pytest.mark.rows
+def test_a_long_list_is_kept_and_then_a_shorter_one(lists):
+    assert len(SHORTER) < 65536 < 2 * 65536 < len(LONG)
+    for version, content in enumerate((SHORT, LONG, SHORTER), start=1):
+        assert version == lists.judge(content, *["--begin"] * (version == 1))
+        assert content == lists.kept()
+        assert version == lists.judge(content)
+    assert "OlderVersion" == lists.judge(LONG)
+
+
+@pytest.mark.rows
+@pytest.mark.parametrize("first", [SHORT, LONG], ids=["short", "long"])
+def test_a_file_of_schema_1_is_read_and_the_next_list_makes_schema_2(lists, first):
+    """Its list is in one row, however long it is."""
+    assert isinstance(lists.judge(first, "--begin"), int)
+    with contextlib.closing(sqlite3.connect("lists.db")) as tables, tables:
+        tables.execute("DELETE FROM list")
+        tables.execute("INSERT INTO list VALUES (1, 1, ?)", (first,))
+    assert "Forgets" == lists.judge(header(3))
+    assert isinstance(lists.judge(first), int)
+    assert 3 == lists.judge(SHORTER)
+    assert SHORTER == lists.kept()
+
+
+@pytest.mark.rows
+def test_a_file_of_schema_1_without_a_list_is_read(lists):
+    with contextlib.closing(sqlite3.connect("lists.db")) as tables, tables:
+        tables.execute("UPDATE list SET schema = 1")
+    assert "NotBegun" == lists.judge(SHORT)
+    assert 1 == lists.judge(SHORT, "--begin")
+    assert SHORT == lists.kept()
+
+
 # ---- the file, words and faults
 
 @pytest.mark.rows
@@ -193,8 +236,9 @@ def test_faults_are_found_in_their_order(lists, room):
 
 @pytest.mark.rows
 @pytest.mark.parametrize(("change", "fault"), [
-    ("UPDATE list SET schema = 2", "WrongSchema"), ("UPDATE list SET id = 2", "Damaged"),
-    ("DELETE FROM list", "NotAGuard"), ("INSERT INTO list VALUES (2, 1, x'')", "NotAGuard"),
+    ("UPDATE list SET schema = 3", "WrongSchema"), ("UPDATE list SET id = 2", "Damaged"),
+    ("DELETE FROM list", "NotAGuard"), ("INSERT INTO list VALUES (2, 1, x'')", "WrongSchema"),
+    ("INSERT INTO list VALUES (3, 2, x'')", "Damaged"), ("INSERT INTO list VALUES (2, 2, x'00')", "Damaged"),
     ("UPDATE list SET schema = -1", "Damaged"), ("UPDATE list SET bytes = x'00'", "Damaged"),
     ("UPDATE list SET bytes = substr(bytes, 2)", "Damaged"),
     ("ALTER TABLE list RENAME COLUMN bytes TO more", "NotAGuard"), ("DROP TABLE list", "NotAGuard")])

@@ -1,6 +1,6 @@
 -- The effect of the register's write over a table that holds a list guard.
 use Rattle.std.proofs.Common.{◌≡◌, ℕ, true, false, Ok, Err, Option, None, Result, IsTrue}
-use Rattle.std.proofs.Common.{inl, inr, ap, sym, subst, refl, ◌∙◌, arith}
+use Rattle.std.proofs.Common.{inl, inr, ap, sym, subst, ◌∙◌, arith}
 use Rattle.std.specs.Prelude.{is_some}
 use Rattle.std.proofs.lemmas.Bool.{both_ways, cases_Bool}
 use Rattle.sqlite.specs.Tree.{Trees}

@@ -1,9 +1,9 @@
 -- The effects of calls, from the meanings of their texts.
 use Rattle.list_sql.proofs.Words.{Begin, Changes, Command, Commit, CommitsBy, CommitsShowing, Compiled, Contents}
 use Rattle.list_sql.proofs.Words.{Database, Delete, Does, Error, Executes, FailsBy, FailsToQuery, Fault}
-use Rattle.list_sql.proofs.Words.{FoundIn, Global, HasCause, HasCleanDisk, Holds, IfErr}
+use Rattle.list_sql.proofs.Words.{FoundIn, Global, HasCleanDisk, Holds, IfErr}
 use Rattle.list_sql.proofs.Words.{IfOk, Insert, InsertOr, IsDone, IsEachRead}
-use Rattle.list_sql.proofs.Words.{IsWrite, List, Means, None, Ok, OnOk, OnlyReads, Option, Release, Result, Rollback}
+use Rattle.list_sql.proofs.Words.{IsWrite, List, Means, None, Ok, Option, Release, Result, Rollback}
 use Rattle.list_sql.proofs.Words.{RollbackTo, Row, Runs, Shown, State, Survives, Tally, Trees, Update, Vec, Writes}
 use Rattle.list_sql.proofs.Words.{Wrote, ap, command_of, false, inl, inr, is_pragma, is_query, is_select, length}
 use Rattle.list_sql.proofs.Words.{refl, statement_of, subst, sym, understood, whole, ℕ, ◌||◌, ◌∙◌, ◌≡◌, ◌⊎◌}

@@ -1,5 +1,5 @@
--- The result of the write: the row is the one in the table, and the table has room for it.
-use Rattle.std.proofs.Common.{◌≡◌, ◌≢◌, ℕ, ◌<◌, ◌≤◌, ◌^◌, List, [], ◌∷◌, None, Some, Result, IsTrue, inl, inr, ap}
+-- The result of the write: the rows are those in the table, and the table has room for them.
+use Rattle.std.proofs.Common.{◌≡◌, ◌≢◌, ℕ, List, [], ◌∷◌, Result, IsTrue, inl, inr, ap}
 use Rattle.std.proofs.Common.{refl, arith, length, sym, ◌∙◌, Bool, true, false}
 use Rattle.std.specs.Prelude.{◌==◌}
 use Rattle.std.proofs.lemmas.Bool.{eqb-true}
@@ -10,27 +10,22 @@ use Rattle.krl.specs.Contents.{IsPublished}
 use Rattle.krl.specs.Published.{published_text}
 use Rattle.list_guard.specs.Judged.{IsKeepable}
 use Rattle.list_guard.specs.State.{State, with_last}
-use Rattle.list_sql.specs.Changes.{with_bytes}
+use Rattle.list_sql.specs.Changes.{with_rows}
 use Rattle.list_sql.specs.Contents.{no_contents}
-use Rattle.list_sql.specs.Keeping.{IsFilled}
-use Rattle.list_sql.specs.Refusals.{RefusesBytes, RefusesList}
+use Rattle.list_sql.specs.Refusals.{RefusesList, RefusesNone}
 use Rattle.list_sql.specs.Registering.{Leads}
-use Rattle.list_sql.specs.Rows.{list_contents, list_row}
+use Rattle.list_sql.specs.Rows.{empty_row, list_contents}
 use Rattle.list_sql.specs.Told.{told}
 use Rattle.list_sql.specs.Transactions.{Whole}
 use Rattle.store_sql.specs.declared.table_fault.Fault.{Fault}
 use Rattle.list_sql.proofs.Answering.{leads_whole}
 
-bytes_same : (list : List ℕ) (s : State) → with_bytes list (list_contents s) ≡ list_contents (with_last list)
-bytes_same list s = refl
-
-bytes_fit : (list : List ℕ) (s : State) → IsKeepable list → RefusesBytes list (list_contents s) → ⊥
-bytes_fit list s room (x, inl same, (one, long)) = let short = room.1 in omega (arith, long, short)
-bytes_fit list s room (x, inr none, why) = absurd none
+rows_same : (list : List ℕ) (s : State) → with_rows list (list_contents s) ≡ list_contents (with_last list)
+rows_same list s = refl
 
 -- ---- the row of a new list guard
 
-pub opening_fits : RefusesList (list_row None) no_contents → ⊥
+pub opening_fits : RefusesList empty_row no_contents → ⊥
 opening_fits (inl (x, none, same)) = none
 opening_fits (inr long) = omega (arith, long)
 
@@ -54,8 +49,7 @@ some_there list b is h none = clash b (is ∙ ap (λ (l : List ℕ). length l ==
 pub list_kept : (old new : Connection)
     → ((trees : Trees) → IsTrue new.is_open → new.may_leave trees → trees ≡ new.committed.trees)
     → (r : Result (Unit {0}) Fault) (list : List ℕ) → list ≢ []
-    → Whole (with_bytes list) (RefusesBytes list) old new r
+    → Whole (with_rows list) RefusesNone old new r
     → Leads (IsKeepable list) (with_last list) old new (told (λ x. x) r)
-list_kept old new settled r list some =
-    leads_whole (IsKeepable list) (with_last list) (with_bytes list) (RefusesBytes list) some (bytes_same list)
-    (bytes_fit list) old new settled r
+list_kept old new settled r list some = leads_whole (IsKeepable list) (with_last list) (with_rows list) RefusesNone some
+    (rows_same list) (λ s room never. never) old new settled r

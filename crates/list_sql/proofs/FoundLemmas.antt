@@ -1,10 +1,10 @@
 -- From the meaning of a text to the effect of a call.
-use Rattle.list_sql.proofs.Words.{Changes, Command, CommitsBy, Contents, Database, Does, Err, Error, Executes, Fault}
+use Rattle.list_sql.proofs.Words.{Changes, Command, CommitsBy, Contents, Database, Does, Err, Error, Executes}
 use Rattle.list_sql.proofs.Words.{Holds, IsPlain, IsSound}
-use Rattle.list_sql.proofs.Words.{IsWrite, Kept, List, MayLeave, Means, None, Ok, Option, Result, Row, Runs, Some}
-use Rattle.list_sql.proofs.Words.{State, Tally, Trees, Writes, ap, arith, command_of, inl, refl, runs_as}
+use Rattle.list_sql.proofs.Words.{IsWrite, Kept, List, MayLeave, Means, None, Ok, Option, Result, Row, Runs}
+use Rattle.list_sql.proofs.Words.{State, Tally, Trees, Writes, command_of, runs_as}
 use Rattle.list_sql.proofs.Words.{statement_of, subst, sym}
-use Rattle.list_sql.proofs.Words.{understood, whole, ℕ, ◌∙◌, ◌∷◌, ◌≡◌}
+use Rattle.list_sql.proofs.Words.{understood, whole, ℕ, ◌≡◌}
 use Rattle.store_sql.proofs.Statements.{mode, stopped, commits_as}
 
 -- a text that is a write, by the effect of its command

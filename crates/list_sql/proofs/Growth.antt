@@ -1,10 +1,11 @@
 -- Making the table.
-use Rattle.list_sql.proofs.Words.{Completes, Creates, Err, Fault, IsBare, IsPermutation-refl, IsSound, List, Lists, Ok}
+use Rattle.list_sql.proofs.Words.{Completes, Creates, Err, Fault, IsPermutation-refl, IsSound, List, Lists, Ok}
 use Rattle.list_sql.proofs.Words.{Result, Row, State, [], list, list_cells, list_places, no_schema, subst, sym, ℕ, ◌≡◌}
 use Rattle.store_sql.proofs.Later.{stops}
 
 -- a table without rows has no structs
-lists_none : {X : Type 0} (cells : X → Row) (places : List ℕ) (rows : List Row) → rows ≡ [] → Lists cells places rows []
+pub lists_none : {X : Type 0} (cells : X → Row) (places : List ℕ) (rows : List Row) → rows ≡ []
+    → Lists cells places rows []
 lists_none cells places rows is = subst (λ rs. Lists cells places rs []) (sym is)
     (record { same = IsPermutation-refl []; apart = tt })
 

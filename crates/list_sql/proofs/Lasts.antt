@@ -1,13 +1,18 @@
--- Finding the list in the row.
-use Rattle.std.proofs.Common.{◌≡◌, ◌≢◌, List, [], ◌∷◌, Ok, Err, Result, IsTrue, None, sym, subst, refl, ◌∙◌, inl, inr}
-use Rattle.std.proofs.Common.{Bool, Option, Some, ap, arith, false, true, ℕ}
-use Rattle.std.proofs.lemmas.List.Sorted.{length_permutation}
+-- Finding the list in the rows.
+use Rattle.std.proofs.Common.{◌≡◌, List, ◌∷◌, [], Ok, Err, Result, IsTrue, None, sym, subst, ◌∙◌, inl, inr, pos}
+use Rattle.std.proofs.Common.{Bool, Equal, Option, Some, ap, ap₂, false, length, true, ℕ}
+use Rattle.std.proofs.lemmas.Cmp.{tied_itself}
 use Rattle.std.specs.List.Sorted.{IsPermutation}
-use Rattle.std.specs.Prelude.{MatchOption, if◌then◌else◌, ◌==◌}
 use Rattle.sqlite.specs.Effect.{Database}
-use Rattle.sqlite.specs.Tree.{Trees}
+use Rattle.sqlite.specs.Order.{Row, column}
+use Rattle.sqlite.specs.Tree.{Trees, rowid}
 use Rattle.sqlite.specs.State.{State as Connection, IsUnchanged, Survives}
-use Rattle.store_sql.proofs.NumberUpdates.{sole, void}
+use Rattle.sqlite.specs.declared.types.Value.TheVariants.{Int}
+use Rattle.sqlite_rules.proofs.PlaceLemmas.{tied_same}
+use Rattle.sqlite_value.proofs.OrderLemmas.{value_cmp_total}
+use Rattle.sqlite_value.specs.Order.{value_cmp}
+use Rattle.store_sql.proofs.Edits.{of_row}
+use Rattle.store_sql.specs.Contents.{Lists, at_places}
 use Rattle.store_sql.specs.Faults.{HasCause, HasFailed as SqlFailed}
 use Rattle.store_sql.specs.declared.table_fault.Fault.{Fault}
 use Rattle.store_sql.specs.declared.table_fault.Fault.TheVariants.{Damaged, Device, NoMemory}
@@ -16,48 +21,60 @@ use Rattle.list_sql.specs.declared.lists.ListRow.{ListRow}
 use Rattle.list_sql.specs.declared.opening_fault.OpeningFault.{OpeningFault}
 use Rattle.list_sql.specs.declared.opening_fault.OpeningFault.TheVariants as fault
 use Rattle.list_sql.specs.Calls.{Fails, Never}
-use Rattle.list_sql.specs.Contents.{Contents, HasRows, Kept, Means}
+use Rattle.list_sql.specs.Cells.{list_cells}
+use Rattle.list_sql.specs.Contents.{Contents, HasRows, Kept, Means, list_places}
 use Rattle.list_sql.specs.Keeping.{HasList, IsFilled, Stores}
-use Rattle.list_sql.specs.Opening.{FindsLast, IsExcused, Misses, Says, last_in, list_with}
+use Rattle.list_sql.specs.Opening.{FindsLast, IsExcused, IsUnlessRefused, Misses, Says, is_known, joined, last_in}
+use Rattle.list_sql.specs.Opening.{listed}
 use Rattle.list_sql.specs.Refusals.{HasCauseOr}
-use Rattle.list_sql.specs.Rows.{list_contents, list_in, list_row}
+use Rattle.list_sql.specs.Rows.{bytes_of, list_contents, list_rows}
 use Rattle.list_sql.specs.Told.{opening_fault}
 use Rattle.list_sql.specs.Transactions.{Has}
 use Rattle.list_sql.proofs.Answering.{has_failed}
+use Rattle.list_sql.proofs.Elsewhere.{list_apart}
+use Rattle.list_sql.proofs.Lookups.{AreApart, in_order}
+use Rattle.list_sql.proofs.PieceLemmas.{list_again}
 use Rattle.list_sql.proofs.Wholes.{rests_still}
 
--- a list that was written is read
-list_again : (last : Option (List ℕ)) → MatchOption last (Unit {0}) (λ list. list ≢ [])
-    → last_in (list_row last ∷ []) ≡ Ok last
-list_again None filled = refl
-list_again (Some []) filled = absurd (filled refl)
-list_again (Some (b ∷ bytes)) filled = refl
+-- ---- the rows of a table
+
+-- no two rows of a table have the same id
+ids_apart : (rows : List Row) (xs : List ListRow) → Lists list_cells list_places rows xs → AreApart xs
+ids_apart rows xs h x y here there equal =
+    let r = of_row list_cells list_places rows xs x h here in
+    let s = of_row list_cells list_places rows xs y h there in
+    let first : rowid r.0 ≡ Int (pos x.id) = ap (λ v. column v 0) r.2 in
+    let second : rowid s.0 ≡ Int (pos x.id) = ap (λ v. column v 0) s.2 ∙ ap (λ n. Int (pos n)) (sym equal) in
+    let tie : value_cmp (rowid r.0) (rowid s.0) ≡ Equal =
+    ap₂ value_cmp first second ∙ tied_itself value_cmp_total (Int (pos x.id)) in
+    let same : r.0 ≡ s.0 = tied_same rows r.0 s.0 h.apart r.1 s.1 tie in
+    list_apart x y (sym r.2 ∙ ap (at_places list_places) same ∙ s.2)
 
 -- so the rows of a list guard represent its list
-said : (s : State) (rows : List ListRow) (r : Result (Option (List ℕ)) OpeningFault) → IsFilled s
-    → IsPermutation (list_row s.last ∷ []) rows → r ≡ last_in rows → r ≡ Ok s.last
-said s rows r filled same told =
-    told ∙ subst (λ l. last_in l ≡ Ok s.last) (sym (sole (list_row s.last) rows same)) (list_again s.last filled)
+said : (s : State) (db : Database) (rows : List ListRow) (r : Result (Option (List ℕ)) OpeningFault) → IsFilled s
+    → Means db (list_contents s) → IsPermutation (list_rows (bytes_of s.last)) rows → r ≡ last_in rows → r ≡ Ok s.last
+said s db rows r filled means same told =
+    let apart = ids_apart (db.trees 0) (list_rows (bytes_of s.last)) means.kept.holds.lists in
+    told ∙ sym (in_order (list_rows (bytes_of s.last)) rows apart same) ∙ list_again s.last apart filled
 
 pub found_last : (old new : Connection) (rows : List ListRow) (r : Result (Option (List ℕ)) OpeningFault)
-    → r ≡ last_in rows → ((c : Contents) → Means old.now c → IsUnchanged old new × IsPermutation c.lists rows)
-    → FindsLast old new r
+    → IsUnlessRefused (last_in rows) r
+    → ((c : Contents) → Means old.now c → IsUnchanged old new × IsPermutation c.lists rows) → FindsLast old new r
 found_last old new rows (Ok last) told finds = λ s filled means.
     let it = finds (list_contents s) means in
-    let same = said s rows (Ok last) filled it.1 told in
+    let same = said s old.now rows (Ok last) filled means it.1 told in
     (cc, it.0)
-found_last old new rows (Err fault.NoMemory) told finds = λ s filled means.
-    let same = said s rows (Err fault.NoMemory) filled (finds (list_contents s) means).1 told in absurd cc
+found_last old new rows (Err fault.NoMemory) told finds = λ s filled means. inl (finds (list_contents s) means).0
 found_last old new rows (Err fault.Device) told finds = λ s filled means.
-    let same = said s rows (Err fault.Device) filled (finds (list_contents s) means).1 told in absurd cc
+    let same = said s old.now rows (Err fault.Device) filled means (finds (list_contents s) means).1 told in absurd cc
 found_last old new rows (Err fault.Damaged) told finds = λ s filled means.
-    let same = said s rows (Err fault.Damaged) filled (finds (list_contents s) means).1 told in cc
+    let same = said s old.now rows (Err fault.Damaged) filled means (finds (list_contents s) means).1 told in cc
 found_last old new rows (Err fault.AlreadyAGuard) told finds = λ s filled means.
-    let same = said s rows (Err fault.AlreadyAGuard) filled (finds (list_contents s) means).1 told in cc
+    let same = said s old.now rows (Err fault.AlreadyAGuard) filled means (finds (list_contents s) means).1 told in cc
 found_last old new rows (Err fault.NotAGuard) told finds = λ s filled means.
-    let same = said s rows (Err fault.NotAGuard) filled (finds (list_contents s) means).1 told in cc
+    let same = said s old.now rows (Err fault.NotAGuard) filled means (finds (list_contents s) means).1 told in cc
 found_last old new rows (Err fault.WrongSchema) told finds = λ s filled means.
-    let same = said s rows (Err fault.WrongSchema) filled (finds (list_contents s) means).1 told in cc
+    let same = said s old.now rows (Err fault.WrongSchema) filled means (finds (list_contents s) means).1 told in cc
 
 pub not_found : (old new : Connection) (f : Fault) → ((c : Contents) → Means old.now c → Fails old new)
     → ((c : Contents) → Means old.now c → HasCause old new f) → FindsLast old new (Err (opening_fault f))
@@ -114,49 +131,36 @@ missed old new fault.WrongSchema unlimited finds = λ s filled has. absurd (find
 
 -- ---- the meaning of any rows
 
--- rows never represent lack of memory or a failure
+-- rows never represent a failure
 abbrev IsOfRows : Result (Option (List ℕ)) OpeningFault → Type 0
-IsOfRows (Ok last) = Unit {0}
-IsOfRows (Err fault.NoMemory) = ⊥
 IsOfRows (Err fault.Device) = ⊥
-IsOfRows (Err e) = Unit {0}
+IsOfRows r = Unit {0}
 
-of_id : (row : ListRow) (b : Bool) → IsOfRows (if b then Ok (list_in row.bytes) else Err fault.Damaged)
-of_id row true = tt
-of_id row false = tt
-
-of_schema : (row : ListRow) (b : Bool) → IsOfRows (if b then list_with row else Err fault.WrongSchema)
-of_schema row true = of_id row (row.id == 1)
-of_schema row false = tt
+of_listed : (known : Bool) (bytes : Option (List ℕ)) → IsOfRows (listed known bytes)
+of_listed false bytes = tt
+of_listed true None = tt
+of_listed true (Some bytes) = tt
 
 of_rows : (rows : List ListRow) → IsOfRows (last_in rows)
 of_rows [] = tt
-of_rows (row ∷ []) = of_schema row (row.schema == 1)
-of_rows (row ∷ other ∷ rows) = tt
+of_rows (row ∷ rows) = of_listed (is_known (row ∷ rows)) (joined (row ∷ rows) (length (row ∷ rows)))
 
-says_of : (rows : List ListRow) (failed : Type 0) (r : Result (Option (List ℕ)) OpeningFault) → IsOfRows r
-    → last_in rows ≡ r → Says rows failed r
-says_of rows failed (Ok last) of is = is
-says_of rows failed (Err fault.NoMemory) of is = tt
-says_of rows failed (Err fault.Device) of is = absurd of
-says_of rows failed (Err fault.Damaged) of is = is
-says_of rows failed (Err fault.AlreadyAGuard) of is = is
-says_of rows failed (Err fault.NotAGuard) of is = is
-says_of rows failed (Err fault.WrongSchema) of is = is
+says_of : (rows : List ListRow) (failed : Type 0) (r : Result (Option (List ℕ)) OpeningFault) → IsOfRows (last_in rows)
+    → IsUnlessRefused (last_in rows) r → Says rows failed r
+says_of rows failed (Ok last) of told = sym told
+says_of rows failed (Err fault.NoMemory) of told = tt
+says_of rows failed (Err fault.Device) of told = absurd (subst IsOfRows (sym told) of)
+says_of rows failed (Err fault.Damaged) of told = sym told
+says_of rows failed (Err fault.AlreadyAGuard) of told = sym told
+says_of rows failed (Err fault.NotAGuard) of told = sym told
+says_of rows failed (Err fault.WrongSchema) of told = sym told
 
 -- the order of the rows doesn't matter
-in_order : (xs ys : List ListRow) → IsPermutation xs ys → last_in xs ≡ last_in ys
-in_order [] ys same = ap last_in (sym (void ys same))
-in_order (x ∷ []) ys same = ap last_in (sym (sole x ys same))
-in_order (x ∷ w ∷ xs) [] same = absurd (let many = length_permutation _ _ same in omega (arith, many))
-in_order (x ∷ w ∷ xs) (y ∷ []) same = absurd (let many = length_permutation _ _ same in omega (arith, many))
-in_order (x ∷ w ∷ xs) (y ∷ z ∷ ys) same = refl
-
-pub says : (xs rows : List ListRow) (failed : Type 0) (r : Result (Option (List ℕ)) OpeningFault)
-    → IsPermutation xs rows → r ≡ last_in rows → Says xs failed r
-says xs rows failed r same told =
-    let is = in_order xs rows same ∙ sym told in
-    says_of xs failed r (subst IsOfRows is (of_rows xs)) is
+pub says : (db : Database) (xs rows : List ListRow) (failed : Type 0) (r : Result (Option (List ℕ)) OpeningFault)
+    → HasRows xs db → IsPermutation xs rows → IsUnlessRefused (last_in rows) r → Says xs failed r
+says db xs rows failed r has same told =
+    let ordered = in_order xs rows (ids_apart (db.trees 0) xs has.holds) same in
+    says_of xs failed r (of_rows xs) (subst (λ due. IsUnlessRefused due r) (sym ordered) told)
 
 pub says_fault : (rows : List ListRow) (old new : Connection) (f : Fault) → HasCause old new f
     → Says rows (SqlFailed old new) (Err (opening_fault f))

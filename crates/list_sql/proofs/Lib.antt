@@ -9,7 +9,7 @@ pub mod ListTable
 pub mod Inserts
 pub mod KindLemmas
 pub mod Makes
-pub mod NumberUpdates
+pub mod Removals
 pub mod Reasons
 pub mod Steps
 pub mod TransactionParts
@@ -18,3 +18,5 @@ pub mod Wholes
 pub mod Answering
 pub mod Changed
 pub mod Lasts
+pub mod Lookups
+pub mod PieceLemmas

@@ -1,24 +1,34 @@
 -- The statements on the table of the list, and the causes of a refusal.
-use Rattle.list_sql.proofs.Words.{AllByRecursion, Binary, Blob, Compare, Database, EVERY_LIST, Eq, FILL_LIST, FailsBy}
-use Rattle.list_sql.proofs.Words.{Fault, HasRows, Holds, INSERT_LIST, Insert, Int, IsTooLong, List, ListRow, Lists, Null}
-use Rattle.list_sql.proofs.Words.{RefusedFor, RefusesBytes, RefusesList, Result, Row, State, Term, Trees, Update, Values}
-use Rattle.list_sql.proofs.Words.{[], ap, arith, codes, col, column, drop, everything, filled_with, inl, inr, list_at}
-use Rattle.list_sql.proofs.Words.{list_cells, list_places, lit, lt-ltb, op2, pos, refl, true, whole, with_bytes}
-use Rattle.list_sql.proofs.Words.{with_list, ℕ, ◌<◌, ◌^◌, ◌∷◌, ◌≡◌}
+use Rattle.list_sql.proofs.Words.{AllByRecursion, Applies, Blob, Contents, DELETE_LISTS, Database, Delete, Does}
+use Rattle.list_sql.proofs.Words.{EVERY_LIST, Edit, Enforced, FailsBy, Fault, Given, Has, HasRows, Holds, INSERT_LIST}
+use Rattle.list_sql.proofs.Words.{Insert, Int, IsAnswer, IsPermutation, IsPermutation-map, IsPermutation-trans}
+use Rattle.list_sql.proofs.Words.{IsTooLong, List, ListRow, Lists, Means, None, Null, Ok, Option, Program, Query}
+use Rattle.list_sql.proofs.Words.{RefusedFor, RefusesList, RefusesNone, Result, Row, State, Tally, Term, Trees, Values}
+use Rattle.list_sql.proofs.Words.{[], accepts_program, ap, arith, codes, col, column, drop, edit_of, everything, false}
+use Rattle.list_sql.proofs.Words.{filter, id_in, ids_of, inl, inr, is_int, list_at, list_cells, list_places, lit}
+use Rattle.list_sql.proofs.Words.{lt-ltb, map, map-map, overlay, pos, refl, rowid, statement_of, subst, true}
+use Rattle.list_sql.proofs.Words.{understood, whole, with_list, with_tree, without_rows, ℕ, ◌++◌, ◌<◌, ◌^◌, ◌∙◌, ◌∷◌}
+use Rattle.list_sql.proofs.Words.{◌≡◌}
+use Rattle.std.proofs.lemmas.List.Sorted.{IsPermutation-to_front}
+use Rattle.sqlite_rules.specs.Edit.{edited}
 use Rattle.store_sql.proofs.CallLemmas.{FindIn, IsSelect}
-use Rattle.store_sql.proofs.Edits.{keep_all}
-use Rattle.store_sql.proofs.Queries.{on_table}
+use Rattle.store_sql.proofs.Edits.{keep_all, left_is, of_record}
+use Rattle.store_sql.proofs.FaultLemmas.{none_overflows}
+use Rattle.store_sql.proofs.Queries.{on_table, selected}
 use Rattle.store_sql.proofs.Reasons.{is_exact, never, size, storable}
 use Rattle.store_sql.proofs.Rows.{cast_int, cast_null}
 use Rattle.store_sql.proofs.Selects.{IsTreeOf, select}
+use Rattle.store_sql.proofs.Statements.{deletes, mode}
+use Rattle.store_sql.proofs.Stops.{delete_halts}
 use Rattle.store_sql.proofs.Texts.{query, statement}
 use Rattle.store_sql.proofs.Inserts.{taken_number}
 use Rattle.list_sql.proofs.CallLemmas.{Write}
 use Rattle.list_sql.proofs.Elsewhere.{in_list, list_apart}
-use Rattle.list_sql.proofs.FaultLemmas.{HasWriteCause, IsStatement}
-use Rattle.list_sql.proofs.Inserts.{IsInsert, insert, insert_fails}
-use Rattle.list_sql.proofs.NumberUpdates.{IsUpdate, update, update_fails}
+use Rattle.list_sql.proofs.FaultLemmas.{HasWriteCause, IsStatement, Stops, refused_for}
+use Rattle.list_sql.proofs.Growth.{lists_none}
+use Rattle.list_sql.proofs.Inserts.{IsInsert, all_refer, insert, insert_fails, no_works}
 use Rattle.list_sql.proofs.Reasons.{IsPut, unclashed}
+use Rattle.list_sql.proofs.Removals.{keys_hold, removal_halts}
 
 pub tree : IsTreeOf Holds list_cells list_places 0 (λ c. c.lists)
 tree = record { stored = λ trees. refl; held = λ trees c h. h.lists; apart = list_apart }
@@ -30,6 +40,15 @@ terms = col 0 0 ∷ lit Null ∷ col 0 1 ∷ col 0 2 ∷ []
 
 abbrev pub row_of : ListRow → Row
 row_of x = Int (pos x.id) ∷ Null ∷ Int (pos x.schema) ∷ Blob x.bytes ∷ []
+
+-- the order of the structs doesn't matter
+at_end : (rows : List Row) (x : ListRow) (xs : List ListRow) → Lists list_cells list_places rows (x ∷ xs)
+    → Lists list_cells list_places rows (xs ++ x ∷ [])
+at_end rows x xs h = record {
+  same = IsPermutation-trans _ _ _
+      (IsPermutation-map list_cells (xs ++ x ∷ []) (x ∷ xs) (IsPermutation-to_front xs x)) h.same;
+  apart = h.apart;
+}
 
 insert_is : IsStatement INSERT_LIST.now (Insert 0 (Values terms 4)) 3
 unfolding everything
@@ -44,7 +63,7 @@ puts = record {
   source = row_of;
   sourced = λ x. (refl, refl);
   made = λ x rows. (simp (cast_int, cast_null), refl);
-  held = λ x db after c h o put. in_list db after c h (x ∷ c.lists) o;
+  held = λ x db after c h o put now. in_list db after c h (c.lists ++ x ∷ []) o (at_end (after 0) x c.lists now);
 }
 
 pub put : (x : ListRow) → Write INSERT_LIST.now (list_cells x) (with_list x)
@@ -75,42 +94,71 @@ every = select its_rows every_is (λ x. true) (λ v. true) (λ v. column v 0 ∷
 pub known : (rows : List ListRow) (db : Database) → HasRows rows db → (db.schema ≡ whole) × Rows db.trees rows
 known rows db has = (has.schema, has.holds)
 
--- ---- UPDATE of the bytes
+-- ---- DELETE of all
 
-abbrev pub fill_test : List Term
-fill_test = op2 (Compare Eq Binary) (col 1 0) (lit (Int (pos 1))) ∷ []
+abbrev every_row : Query
+every_row = on_table 0 [] (col 1 0 ∷ []) []
 
-abbrev pub fill_project : List Term
-fill_project = col 1 0 ∷ col 1 0 ∷ lit Null ∷ col 1 2 ∷ col 0 0 ∷ []
+abbrev removal : Program
+removal = record { lets = []; body = every_row }
 
-fill_is : IsStatement FILL_LIST.now (Update 0 (record { lets = []; body = on_table 0 fill_test fill_project [] })) 1
+delete_is : IsStatement DELETE_LISTS.now (Delete 0 removal) 0
 unfolding everything
-fill_is = statement whole FILL_LIST.now _ 1 refl refl
+delete_is = statement whole DELETE_LISTS.now _ 0 refl refl
 
-module _ (bytes : List ℕ) where
-  abbrev pub fill_params : Row
-  fill_params = Blob bytes ∷ []
+none_left : (rows : List Row) → filter (λ (r : Row). false) rows ≡ []
+none_left [] = refl
+none_left (r ∷ rows) = none_left rows
 
-  abbrev fill_row : Row → Row
-  fill_row v = column v 0 ∷ Null ∷ column v 1 ∷ Blob bytes ∷ []
+left_rows : (db after : Trees) (c : Contents) (rows : List Row) → Holds db c
+    → IsAnswer every_row (overlay db []) [] rows
+    → Applies whole Enforced db (edit_of db list_at (ids_of rows) Given 0 []) after
+    → Lists list_cells list_places (after 0) []
+left_rows db after c rows h answer did =
+    let all = selected 0 [] (col 1 0 ∷ []) [] db [] rows refl answer in
+    let ids : IsPermutation (map (λ r. id_in (rowid r)) (filter (λ (r : Row). true) (db 0))) (ids_of rows) =
+    subst (λ l. IsPermutation l (ids_of rows))
+    (map-map (λ r. id_in (rowid r)) (λ r. column r 0 ∷ []) (filter (λ (r : Row). true) (db 0)))
+    (IsPermutation-map (λ r. id_in (rowid r)) _ _ all) in
+    let ints = λ (r : Row) (here : Has (db 0) r).
+    let it = of_record list_cells list_places (db 0) c.lists r h.lists here in
+    let id : column r 0 ≡ Int (pos it.0.id) = ap (λ v. column v 0) it.2 in ap is_int id in
+    let left : after 0 ≡ filter (λ (r : Row). false) (db 0) = did.rows
+    ∙ left_is (λ (r : Row). true) (db 0) h.lists.apart ints (ids_of rows) ids in
+    lists_none list_cells list_places (after 0) (left ∙ none_left (db 0))
 
-  pub fills : IsUpdate FILL_LIST.now fill_params list_cells list_places 0 list_at fill_test fill_project
-      (λ c. c.lists) (with_bytes bytes) (λ x. x.id) 1 (filled_with bytes) row_of
-  fills = record {
-    tree = tree;
-    found = refl;
-    is = fill_is;
-    typed = refl;
-    next = fill_row;
-    change = λ v. column v 0 ∷ column v 1 ∷ Blob bytes ∷ [];
-    on_row = λ r. (refl, refl, refl);
-    on_struct = λ x. (refl, refl, refl);
-    made = λ x. simp (cast_int, cast_null);
-    held = λ db next c h o. in_list db next c h _ o;
-  }
+delete_does : (limit : Option ℕ) (db next : Database) (tally : Tally) (c : Contents) → Means db c
+    → Does limit mode [] db (statement_of DELETE_LISTS.now (understood whole DELETE_LISTS.now)) None (Delete 0 removal)
+    (Ok (tally, next)) → (next.schema ≡ whole) × Holds next.trees (without_rows c)
+delete_does limit db next tally c means h =
+    let did = deletes limit db next tally whole means.schema 0 list_at refl []
+    (statement_of DELETE_LISTS.now (understood whole DELETE_LISTS.now)) removal h (no_works 0) in (
+      did.3,
+      in_list db.trees next.trees c means.kept.holds [] did.2.tables
+          (left_rows db.trees next.trees c did.0 means.kept.holds (did.1.answer Null) did.2),
+    )
 
-  pub filled : Write FILL_LIST.now fill_params (with_bytes bytes)
-  filled = update fills
+pub delete : Write DELETE_LISTS.now [] without_rows
+delete = record { command = Delete 0 removal; is = delete_is; on_rows = tt; does = delete_does }
+
+delete_typed : accepts_program whole [] every_row [] ≡ true
+delete_typed = refl
+
+-- it is never refused
+unrefused : (s : State) (c : Contents) → Means s.now c → Stops DELETE_LISTS.now [] (Delete 0 removal) s → ⊥
+unrefused s c means stops =
+    let db = s.now.trees in
+    let kept = delete_halts s.now whole means.schema 0 list_at refl []
+    (statement_of DELETE_LISTS.now (understood whole DELETE_LISTS.now)) (no_works 0) removal delete_typed
+    (λ h. elim h [ inl over ↦ over | inr fold ↦ none_overflows _ fold ]) stops.0 stops.1 in
+    let edit : Edit = record { table = list_at; gone = ids_of kept.0; news = [] } in
+    removal_halts db list_at (ids_of kept.0) (inl refl) (keys_hold (with_tree db 0 (edited db edit)))
+    (λ next did. all_refer next) kept.2
+
+pub delete_fails : {X : Type 0} (old new : State) (r : Result X Fault)
+    → FailsBy (HasWriteCause DELETE_LISTS.now []) old new r → RefusedFor RefusesNone old new r
+delete_fails old new r h =
+    refused_for DELETE_LISTS.now [] (Delete 0 removal) delete_is.0 delete_is.2 RefusesNone unrefused old new r h
 
 -- ---- why a row is refused
 
@@ -135,8 +183,3 @@ list_fails x below = insert_fails puts x (RefusesList x) (λ s. is_put x)
     (λ s c means taken. inl (taken_number (λ y. y.id) x.id (drop 1 (row_of x)) (λ y r is. ap (λ v. column v 0) is)
     means.kept.holds.lists taken)) (λ s c means clash. absurd (unclashed s.now.trees list_at [] (row_of x) tt clash))
     (λ s c long. inr (list_long x long))
-
-pub bytes_fail : {X : Type 0} (bytes : List ℕ) (old new : State) (r : Result X Fault)
-    → FailsBy (HasWriteCause FILL_LIST.now (fill_params bytes)) old new r → RefusedFor (RefusesBytes bytes) old new r
-bytes_fail bytes =
-    update_fails (fills bytes) (inl refl) refl (λ x. refl) (λ x. refl) list_long tt is_put

@@ -5,12 +5,9 @@ use Rattle.sqlite.proofs.StateLemmas.{survives_weaker}
 use Rattle.store_sql.specs.declared.table_fault.Fault.{Fault}
 use Rattle.list_sql.specs.Calls.{Begins, Fails, FailsWhere}
 use Rattle.list_sql.specs.Contents.{Contents}
-use Rattle.list_sql.specs.Refusals.{RefusedFor}
-use Rattle.list_sql.specs.Statements.{Wrote}
-use Rattle.list_sql.specs.Transactions.{Concludes, EndsFor, Has, LeavesAnswered, Rests, Waits, Whole}
+use Rattle.list_sql.specs.Transactions.{Concludes, EndsFor, Has, LeavesAnswered, Part, Rests, Waits, Whole}
 use Rattle.list_sql.proofs.Causes.{cause_of, stops_for}
 use Rattle.list_sql.proofs.Steps.{ends, left}
-use Rattle.list_sql.proofs.TransactionParts.{written}
 
 -- after a concluded transaction, none is open
 concluded : (r q : Result (Unit {0}) Fault) (c d : State) → Concludes r c d q → d.in_transaction ≡ false
@@ -21,12 +18,11 @@ concluded (Err e) (Err f) c d told = told.1.autocommit
 
 pub begun : {after : Contents → Contents} {refused : Contents → Type 0} {old first last new : State}
     {r q : Result (Unit {0}) Fault} → (HasCleanDisk first → Begins {X = Unit {0}} {E = Fault} old first (Ok tt))
-    → Survives old first (λ _. ⊥) → Wrote after (RefusedFor refused) first last r
+    → Survives old first (λ _. ⊥) → Part Has after refused first last r
     → (HasCleanDisk new → Concludes r last new q) → (HasCleanDisk new → EndsFor r last new q)
     → Survives last new (LeavesAnswered r last) → Whole after refused old new q
 begun {after = after} {refused = refused} {old = old} {first = first} {last = last} {new = new} {r = r} {q = q}
-    begins started wrote concludes ends_for closing =
-    let part = written wrote in
+    begins started part concludes ends_for closing =
     let late : HasCleanDisk new → HasCleanDisk last = λ clean. omega (arith, closing.clean) in
     let early : HasCleanDisk new → HasCleanDisk first = λ clean. omega (arith, closing.clean, part.survives.clean) in
     record {

@@ -120,11 +120,11 @@ pub use Rattle.store_sql.specs.declared.table_fault.Fault.TheVariants.{Damaged, 
 pub use Rattle.list_sql.specs.Calls.{Begins, Changes, Commits, Completes, Creates, Fails as FailsOn, FailsBy, FailsIn}
 pub use Rattle.list_sql.specs.Calls.{FindsIn, Grown, IsBare, MayLeave, Never, OnlyReads, Stays, Steps, WaitsAt}
 pub use Rattle.list_sql.specs.Cells.{list_cells}
-pub use Rattle.list_sql.specs.Changes.{filled_with, with_bytes, with_list}
+pub use Rattle.list_sql.specs.Changes.{with_list, without_rows}
 pub use Rattle.list_sql.specs.Contents.{Contents, HasRows, Holds, Kept, Means, list_places, no_contents}
 pub use Rattle.list_sql.specs.Kinds.{blob_in, number_in}
-pub use Rattle.list_sql.specs.Refusals.{HasCauseOr, HasOne, IsTooLong, RefusedFor, RefusesBytes, RefusesList}
+pub use Rattle.list_sql.specs.Refusals.{HasCauseOr, HasOne, IsTooLong, RefusedFor, RefusesList, RefusesNone}
 pub use Rattle.list_sql.specs.Schema.{list, list_at, whole}
 pub use Rattle.list_sql.specs.Statements.{FoundIn, Wrote}
 pub use Rattle.list_sql.specs.declared.lists.ListRow.{ListRow}
-pub use Rattle.list_sql.specs.declared.sql.TheConstants.{CREATE_LIST, EVERY_LIST, FILL_LIST, INSERT_LIST}
+pub use Rattle.list_sql.specs.declared.sql.TheConstants.{CREATE_LIST, DELETE_LISTS, EVERY_LIST, INSERT_LIST}

@@ -1,14 +1,19 @@
 -- The contents after each write.
-use Rattle.std.specs.Prelude.{ℕ, cond, ◌==◌, List, ◌∷◌, map}
+use Rattle.std.specs.Prelude.{ℕ, List, [], ◌∷◌, ◌++◌}
 use Rattle.list_sql.specs.declared.lists.ListRow.{ListRow}
-use Rattle.list_sql.specs.Contents.{Contents}
+use Rattle.list_sql.specs.Contents.{Contents, no_contents}
+use Rattle.list_sql.specs.Rows.{first_rows, list_rows}
 
 abbrev pub with_list : ListRow → Contents → Contents
-with_list l c = record { lists = l ∷ c.lists }
+with_list l c = record { lists = c.lists ++ l ∷ [] }
 
-abbrev pub filled_with : List ℕ → ListRow → ListRow
-filled_with bytes l = record l { bytes = bytes }
+abbrev pub without_rows : Contents → Contents
+without_rows c = no_contents
 
--- the row with id 1 gets these bytes
-abbrev pub with_bytes : List ℕ → Contents → Contents
-with_bytes bytes c = record { lists = map (λ l. cond (l.id == 1) (filled_with bytes l) l) c.lists }
+-- the rows are those of the first pieces of this list
+abbrev pub with_pieces : List ℕ → ℕ → Contents → Contents
+with_pieces list count c = record { lists = first_rows list count }
+
+-- the rows are those of this list
+abbrev pub with_rows : List ℕ → Contents → Contents
+with_rows list c = record { lists = list_rows list }

@@ -13,19 +13,19 @@ use Rattle.list_sql.specs.Transactions.{Has, Rests}
 abbrev pub IsFilled : State → Type 0
 IsFilled s = MatchOption s.last (Unit {0}) (λ list. list ≢ [])
 
--- no transaction is open, and the table holds the row of this state
+-- no transaction is open, and the table holds the rows of this state
 abbrev pub HasList : State → Connection → Type 0
 HasList s c = Rests (Has (list_contents s)) c
 
 -- The list has a byte, no query has a limit on its steps, no transaction is open, and unless a failed disk has shut the
--- connection, the table holds the row of the state.
+-- connection, the table holds the rows of the state.
 pub record Keeps (c : Connection) (s : State) : Type 0 where
   pub filled : IsFilled s
   pub unlimited : c.step_limit ≡ None
   pub autocommit : c.in_transaction ≡ false
   pub rows : IsTrue c.is_open → HasList s c
 
--- a crash now leaves the table with the row of one of these two states
+-- a crash now leaves the table with the rows of one of these two states
 abbrev pub Leaves : Connection → State → State → Type 0
 Leaves c s t = (trees : Trees) → c.may_leave trees → Kept trees (list_contents s) ⊎ Kept trees (list_contents t)
 

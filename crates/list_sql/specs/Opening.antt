@@ -1,5 +1,7 @@
 -- Finding a list guard in a table, or making one in a database without tables.
-use Rattle.std.specs.Prelude.{◌≡◌, ◌==◌, ℕ, List, [], ◌∷◌, if◌then◌else◌, IsTrue, Option, Some, None, Result, Ok, Err}
+use Rattle.std.specs.Prelude.{◌≡◌, ◌==◌, ◌||◌, ◌&&◌, ◌+◌, ◌++◌, ℕ, zero, suc, Bool, true, false, List, [], ◌∷◌, length}
+use Rattle.std.specs.Prelude.{find, IsTrue, Option, Some, None, Result, Ok, Err}
+use Rattle.std.specs.List.{list_all}
 use Rattle.sqlite.specs.Tree.{Trees}
 use Rattle.sqlite.specs.State.{State as Connection, IsUnchanged}
 use Rattle.list_guard.specs.State.{State, opened}
@@ -14,17 +16,50 @@ use Rattle.list_sql.specs.Keeping.{HasFailed, HasList, IsBlank, IsFilled, Stores
 use Rattle.list_sql.specs.Rows.{list_contents, list_in}
 use Rattle.list_sql.specs.Transactions.{Leaves as LeavesAfter}
 
--- ---- the meaning of a row
+-- ---- the meaning of rows
 
--- the list of a row with this schema, whose id has to be 1
-abbrev pub list_with : ListRow → Result (Option (List ℕ)) OpeningFault
-list_with row = if row.id == 1 then Ok (list_in row.bytes) else Err fault.Damaged
+-- whether a row has this id, or this schema
+abbrev pub has_id : ℕ → ListRow → Bool
+has_id id row = row.id == id
 
--- the list of a table, which has to have one row, of schema 1
+abbrev pub has_schema : ℕ → ListRow → Bool
+has_schema schema row = row.schema == schema
+
+-- whether all rows have schema 2, or there is one row, of schema 1
+abbrev pub is_known : List ListRow → Bool
+is_known rows = list_all (has_schema 2) rows || ((length rows == 1) && list_all (has_schema 1) rows)
+
+-- the row with an id
+abbrev pub row_with : List ListRow → ℕ → Option ListRow
+row_with rows id = find (has_id id) rows
+
+-- bytes, and those of a row after them
+abbrev pub add_row : Option ListRow → Option (List ℕ) → Option (List ℕ)
+add_row None bytes = None
+add_row (Some row) None = None
+add_row (Some row) (Some bytes) = Some (bytes ++ row.bytes)
+
+-- the bytes of the rows with the ids from 1 up to this one, one after another; none, if an id is missing
+abbrev pub joined : List ListRow → ℕ → Option (List ℕ)
+joined rows zero = Some []
+joined rows (suc n) = add_row (row_with rows (n + 1)) (joined rows n)
+
+-- the list of a table whose rows have a known schema or not, and these bytes
+abbrev pub listed : Bool → Option (List ℕ) → Result (Option (List ℕ)) OpeningFault
+listed false bytes = Err fault.WrongSchema
+listed true None = Err fault.Damaged
+listed true (Some bytes) = Ok (list_in bytes)
+
+-- the list of a table, which has to have a row
 abbrev pub last_in : List ListRow → Result (Option (List ℕ)) OpeningFault
 last_in [] = Err fault.NotAGuard
-last_in (row ∷ []) = if row.schema == 1 then list_with row else Err fault.WrongSchema
-last_in (row ∷ other ∷ rows) = Err fault.NotAGuard
+last_in (row ∷ rows) = listed (is_known (row ∷ rows)) (joined (row ∷ rows) (length (row ∷ rows)))
+
+-- the result is this one, or memory was refused
+abbrev pub IsUnlessRefused : Result (Option (List ℕ)) OpeningFault → Result (Option (List ℕ)) OpeningFault → Type 0
+IsUnlessRefused due (Ok last) = Ok last ≡ due
+IsUnlessRefused due (Err fault.NoMemory) = Unit {0}
+IsUnlessRefused due (Err e) = Err e ≡ due
 
 -- the result for a table with these rows: what they represent, or memory was refused, or the database `failed`
 abbrev pub Says : List ListRow → Type 0 → Result (Option (List ℕ)) OpeningFault → Type 0

@@ -7,7 +7,7 @@ use Rattle.sqlite_trees.specs.declared.store.Store.{Ghosts}
 use Rattle.sqlite.specs.Held.{Held, state}
 use Rattle.sqlite.specs.State.{State, HasCleanDisk, Survives}
 use Rattle.store_sql.specs.declared.table_fault.Fault.{Fault}
-use Rattle.list_sql.specs.Calls.{Changes, FailsBy, FailsIn, FindsIn, MayLeave, Never, OnlyReads, Stays}
+use Rattle.list_sql.specs.Calls.{Changes, FailsIn, FindsIn, MayLeave, Never, OnlyReads, Stays}
 use Rattle.list_sql.specs.Contents.{Contents}
 use Rattle.store_sql.specs.Faults.{HasCause}
 use Rattle.list_sql.specs.Refusals.{RefusedFor}

@@ -1,39 +1,26 @@
 //! The table of a list guard that has approved nothing yet.
 
-ghost use Rattle.std.specs.Prelude.{◌≡◌, ◌<◌, ◌^◌, None};
+ghost use Rattle.std.specs.Prelude.{◌≡◌};
 ghost use Rattle.store_sql.specs.Honest.{On, OutlivesBy};
 ghost use Rattle.list_guard.specs.State.{opened};
 ghost use Rattle.list_sql.specs.Changes.{with_list};
 ghost use Rattle.list_sql.specs.Contents.{no_contents};
 ghost use Rattle.list_sql.specs.Creating.{DoesOnBlank, EndsOnBlank, FailsOnBlank, LeavesOnBlank};
 ghost use Rattle.list_sql.specs.Refusals.{RefusesList};
-ghost use Rattle.list_sql.specs.Rows.{list_contents, list_row};
+ghost use Rattle.list_sql.specs.Rows.{empty_row, list_contents};
 
 use crate::creation::create_list;
 use crate::lists::{ListRow, insert_list};
+use crate::pieces::{SCHEMA, number};
 use crate::transaction::conclude;
 use sqlite::{Alter, Connection};
 use std::alloc::Global;
-use store_sql::{Fault, Number, begin};
+use store_sql::{Fault, begin};
 use text::Text;
-
-/// The number of the schema that is made, and the only one that is opened.
-pub(crate) const SCHEMA: u64 = 1;
-
-/// The number as a column holds it.
-fn number(value: u64) -> Number
-    requires { value < 2 ^ 63 }
-    ensures { result ≡ value }
-{
-    let Some(number) = Number::new(value) else {
-        unreachable!();
-    };
-    number
-}
 
 /// The row of a list guard that has approved no list.
 fn empty_row(alloc: Global) -> ListRow
-    ensures { result ≡ list_row None }
+    ensures { result ≡ empty_row }
 {
     ListRow {
         id: number(1),
@@ -69,7 +56,7 @@ fn make_whole<S: Alter>(conn: &mut Connection<S>, list: &ListRow) -> Result<(), 
 /// Makes the table of a list guard with its row, in a database without tables. If that fails, nothing is made.
 pub(crate) fn create<S: Alter>(alloc: Global, conn: &mut Connection<S>) -> Result<(), Fault>
     ensures ends { On S.Store (EndsOnBlank (list_contents opened)) conn.old conn.new result }
-    ensures cause { On S.Store (FailsOnBlank (RefusesList (list_row None) no_contents)) conn.old conn.new result }
+    ensures cause { On S.Store (FailsOnBlank (RefusesList empty_row no_contents)) conn.old conn.new result }
     ensures survives { OutlivesBy S.Store (LeavesOnBlank (list_contents opened)) conn.old conn.new }
 {
     make_whole(conn, &empty_row(alloc))

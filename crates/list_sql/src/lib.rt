@@ -1,8 +1,8 @@
 //! A list guard's register in an SQLite table.
 //!
-//! The list that was approved last is the value of one column in the only row. It is written in one transaction: when
-//! the call returns, the list survives a crash. A crash during the call leaves the list that was kept before, or this
-//! one.
+//! The list that was approved last is in pieces of 65536 bytes, one in each row. All are written in one transaction:
+//! when the call returns, the list survives a crash. A crash during the call leaves the list that was kept before, or
+//! this one.
 #![tactic(auto)]
 
 mod columns;
@@ -17,6 +17,7 @@ mod lists;
 mod look;
 mod memory;
 mod opening_fault;
+mod pieces;
 mod register;
 mod serving;
 mod sql;

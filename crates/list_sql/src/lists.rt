@@ -1,29 +1,29 @@
 //! The table of the list.
 
 ghost use Rattle.list_sql.specs.Contents.{HasRows};
-ghost use Rattle.list_sql.specs.Changes.{with_bytes, with_list};
-ghost use Rattle.list_sql.specs.Refusals.{RefusesBytes, RefusesList};
+ghost use Rattle.list_sql.specs.Changes.{with_list, without_rows};
+ghost use Rattle.list_sql.specs.Refusals.{RefusesList, RefusesNone};
 ghost use Rattle.list_sql.specs.Statements.{ReadsIn, Writes};
 
 use crate::columns::{Columns, found};
 use crate::done::done;
 use crate::kind::{Kind, blob_at, is_row_of, number_at, value_of};
 use crate::memory::Memory;
-use crate::sql::{EVERY_LIST, FILL_LIST, INSERT_LIST};
+use crate::sql::{DELETE_LISTS, EVERY_LIST, INSERT_LIST};
 use sqlite::types::ValueRef;
 use sqlite::{Alter, Connection, Row};
 use std::alloc::Global;
 use store_sql::{Fault, Number};
 use text::Text;
 
-/// The only row, with the list that was approved last.
+/// A row, with a piece of the list that was approved last.
 #[derive(Drop)]
 pub(crate) struct ListRow {
-    /// 1 in a list guard.
+    /// The number of the piece, from 1.
     pub id: Number,
     /// The number of the schema.
     pub schema: Number,
-    /// The bytes of the list, or no byte if no list was approved.
+    /// The bytes of the piece. If no list was approved, there is one row, without a byte.
     pub bytes: Text,
 }
 
@@ -68,7 +68,7 @@ impl Columns for ListRow {
     }
 }
 
-/// Inserts the row of a list. `Device` also if its id is taken, or the row is too long.
+/// Inserts a row. `Device` also if its id is taken, or the row is too long.
 pub(crate) fn insert_list<S: Alter>(conn: &mut Connection<S>, list: &ListRow) -> Result<(), Fault>
     ensures { Writes S.Store (with_list list.now) (RefusesList list.now) conn.old conn.new result }
 {
@@ -85,9 +85,9 @@ pub(crate) fn every_list<S: Alter>(
     found(alloc, conn.query_all(EVERY_LIST, &[]))
 }
 
-/// Writes these bytes into the row with id 1, if there is one. `Device` also if the row would be too long.
-pub(crate) fn update_bytes<S: Alter>(conn: &mut Connection<S>, bytes: &[u8]) -> Result<(), Fault>
-    ensures { Writes S.Store (with_bytes bytes.now) (RefusesBytes bytes.now) conn.old conn.new result }
+/// Deletes all rows. The table never refuses that.
+pub(crate) fn delete_lists<S: Alter>(conn: &mut Connection<S>) -> Result<(), Fault>
+    ensures { Writes S.Store without_rows RefusesNone conn.old conn.new result }
 {
-    done(conn.execute(FILL_LIST, &[ValueRef::Blob(bytes)]))
+    done(conn.execute(DELETE_LISTS, &[]))
 }

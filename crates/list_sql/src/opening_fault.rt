@@ -5,11 +5,11 @@
 pub enum OpeningFault {
     /// The database has a table with the name that a list guard needs.
     AlreadyAGuard,
-    /// The table of the list is missing, or doesn't have exactly one row.
+    /// The table of the list is missing, or has no row.
     NotAGuard,
-    /// The table has a different schema number, that of another version of this program.
+    /// A row has a different schema number, that of another version of this program.
     WrongSchema,
-    /// The row doesn't have the table's form, or has a different id.
+    /// A row doesn't have the table's form, or a piece of the list is missing.
     Damaged,
     /// The database failed, or is shut.
     Device,

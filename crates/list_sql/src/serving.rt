@@ -9,7 +9,7 @@ use crate::keeping::fill;
 use list_guard::RegisterFault;
 use sqlite::{Alter, Connection};
 
-/// Keeps a list in the row. A list without a byte isn't kept.
+/// Keeps a list in the table. A list without a byte isn't kept.
 pub(crate) fn keep<S: Alter>(conn: &mut Connection<S>, list: &[u8]) -> Result<(), RegisterFault>
     ensures { LeadsOf S.Store (IsKeepable list.now) (with_last list.now) conn.old conn.new result }
 {

@@ -8,4 +8,4 @@ pub(crate) const INSERT_LIST: &str = "INSERT INTO list (id, schema, bytes) VALUE
 
 pub(crate) const EVERY_LIST: &str = "SELECT id, schema, bytes FROM list";
 
-pub(crate) const FILL_LIST: &str = "UPDATE list SET bytes = ?1 WHERE id = 1";
+pub(crate) const DELETE_LISTS: &str = "DELETE FROM list";

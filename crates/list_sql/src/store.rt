@@ -19,12 +19,12 @@ use text::Text;
 #[derive(Drop)]
 pub struct ListStore<S: Alter> {
     pub(crate) conn: Connection<S>,
-    // the list that the row has
+    // the list that the rows have
     pub(crate) last: Option<Text>,
 }
 
 impl<S: Alter> ListStore<S> {
-    /// Makes a list guard that has approved nothing yet, in a database without tables: its table with its row or, after
+    /// Makes a list guard that has approved nothing yet, in a database without tables: its table with a row or, after
     /// a fault, nothing. A fault returns the connection. No transaction may be open. The connection may have no limit
     /// on the steps of a query, since a call that reaches one fails.
     ///
@@ -65,9 +65,9 @@ impl<S: Alter> ListStore<S> {
     ///
     /// # Errors
     ///
-    /// `NotAGuard` if the table of the list is missing or doesn't have exactly one row, `WrongSchema` if its schema
-    /// number is a different one, `Damaged` if its row doesn't have the table's form or its id, `Device` if the
-    /// database failed, and `NoMemory` if memory is refused.
+    /// `NotAGuard` if the table of the list is missing or has no row, `WrongSchema` if a row's schema number is a
+    /// different one, `Damaged` if a row doesn't have the table's form or a piece of the list is missing, `Device` if
+    /// the database failed, and `NoMemory` if memory is refused.
     pub fn open(
         alloc: Global,
         conn: Connection<S>,
@@ -78,7 +78,8 @@ impl<S: Alter> ListStore<S> {
         // The guard keeps the list that the table holds, and a crash leaves it.
         ensures opened { IfOk result (λ g. Between S.Store (Finds g.last) conn g.conn) }
 
-        // It is opened exactly when the only row has this schema and the id 1. Each refusal has its cause in the rows.
+        // It is opened exactly when the rows have this schema and the ids from 1 on, or one row has the first schema.
+        // Each refusal has its cause in the rows.
         ensures said { IfOk result (λ g. On S.Store SaysUnless conn g.conn (Ok g.last)) }
         ensures refused { IfErr result (λ e. On S.Store SaysUnless conn e.1 (Err e.0)) }
 

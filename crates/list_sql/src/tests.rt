@@ -39,3 +39,25 @@ fn a_list_without_a_byte_is_not_kept(rt: HostRuntime) {
     assert_eq!(rt; keep(alloc, &mut guard, b""), Err(RegisterFault::Device));
     assert!(rt; guard.last().is_none());
 }
+
+/// A list of this length.
+fn list_of(alloc: Global, length: usize) -> Option<Text> {
+    let mut bytes = Vec::new(alloc);
+    for _ in 0..length {
+        match bytes.push(7) {
+            Ok(()) => {}
+            Err(_) => return None,
+        }
+    }
+    Some(Text::from_vec(bytes))
+}
+
+#[test]
+fn a_list_of_several_pieces_is_kept(rt: HostRuntime) {
+    let alloc = rt.alloc();
+    let mut guard = guard_in_memory(alloc).expect(&rt, "memory suffices");
+    let long = list_of(alloc, 200000).expect(&rt, "memory suffices");
+    assert_eq!(rt; guard.keep(long), Ok(()));
+    assert_eq!(rt; keep(alloc, &mut guard, b"short"), Ok(()));
+    assert!(rt; guard.last() == Some(b"short".as_slice()));
+}

@@ -1,9 +1,11 @@
-use Rattle.std.proofs.Common.{ap, sym, ◌∙◌}
+use Rattle.std.proofs.Common.{◌≡◌, List, ap, subst, sym, ◌∙◌}
 use Rattle.std.specs.List.{list_any}
 use Rattle.std.proofs.lemmas.Bool.{both_ways}
 use Rattle.sqlite.specs.Held.{state}
 use Rattle.sqlite.specs.Schema.{Schema}
+use Rattle.list_sql.specs.declared.lists.ListRow.{ListRow}
 use Rattle.list_sql.specs.Look.{is_list_table, whole_is_list}
+use Rattle.list_sql.specs.Opening.{IsUnlessRefused, last_in}
 use Rattle.list_sql.proofs.Lasts.{found_last, its_rows, not_found, says, says_fault}
 use Rattle.list_sql.proofs.finding.find_last.Goals as goal
 
@@ -18,13 +20,18 @@ returns-then-not-has_list-clause-says g c clean rows has =
     absurd (both_ways _ (sym c.has_list.ensures ∙ c.if-not-has_list.true) seen)
 
 pub returns-in-Ok-clause-finds : goal.returns-in-Ok-clause-finds
-returns-in-Ok-clause-finds g c clean = found_last (state g.S.Store c.args.conn.now)
-    (state g.S.Store c.every_list.new.conn) c.in-Ok.rows.items c.last_in.result c.last_in.ensures
-    (λ d means. c.in-Ok.ensures.finds clean d.lists (its_rows d _ means))
+returns-in-Ok-clause-finds g c clean =
+    let shown : c.as_slice.result.now ≡ c.in-Ok.rows.items = c.as_slice.ensures.value in
+    let told = subst (λ (all : List ListRow). IsUnlessRefused (last_in all) c.last_in.result) shown c.last_in.ensures in
+    found_last (state g.S.Store c.args.conn.now) (state g.S.Store c.every_list.new.conn) c.in-Ok.rows.items
+    c.last_in.result told (λ d means. c.in-Ok.ensures.finds clean d.lists (its_rows d _ means))
 
 pub returns-in-Ok-clause-says : goal.returns-in-Ok-clause-says
-returns-in-Ok-clause-says g c clean rows has = says rows c.in-Ok.rows.items _ c.last_in.result
-    (c.in-Ok.ensures.finds clean rows has).1 c.last_in.ensures
+returns-in-Ok-clause-says g c clean rows has =
+    let shown : c.as_slice.result.now ≡ c.in-Ok.rows.items = c.as_slice.ensures.value in
+    let told = subst (λ (all : List ListRow). IsUnlessRefused (last_in all) c.last_in.result) shown c.last_in.ensures in
+    says (state g.S.Store c.args.conn.now).now rows c.in-Ok.rows.items _ c.last_in.result has
+    (c.in-Ok.ensures.finds clean rows has).1 told
 
 pub returns-in-Err-clause-finds : goal.returns-in-Err-clause-finds
 returns-in-Err-clause-finds g c clean = rw c.opening_fault.ensures (not_found (state g.S.Store c.args.conn.now)

@@ -1,9 +1,9 @@
-use Rattle.std.proofs.Common.{None, ◌∙◌}
+use Rattle.std.proofs.Common.{◌∙◌}
 use Rattle.sqlite.specs.Held.{state}
 use Rattle.list_guard.specs.State.{opened}
 use Rattle.list_sql.specs.Contents.{no_contents}
 use Rattle.list_sql.specs.Refusals.{RefusesList}
-use Rattle.list_sql.specs.Rows.{list_row}
+use Rattle.list_sql.specs.Rows.{empty_row}
 use Rattle.list_sql.proofs.Changed.{opening_fits}
 use Rattle.list_sql.proofs.Lasts.{excused, made_stores}
 use Rattle.list_sql.proofs.store.ListStore.init.Goals as goal
@@ -18,7 +18,8 @@ pub returns-in-Err-clause-none : goal.returns-in-Err-clause-none
 returns-in-Err-clause-none g c clean blank =
     let ends = c.in-Err.ensures.ends clean in
     rw c.opening_fault.ensures (
-      excused (state g.S.Store c.args.conn) (state g.S.Store c.create.new.conn) (RefusesList (list_row None) no_contents)
-          c.in-Err.fault c.requires.unlimited (λ still. (ends still).0) opening_fits (c.in-Err.ensures.cause clean blank),
+      excused (state g.S.Store c.args.conn) (state g.S.Store c.create.new.conn) (RefusesList empty_row no_contents)
+          c.in-Err.fault c.requires.unlimited (λ still. (ends still).0) opening_fits
+          (c.in-Err.ensures.cause clean blank),
       λ still. (ends still).1 tt blank,
     )
