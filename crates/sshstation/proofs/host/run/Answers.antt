@@ -28,8 +28,8 @@ returns-clause-runs g c = record {
   does = c.do_words-status.ensures.does;
   lived = words_lived _ _ (image_at g.S.Start) _ _ (λ db. db.left)
       (record {
-        opens = λ db after path found opens. opens;
-        makes = λ db after path scope found makes. makes;
+        opens = λ db after path found opens. (opens.0, opens.1);
+        makes = λ db after path scope found makes. (makes.0, makes.1);
         closes = λ db after it r closes. closes;
         held = λ s held. held;
         blank = λ blank. blank;
