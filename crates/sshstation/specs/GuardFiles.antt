@@ -95,8 +95,8 @@ module _ {D : Type 0} {g : Ghosts D} where
     pub honest : HasCleanDisk (file_state guard.conn) → HasCleanDisk (file_state conn)
     pub found : HasCleanDisk (file_state guard.conn) → Found (file_state conn) (file_state guard.conn)
 
-  -- A connection to the files was opened, but no guard over it, for the fault that is reported. If the disk has returned
-  -- what was written, the fault has this cause in the connection, as it was opened and as it was left.
+  -- A connection to the files was opened, but no guard over it, for the fault that is reported. If the disk has
+  -- returned what was written, the fault has this cause in the connection, as it was opened and as it was left.
   pub record OpensNone (image : Image) (Caused : Connection → Connection → OpeningFault → Type 0)
       (found : Result (GuardStore (FileStore D g)) StationFault) : Type 0 where
     pub conn : Held (FileStore D g)

@@ -6,9 +6,9 @@ ghost use Rattle.sqlite_wal.specs.Files.{image_at};
 ghost use Rattle.restart.specs.Images.{HoldsNone};
 ghost use Rattle.guard_restart.specs.Images.{HoldsKept};
 ghost use Rattle.guard_sql.specs.Opening.{FoundsNone};
-ghost use Rattle.sshstation.specs.GuardFiles.{AreSettled, EndsGuard, FindsGuard, FindsNone, HaveGuard, HaveOne, IsOfFiles};
-ghost use Rattle.sshstation.specs.GuardFiles.{IsOfSearch, MakesGuard, MakesNone, OpensFiles, OpensNone, SaysAndMisses};
-ghost use Rattle.sshstation.specs.GuardFiles.{of_database, of_ending, of_opening};
+ghost use Rattle.sshstation.specs.GuardFiles.{AreSettled, EndsGuard, FindsGuard, FindsNone, HaveGuard, HaveOne};
+ghost use Rattle.sshstation.specs.GuardFiles.{IsOfFiles, IsOfSearch, MakesGuard, MakesNone, OpensFiles, OpensNone};
+ghost use Rattle.sshstation.specs.GuardFiles.{SaysAndMisses, of_database, of_ending, of_opening};
 
 use guard::Scope;
 use guard_restart::{end_path, open_at};
@@ -128,6 +128,7 @@ pub(crate) fn made(rt: &HostRuntime, path: &str) -> Result<(), StationFault>
 }
 
 /// Looks for the file of a guard.
+#[tactic(auto, using(crate::proofs::Kept::files_searched))]
 pub(crate) fn looked_for(rt: &HostRuntime, path: &str) -> Result<(), StationFault>
     ensures { IfErr result IsOfSearch }
 {
@@ -239,6 +240,7 @@ impl<S: Start> GuardFile for GuardDatabase<'_, S> {
 
     ghost has_one = { λ db guard s t. IsSomeAnd db.left (HaveOne guard s t) };
 
+    #[tactic(auto, using(crate::proofs::Kept::not_made))]
     fn make(
         &mut self,
         alloc: Global,
@@ -254,6 +256,7 @@ impl<S: Start> GuardFile for GuardDatabase<'_, S> {
         }
     }
 
+    #[tactic(auto, using(crate::proofs::Kept::files_searched, crate::proofs::Kept::not_found))]
     fn open(&mut self, alloc: Global, path: &str) -> Result<FileGuard<S>, StationFault> {
         match looked_for(self.rt, path) {
             Ok(()) => match self.connect(path) {
