@@ -35,7 +35,7 @@ pub(crate) type FilesLeft<S> = (Result<(), EndFault>, Files<FileFrom<S>>);
 pub(crate) type FileGuard<S> = GuardStore<FileStore<FileFrom<S>>>;
 
 /// The fault of a database that wasn't opened or closed.
-fn database_fault(error: Error) -> StationFault
+pub(crate) fn database_fault(error: Error) -> StationFault
     ensures { result ≡ of_database error }
 {
     match error {
@@ -69,7 +69,7 @@ fn unopened_fault(fault: OpeningFault) -> StationFault
 }
 
 /// Opens the database at a path, or makes one without tables. `start` represents what its files hold.
-pub(crate) fn open_database<S: Start>(
+fn open_database<S: Start>(
     rt: &HostRuntime,
     path: &str,
     start: S,
