@@ -1,3 +1,4 @@
 mod Kept
 mod Saying
 mod Lived
+mod ListsLived

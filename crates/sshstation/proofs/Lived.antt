@@ -14,7 +14,7 @@ use Rattle.message.specs.declared.department.Department.{Department}
 use Rattle.guard.specs.declared.register.Register as register
 use Rattle.guard.specs.declared.scope.Scope.{Scope}
 use Rattle.guard.specs.History.{IsStill}
-use Rattle.guard.specs.Machine.{State, opened, row_of}
+use Rattle.guard.specs.Machine.{State, Question, opened, row_of}
 use Rattle.guard.specs.Retiring.{with_last}
 use Rattle.guard.proofs.Allowed.{left_by}
 use Rattle.guard_sql.specs.declared.store.GuardStore.{GuardStore}
@@ -33,7 +33,7 @@ use Rattle.station_jobs.specs.declared.surroundings.Surroundings as surroundings
 use Rattle.station_jobs.specs.Bodies.{ListsBodies, PrintsBody}
 use Rattle.station_jobs.specs.Jobs.{InitsIn}
 use Rattle.station_jobs.specs.Judging.{AsksNow}
-use Rattle.station_jobs.specs.Leaving.{IsNext}
+use Rattle.station_jobs.specs.Leaving.{IsNext, OfBodies, OfLowering, OfNone, Step}
 use Rattle.station_jobs.specs.Whole.{ClosesNew, Follows, JudgesGiven, LeavesFiles, MakesIn, Retires, RetiresTo, RunsIn}
 use Rattle.station_jobs.specs.Whole.{RunsOver, is_input}
 use Rattle.guard_restart.specs.Images.{Holds, HoldsGuard, HoldsKept, HoldsOneOf, Standing}
@@ -48,15 +48,16 @@ use Rattle.sshstation.proofs.Saying.{Lasts, backs_none, given_last, next_still, 
 -- ---- the next state
 
 -- the state after a valid one is valid
-next_lawful : (s next : State) → IsGuard s → IsNext s next → IsGuard next
-next_lawful s next guard (inl same) = subst IsGuard (sym same) guard
-next_lawful s next guard (inr (inl (q, same))) =
+next_lawful : (May : Step → Type 0) (s next : State) → IsGuard s → IsNext May s next → IsGuard next
+next_lawful May s next guard (inl same) = subst IsGuard (sym same) guard
+next_lawful May s next guard (inr (inl (q, may, same))) =
     subst IsGuard (sym same)
     (left_by IsGuard s q guard (λ c new.
     let most = new.may.to_last in
     let below = last_below s.scope guard.scope in
     let low : c.serial < 2 ^ 63 = omega (arith, most, below) in more_lawful (row_of q c) low s guard))
-next_lawful s next guard (inr (inr (last, low, same))) = subst IsGuard (sym same) (lower_lawful last s guard low)
+next_lawful May s next guard (inr (inr (last, may, low, same))) =
+    subst IsGuard (sym same) (lower_lawful last s guard low)
 
 -- ---- retiring
 
@@ -87,38 +88,39 @@ module _ (Dk : Type 0) (g : Ghosts Dk) (image : Image) where
       (after : Standing) × Stays before after × Backs after said × Holds files after
 
   -- the files hold a guard that stayed, or the next one
-  one_of : (s t next : State) (said : Said) (files : Image) → IsStill s t → Backs (Some t) said → IsGuard t
-      → IsNext t next → HoldsGuard files t ⊎ HoldsGuard files next → Comes (Some s) said files
-  one_of s t next said files still backs guard is (inl it) = (Some t, still, backs, (guard, it))
-  one_of s t next said files still backs guard is (inr it) =
-      let later = next_still t next is in (
+  one_of : (May : Step → Type 0) (s t next : State) (said : Said) (files : Image) → IsStill s t → Backs (Some t) said
+      → IsGuard t → IsNext May t next → HoldsGuard files t ⊎ HoldsGuard files next → Comes (Some s) said files
+  one_of May s t next said files still backs guard is (inl it) = (Some t, still, backs, (guard, it))
+  one_of May s t next said files still backs guard is (inr it) =
+      let later = next_still May t next is in (
         Some next,
         still_then s t next still later,
         said_stays (Some t) (Some next) later said backs,
-        (next_lawful t next guard is, it),
+        (next_lawful May t next guard is, it),
       )
 
   -- the guard with this state is in the files; after a fault, this one or the next one is
-  abbrev Filed : Option Left → Store → Result (Unit {0}) StationFault → State → Type 0
-  Filed o last (Ok done) t = IsSomeAnd o (HaveGuard last t)
-  Filed o last (Err e) t = (next : State) × IsNext t next × IsSomeAnd o (HaveOne last t next)
+  abbrev Filed : (May : Step → Type 0) → Option Left → Store → Result (Unit {0}) StationFault → State → Type 0
+  Filed May o last (Ok done) t = IsSomeAnd o (HaveGuard last t)
+  Filed May o last (Err e) t = (next : State) × IsNext May t next × IsSomeAnd o (HaveOne last t next)
 
-  comes : (left : Left) (last : Store) (closing : Result (Unit {0}) StationFault) (s t : State) (said : Said)
-      → IsStill s t → Backs (Some t) said → Filed (Some left) last closing t → (files : Image)
+  comes : (May : Step → Type 0) (left : Left) (last : Store) (closing : Result (Unit {0}) StationFault) (s t : State)
+      (said : Said) → IsStill s t → Backs (Some t) said → Filed May (Some left) last closing t → (files : Image)
       → outcomes g left.1.log left.1.db files → ∥ Comes (Some s) said files ∥₁
-  comes left last (Ok done) s t said still backs filed files may = ∣ (Some t, still, backs, filed files may) ∣₁
-  comes left last (Err e) s t said still backs (next, is, filed) files may =
-      ∥∥₁_map (filed.1 files may) (λ which. one_of s t next said files still backs filed.0 is which)
+  comes May left last (Ok done) s t said still backs filed files may = ∣ (Some t, still, backs, filed files may) ∣₁
+  comes May left last (Err e) s t said still backs (next, is, filed) files may =
+      ∥∥₁_map (filed.1 files may) (λ which. one_of May s t next said files still backs filed.0 is which)
 
   -- a guard that was opened, worked on and closed
-  opened_lived : (o : Option Left) (first last : Store) (closing : Result (Unit {0}) StationFault) (said : Said)
+  opened_lived : (May : Step → Type 0) (o : Option Left) (first last : Store) (closing : Result (Unit {0}) StationFault)
+      (said : Said)
       → FindsGuard image first → IsSomeAnd o (EndsGuard last closing)
       → (HasCleanDisk (file_state last.conn) → HasCleanDisk (file_state first.conn))
       → (IsSomeAnd o (AreSettled last) → (s : State) → HoldsKept image s
-      → (t : State) × IsStill s t × Backs (Some t) said × Filed o last closing t)
+      → (t : State) × IsStill s t × Backs (Some t) said × Filed May o last closing t)
       → IfSome o (IsLived g image said)
-  opened_lived None first last closing said found ends honest did = tt
-  opened_lived (Some left) first last closing said found ends honest did = λ clean whole.
+  opened_lived May None first last closing said found ends honest did = tt
+  opened_lived May (Some left) first last closing said found ends honest did = λ clean whole.
       let settled : AreSettled last left = (clean, whole) in
       let was_clean = honest (ends_honest last closing (Some left) ends settled) in
       runs_on image said (outcomes g left.1.log left.1.db)
@@ -130,7 +132,7 @@ module _ (Dk : Type 0) (g : Ghosts Dk) (image : Image) where
       by_standing settled clean files may None holds =
           absurd (found.right (found.files.blank (found.honest clean) holds))
       by_standing settled clean files may (Some s) holds =
-          let it = did settled s holds in comes left last closing s it.0 said it.1 it.2 it.3 files may
+          let it = did settled s holds in comes May left last closing s it.0 said it.1 it.2 it.3 files may
 
   -- the new guard is in the files, whole
   abbrev FiledNew : Option Left → Store → Result (Unit {0}) StationFault → State → Type 0
@@ -189,39 +191,41 @@ module _ (Dk : Type 0) (g : Ghosts Dk) (image : Image) where
       pub is_clean : (it : Store) → guard.is_honest it → HasCleanDisk (file_state it.conn)
 
     module _ (over : IsOver) (db db' : D) (none : left_of db ≡ None) where
-      filed : {A : Type 0} (last : Store) (closing : Result (Unit {0}) StationFault) (t : State)
-          (outcome : Result A StationFault) → LeavesFiles guard file db' last closing t outcome
-          → Filed (left_of db') last closing t
-      filed last (Ok done) t outcome is = over.has db' last t is
-      filed last (Err e) t (Ok x) is = (t, inl refl, over.has_one db' last t t is)
-      filed last (Err e) t (Err f) is = (is.0, is.1, over.has_one db' last t is.0 is.2)
+      filed : {A : Type 0} (May : Step → Type 0) (last : Store) (closing : Result (Unit {0}) StationFault) (t : State)
+          (outcome : Result A StationFault) → LeavesFiles guard file May db' last closing t outcome
+          → Filed May (left_of db') last closing t
+      filed May last (Ok done) t outcome is = over.has db' last t is
+      filed May last (Err e) t (Ok x) is = (t, inl refl, over.has_one db' last t t is)
+      filed May last (Err e) t (Err f) is = (is.0, is.1, over.has_one db' last t is.0 is.2)
 
       filed_new : (it : Store) (closing : Result (Unit {0}) StationFault) (t : State)
-          → LeavesFiles guard file {A = Unit {0}} db' it closing t (Ok tt) → FiledNew (left_of db') it closing t
+          → LeavesFiles guard file {A = Unit {0}} OfNone db' it closing t (Ok tt) → FiledNew (left_of db') it closing t
       filed_new it (Ok done) t is = over.has db' it t is
       filed_new it (Err e) t is = over.has_one db' it t t is
 
       untouched : (said : Said) → left_of db' ≡ None → IfSome (left_of db') (IsLived g image said)
       untouched said is = subst (λ (o : Option Left). IfSome o (IsLived g image said)) (sym is) tt
 
-      ran_lived : {A : Type 0} (Did : State → (State → Result A StationFault → Type 0) → Result A StationFault → Type 0)
+      ran_lived : {A : Type 0} (May : Step → Type 0)
+          (Did : State → (State → Result A StationFault → Type 0) → Result A StationFault → Type 0)
           (path : List ℕ) (Nothing : Type 0) (result : Result A StationFault) (said : Said)
           → ((s : State) (L : State → Result A StationFault → Type 0) (r : Result A StationFault) → IsGuard s
           → Did s L r → Lasts s said L)
-          → RunsIn guard file db db' path Did Nothing result → IfSome (left_of db') (IsLived g image said)
-      ran_lived {A} Did path Nothing result said lasts is = by_found is.found is.is_opened is.ran
+          → RunsIn guard file db db' path May Did Nothing result → IfSome (left_of db') (IsLived g image said)
+      ran_lived {A} May Did path Nothing result said lasts is = by_found is.found is.is_opened is.ran
         where
           by_found : (found : Result Store StationFault) → file.opens db path found is.opened
-              → Follows (RunsOver guard file db db' Did is.opened) ((db' ≡ is.opened) × Nothing) found result
+              → Follows (RunsOver guard file db db' May Did is.opened) ((db' ≡ is.opened) × Nothing) found result
               → IfSome (left_of db') (IsLived g image said)
           by_found (Ok first) opens ran =
-              opened_lived (left_of db') first ran.last ran.closing said (over.opens db is.opened path (Ok first) opens).0
+              opened_lived May (left_of db') first ran.last ran.closing said
+              (over.opens db is.opened path (Ok first) opens).0
               (over.closes is.opened db' ran.last ran.closing ran.is_closed)
               (λ clean. over.is_clean first (ran.did.0 (over.honest ran.last clean)))
               (λ settled s holds.
               let did = ran.files (over.settles db' ran.last settled) s (over.held s holds) in
-              let it = lasts s (LeavesFiles guard file db' ran.last ran.closing) ran.outcome holds.0 did in
-              (it.t, it.still, it.backs, filed ran.last ran.closing it.t it.outcome it.left))
+              let it = lasts s (LeavesFiles guard file May db' ran.last ran.closing) ran.outcome holds.0 did in
+              (it.t, it.still, it.backs, filed May ran.last ran.closing it.t it.outcome it.left))
           by_found (Err e) opens ran =
               untouched said (ap left_of ran.1.0 ∙ ((over.opens db is.opened path (Err e) opens).1 ∙ none))
 
@@ -266,15 +270,18 @@ module _ (Dk : Type 0) (g : Ghosts Dk) (image : Image) where
             bodies : List (List ℕ)
             bodies = map string_bytes j.bodies.items
 
+            Asked : List ℕ → Question → Type 0
+            Asked = AsksNow world around remaining (string_bytes j.policy) j.ahead
+
             by_policy : (known : Result (List Department) StationFault)
                 → Follows
-                (λ _. RunsIn guard file db db' (string_bytes j.db)
+                (λ _. RunsIn guard file db db' (string_bytes j.db) (OfBodies Asked)
                 (λ s L r. JudgesGiven (is_input bodies) s L
                 (AsksNow world around remaining (string_bytes j.policy) j.ahead) bodies input held holds r)
                 (holds ≡ held)) ((db' ≡ db) × (holds ≡ held)) known result
                 → IfSome (left_of db') (IsLived g image (Said.judging held holds))
             by_policy (Ok policy) ran =
-                ran_lived
+                ran_lived (OfBodies Asked)
                 (λ s L r. JudgesGiven (is_input bodies) s L
                 (AsksNow world around remaining (string_bytes j.policy) j.ahead) bodies input held holds r)
                 (string_bytes j.db) (holds ≡ held) result (Said.judging held holds)
@@ -282,14 +289,16 @@ module _ (Dk : Type 0) (g : Ghosts Dk) (image : Image) where
                 (AsksNow world around remaining (string_bytes j.policy) j.ahead) bodies input held holds r did) ran
             by_policy (Err e) ran = same_db (Said.judging held holds) ran.1.0
         job_lived (job.Bodies path) input held holds result is =
-            ran_lived (λ s L r. OnOk r (ListsBodies s held holds) × L s (Ok tt)) (string_bytes path) (holds ≡ held)
+            ran_lived OfNone (λ s L r. OnOk r (ListsBodies s held holds) × L s (Ok tt)) (string_bytes path)
+            (holds ≡ held)
             result Said.none (λ s L r guard did. same_lasts s L (Ok tt) did.1) is
         job_lived (job.Body path serial) input held holds result is =
-            ran_lived (λ s L r. PrintsBody s serial held holds r × L s (Ok tt)) (string_bytes path) (holds ≡ held)
+            ran_lived OfNone (λ s L r. PrintsBody s serial held holds r × L s (Ok tt)) (string_bytes path)
+            (holds ≡ held)
             result Said.none (λ s L r guard did. same_lasts s L (Ok tt) did.1) is
         job_lived (job.Policy path) input held holds result is = same_db Said.none is.1
         job_lived (job.Retire path last) input held holds result is =
-            ran_lived (Retires last) (string_bytes path) (Unit {0}) is.lowered Said.none
+            ran_lived (OfLowering last) (Retires last) (string_bytes path) (Unit {0}) is.lowered Said.none
             (λ s L r guard did. retires_to_last last s L r (did (last_below s.scope guard.scope))) is.is_lowered
         job_lived (job.Lists path) input held holds result is = same_db Said.none is
         job_lived (job.List words) input held holds result is = same_db Said.none is

@@ -20,7 +20,7 @@ use Rattle.station_jobs.specs.declared.station_fault.StationFault.{StationFault}
 use Rattle.station_jobs.specs.Input.{JudgesInput}
 use Rattle.station_jobs.specs.Judging.{AreAnswered, IsPrinted, Judgement, Judges, left_by, lines_of}
 use Rattle.station_jobs.specs.Whole.{JudgesGiven}
-use Rattle.station_jobs.specs.Leaving.{IsNext}
+use Rattle.station_jobs.specs.Leaving.{IsNext, OfQuestion, Step}
 
 -- ---- bodies stay
 
@@ -33,17 +33,18 @@ still_then s t u first second = (
   second.1 ∙ (ap (λ (rows : List Approved). rows ++ second.0) first.1 ∙ append_assoc s.approved first.0 second.0),
 )
 
-pub next_still : (s next : State) → IsNext s next → IsStill s next
-next_still s next (inl same) = subst (IsStill s) (sym same) (still_same s)
-next_still s next (inr (inl (q, same))) =
+pub next_still : (May : Step → Type 0) (s next : State) → IsNext May s next → IsStill s next
+next_still May s next (inl same) = subst (IsStill s) (sym same) (still_same s)
+next_still May s next (inr (inl (q, may, same))) =
     subst (IsStill s) (sym same) (after_or_before (IsStill s) s q (still_same s) (λ c new. (row_of q c ∷ [], refl)))
-next_still s next (inr (inr (last, low, same))) = subst (IsStill s) (sym same) (still_same s)
+next_still May s next (inr (inr (last, may, low, same))) = subst (IsStill s) (sym same) (still_same s)
 
 judged_still : (s : State) (js : List Judgement) → IsStill s (left_by s js)
 judged_still s [] = still_same s
 judged_still s (j ∷ js) =
     let next = after s j.question in
-    still_then s next (left_by next js) (next_still s next (inr (inl (j.question, refl)))) (judged_still next js)
+    still_then s next (left_by next js) (next_still (OfQuestion j.question) s next (inr (inl (j.question, refl, refl))))
+    (judged_still next js)
 
 -- ---- what was said
 

@@ -5,6 +5,7 @@ use Rattle.guard.specs.declared.register.Register as register
 use Rattle.guard.specs.declared.scope.Scope.{Scope}
 use Rattle.guard.specs.Policies.{policy_at}
 use Rattle.command_line.specs.declared.words_fault.WordsFault.{WordsFault}
+use Rattle.command_line.specs.declared.words_fault.WordsFault.TheVariants.{BadWords, Help, NoMemory}
 use Rattle.station_command.specs.declared.job.StationJob.{StationJob}
 use Rattle.station_command.specs.declared.job.StationJob.TheVariants.{Bodies, Body, Init, Judge, Lists}
 use Rattle.station_command.specs.declared.job.StationJob.TheVariants.{List as Listed, Policy, Retire}
@@ -18,10 +19,18 @@ use Rattle.station_jobs.specs.declared.station_fault.StationFault.TheVariants.{B
 use Rattle.station_jobs.specs.declared.surroundings.Surroundings as surroundings
 use Rattle.station_jobs.specs.Bodies.{ListsBodies, PrintsBody}
 use Rattle.station_jobs.specs.Faults.{IsOfAFile}
-use Rattle.station_jobs.specs.Jobs.{InitsIn, LowersIn}
+use Rattle.station_jobs.specs.Jobs.{InitsIn, LowersIn, Prints}
+use Rattle.station_jobs.specs.Leaving.{OfNone}
 use Rattle.station_jobs.specs.Policy.{PrintsNames}
 use Rattle.station_jobs.specs.Whole.{Begins, Follows, JudgesIn, RunsIn}
 use Rattle.sshstation.specs.Ending.{status}
+
+-- What is printed if the arguments name no job, and the status: the text that they ask for, or nothing on the output.
+abbrev pub Declines : WordsFault → (held holds : Option (List ℕ)) → (answered : ℕ) → Type 0
+Declines (Help text) held holds answered =
+    (shown : Result (Unit {0}) StationFault) × Prints (string_bytes text) held holds shown × (answered ≡ status shown)
+Declines (BadWords text) held holds answered = (holds ≡ held) × (answered ≡ 2)
+Declines NoMemory held holds answered = (holds ≡ held) × (answered ≡ 1)
 
 -- Files are found by their paths; `remaining` is what can be read from a file.
 module _ {E F : Type 0} (world : surroundings.Ghosts E F) (around : E) (remaining : F → Option (List ℕ)) where
@@ -61,11 +70,11 @@ module _ {E F : Type 0} (world : surroundings.Ghosts E F) (around : E) (remainin
         JudgesIn world around remaining guard file db db' (string_bytes j.db) (string_bytes j.policy) j.ahead
         (map string_bytes j.bodies.items) input held holds result
     DoesJob (Bodies path) input held holds result =
-        RunsIn guard file db db' (string_bytes path) (λ s Left r. OnOk r (ListsBodies s held holds) × Left s (Ok tt))
-        (holds ≡ held) result
+        RunsIn guard file db db' (string_bytes path) OfNone
+        (λ s Left r. OnOk r (ListsBodies s held holds) × Left s (Ok tt)) (holds ≡ held) result
     DoesJob (Body path serial) input held holds result =
-        RunsIn guard file db db' (string_bytes path) (λ s Left r. PrintsBody s serial held holds r × Left s (Ok tt))
-        (holds ≡ held) result
+        RunsIn guard file db db' (string_bytes path) OfNone
+        (λ s Left r. PrintsBody s serial held holds r × Left s (Ok tt)) (holds ≡ held) result
     DoesJob (Policy path) input held holds result =
         PrintsPolicyAt (string_bytes path) held holds result × (db' ≡ db)
     DoesJob (Retire path last) input held holds result =
@@ -87,4 +96,4 @@ module _ {E F : Type 0} (world : surroundings.Ghosts E F) (around : E) (remainin
       DoesWords words input held holds answered =
           ((job : StationJob) × (result : Result (Unit {0}) StationFault) × Names words job
           × DoesJob job input held holds result × DoesList job held holds result × (answered ≡ status result))
-          ⊎ ((fault : WordsFault) × IsFaultOf words fault × (db' ≡ db) × (l' ≡ l))
+          ⊎ ((fault : WordsFault) × IsFaultOf words fault × (db' ≡ db) × (l' ≡ l) × Declines fault held holds answered)

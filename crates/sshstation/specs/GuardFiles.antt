@@ -1,5 +1,5 @@
 -- A guard in the two files of a database: how it is made and opened, and what closing it leaves of them.
-use Rattle.std.specs.Prelude.{◌≡◌, Result, Ok, Err}
+use Rattle.std.specs.Prelude.{◌≡◌, ◌⊎◌, Result, Ok, Err}
 use Rattle.sqlite_disk.specs.declared.Disk.{Ghosts}
 use Rattle.sqlite_disk.specs.declared.Files.{Files}
 use Rattle.sqlite_wal.specs.Recovery.{Image}
@@ -16,13 +16,16 @@ use Rattle.guard.specs.declared.scope.Scope.{Scope}
 use Rattle.guard.specs.State.{State}
 use Rattle.guard_sql.specs.declared.store.GuardStore.{GuardStore}
 use Rattle.guard_sql.specs.Keeping.{HasGuard, IsBlank, IsGuard}
-use Rattle.guard_sql.specs.Opening.{Finds, Founds}
+use Rattle.guard_sql.specs.Opening.{Finds, Founds, FoundsNone, Misses, SaysUnless}
+use Rattle.guard_sql.specs.declared.opening_fault.OpeningFault.{OpeningFault}
+use Rattle.guard_sql.specs.declared.opening_fault.OpeningFault.TheVariants as opening
 use Rattle.restart.specs.declared.ending.EndFault.{EndFault}
 use Rattle.restart.specs.declared.ending.EndFault.TheVariants.{GivenUp, Uncopied}
 use Rattle.guard_restart.specs.Images.{HoldsKept, HoldsOneOf}
 use Rattle.guard_restart.specs.Runs.{EndsWell, HasWhatIsHeld, IsBlankIfNone}
 use Rattle.station_jobs.specs.declared.station_fault.StationFault.{StationFault}
 use Rattle.station_jobs.specs.declared.station_fault.StationFault.TheVariants.{Device, NoMemory}
+use Rattle.station_jobs.specs.declared.station_fault.StationFault.TheVariants as station
 
 -- ---- faults
 
@@ -37,6 +40,26 @@ of_ending (Ok done) = Ok done
 of_ending (Err (GivenUp error)) = Err (of_database error)
 of_ending (Err (Uncopied error)) = Err (of_database error)
 
+-- the fault of a guard that wasn't opened or made
+abbrev pub of_opening : OpeningFault → StationFault
+of_opening opening.AlreadyAGuard = station.AlreadyAGuard
+of_opening opening.NotAGuard = station.NotAGuard
+of_opening opening.WrongSchema = station.WrongSchema
+of_opening opening.Damaged = station.Damaged
+of_opening opening.Device = Device
+of_opening opening.NoMemory = NoMemory
+
+-- the faults of files that can't be looked for, made or opened
+abbrev pub IsOfFiles : StationFault → Type 0
+IsOfFiles Device = Unit {0}
+IsOfFiles NoMemory = Unit {0}
+IsOfFiles other = ⊥
+
+-- the same faults, and that of a file that doesn't exist
+abbrev pub IsOfSearch : StationFault → Type 0
+IsOfSearch station.NotAGuard = Unit {0}
+IsOfSearch e = IsOfFiles e
+
 -- the log was copied, or copying it had not begun
 abbrev pub IsWhole : Result (Unit {0}) EndFault → Type 0
 IsWhole (Ok done) = Unit {0}
@@ -48,6 +71,10 @@ IsWhole (Err (Uncopied error)) = ⊥
 -- the tables hold a guard
 abbrev pub HasOne : Connection → Type 0
 HasOne c = (s : State) × HasGuard s c
+
+-- what the fault implies of rows of a guard's tables, and of tables that hold a guard
+abbrev pub SaysAndMisses : Connection → Connection → OpeningFault → Type 0
+SaysAndMisses old new e = SaysUnless old new (Err e) × Misses old new e
 
 module _ {D : Type 0} {g : Ghosts D} where
   -- The connection is new. If its disk has returned what was written, it has each guard that the files held, and is
@@ -67,6 +94,28 @@ module _ {D : Type 0} {g : Ghosts D} where
     pub right : Wrong (file_state conn) → ⊥
     pub honest : HasCleanDisk (file_state guard.conn) → HasCleanDisk (file_state conn)
     pub found : HasCleanDisk (file_state guard.conn) → Found (file_state conn) (file_state guard.conn)
+
+  -- A connection to the files was opened, but no guard over it, for the fault that is reported. If the disk has
+  -- returned what was written, the fault has this cause in the connection, as it was opened and as it was left.
+  pub record OpensNone (image : Image) (Caused : Connection → Connection → OpeningFault → Type 0)
+      (found : Result (GuardStore (FileStore D g)) StationFault) : Type 0 where
+    pub conn : Held (FileStore D g)
+    pub last : Held (FileStore D g)
+    pub files : OpensFiles image conn
+    pub fault : OpeningFault
+    pub is : found ≡ Err (of_opening fault)
+    pub honest : HasCleanDisk (file_state last) → HasCleanDisk (file_state conn)
+    pub caused : HasCleanDisk (file_state last) → Caused (file_state conn) (file_state last) fault
+
+  -- why a guard isn't opened: its files weren't, or what their tables hold
+  abbrev pub FindsNone : Image → Result (GuardStore (FileStore D g)) StationFault → Type 0
+  FindsNone image (Ok guard) = Unit {0}
+  FindsNone image (Err e) = IsOfSearch e ⊎ OpensNone image SaysAndMisses (Err e)
+
+  -- why a guard isn't made
+  abbrev pub MakesNone : Image → Result (GuardStore (FileStore D g)) StationFault → Type 0
+  MakesNone image (Ok guard) = Unit {0}
+  MakesNone image (Err e) = IsOfFiles e ⊎ OpensNone image FoundsNone (Err e)
 
   -- the guard in the tables is opened, if there are any
   abbrev pub FindsGuard : Image → GuardStore (FileStore D g) → Type 0

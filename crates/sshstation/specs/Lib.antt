@@ -2,4 +2,5 @@ pub mod Ending
 pub mod GuardFiles
 pub mod Doing
 pub mod ListFiles
+pub mod Listing
 pub mod Living

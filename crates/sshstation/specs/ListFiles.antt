@@ -5,31 +5,46 @@ use Rattle.sqlite_disk.specs.declared.Files.{Files}
 use Rattle.sqlite_wal.specs.Recovery.{Image}
 use Rattle.sqlite_store.specs.declared.store.FileStore.{FileStore}
 use Rattle.sqlite.specs.State.{State as Connection, HasCleanDisk}
-use Rattle.sqlite.specs.Held.{Held}
+use Rattle.sqlite.specs.Held.{Held, IsNew}
 use Rattle.sqlite.specs.Files.{file_state}
+use Rattle.list_guard.specs.State.{State}
 use Rattle.list_sql.specs.declared.store.ListStore.{ListStore}
+use Rattle.list_sql.specs.Keeping.{HasList, IsBlank}
 use Rattle.list_sql.specs.Opening.{Finds, Founds}
 use Rattle.restart.specs.declared.ending.EndFault.{EndFault}
-use Rattle.guard_restart.specs.Runs.{EndsWell}
+use Rattle.list_restart.specs.Runs.{EndsWell, HasWhatIsHeld, IsBlankIfNone}
 use Rattle.station_jobs.specs.declared.station_fault.StationFault.{StationFault}
-use Rattle.sshstation.specs.GuardFiles.{OpensFiles, of_ending}
+use Rattle.sshstation.specs.GuardFiles.{of_ending}
+
+-- the table holds a guard of lists
+abbrev pub HasAny : Connection → Type 0
+HasAny c = (s : State) × HasList s c
 
 module _ {D : Type 0} {g : Ghosts D} where
-  -- A connection to the files was opened, and this is the guard of lists over it. If the disk has returned what was
-  -- written, it has found what the connection had: the guard of the table, or tables that were blank.
-  pub record OpensList (image : Image) (Found : Connection → Connection → Type 0) (guard : ListStore (FileStore D g))
-      : Type 0 where
+  -- The connection is new. If its disk has returned what was written, it has each guard of lists that the files held,
+  -- and no table if they held none.
+  pub record OpensLists (image : Image) (conn : Held (FileStore D g)) : Type 0 where
+    pub new : IsNew conn
+    pub held : HasCleanDisk (file_state conn) → HasWhatIsHeld image (file_state conn)
+    pub blank : HasCleanDisk (file_state conn) → IsBlankIfNone image (file_state conn)
+
+  -- Such a connection to the files was opened, `Wrong` doesn't hold for it, and this is the guard of lists over it. If
+  -- the disk has returned what was written, `Found` holds.
+  pub record OpensList (image : Image) (Wrong : Connection → Type 0) (Found : Connection → Connection → Type 0)
+      (guard : ListStore (FileStore D g)) : Type 0 where
     pub conn : Held (FileStore D g)
-    pub files : OpensFiles image conn
+    pub files : OpensLists image conn
+    pub right : Wrong (file_state conn) → ⊥
+    pub honest : HasCleanDisk (file_state guard.conn) → HasCleanDisk (file_state conn)
     pub found : HasCleanDisk (file_state guard.conn) → Found (file_state conn) (file_state guard.conn)
 
   -- the guard of lists in the table is opened
   abbrev pub FindsList : Image → ListStore (FileStore D g) → Type 0
-  FindsList image guard = OpensList image (Finds guard.last) guard
+  FindsList image guard = OpensList image IsBlank (Finds guard.last) guard
 
-  -- a guard of lists that has approved nothing yet is made in blank tables
+  -- a guard of lists that has approved nothing yet is made in a database without tables
   abbrev pub MakesList : Image → ListStore (FileStore D g) → Type 0
-  MakesList image guard = OpensList image Founds guard × (guard.last ≡ None)
+  MakesList image guard = OpensList image HasAny Founds guard × (guard.last ≡ None)
 
   -- the end of the guard's connection, with the fault that is returned for it
   abbrev pub EndsList : ListStore (FileStore D g) → Result (Unit {0}) StationFault

@@ -14,6 +14,7 @@ use Rattle.guard.specs.declared.register.Register as register
 use Rattle.guard_sql.specs.declared.store.GuardStore.{GuardStore}
 use Rattle.list_guard.specs.declared.register.ListRegister as lister
 use Rattle.list_jobs.specs.declared.list_file.ListFile as lists
+use Rattle.list_sql.specs.declared.store.ListStore.{ListStore}
 use Rattle.station_jobs.specs.declared.guard_file.GuardFile as file
 use Rattle.station_jobs.specs.declared.surroundings.Surroundings as surroundings
 use Rattle.restart.specs.declared.ending.EndFault.{EndFault}
@@ -21,6 +22,7 @@ use Rattle.guard_restart.specs.Lives.{Said}
 use Rattle.guard_restart.specs.Runs.{RunsOn}
 use Rattle.sshstation.specs.Doing.{DoesWords}
 use Rattle.sshstation.specs.GuardFiles.{IsWhole}
+use Rattle.sshstation.specs.Listing.{AreListed}
 
 -- what a job says about unsigned certificates (bodies), by its output before and after it; only judging says anything
 abbrev pub said_by : StationJob → (held holds : Option (List ℕ)) → Said
@@ -45,13 +47,15 @@ AreLived g image words held holds left =
     ((job : StationJob) × Names words job × IfSome left (IsLived g image (said_by job held holds)))
     ⊎ ((fault : WordsFault) × IsFaultOf words fault × (left ≡ None))
 
--- The effect of the words in a world, with files for which `Is` holds afterwards. The files of a guard held `image`
--- before, and are left as in `left`.
-pub record RunsWords {E F D L K H : Type 0} {g : Ghosts H} (world : surroundings.Ghosts E F)
+-- The effect of the words in a world, with files for which `Is` and `AreLists` hold afterwards. The files of a guard
+-- held `image` before, and are left as in `left`. Those of a guard of lists held `lists_image`, and are left as in
+-- `lists_left`.
+pub record RunsWords {E F D L H M : Type 0} {g : Ghosts H} {h : Ghosts M} (world : surroundings.Ghosts E F)
     (remaining : F → Option (List ℕ)) (guard : register.Ghosts (GuardStore (FileStore H g)))
-    (file : file.Ghosts D (GuardStore (FileStore H g))) (keeper : lister.Ghosts K) (file_of : lists.Ghosts L K)
-    (Is : D → Type 0) (image : Image) (left : Left H) (words : List (List ℕ)) (held holds : Option (List ℕ))
-    (answered : ℕ) : Type 0 where
+    (file : file.Ghosts D (GuardStore (FileStore H g))) (keeper : lister.Ghosts (ListStore (FileStore M h)))
+    (file_of : lists.Ghosts L (ListStore (FileStore M h))) (Is : D → Type 0) (AreLists : L → Type 0)
+    (image lists_image : Image) (left : Left H) (lists_left : Left M) (words : List (List ℕ))
+    (held holds : Option (List ℕ)) (answered : ℕ) : Type 0 where
   pub around : E
   pub input : Option (List ℕ)
   pub before : D
@@ -59,6 +63,8 @@ pub record RunsWords {E F D L K H : Type 0} {g : Ghosts H} (world : surroundings
   pub lists_before : L
   pub lists_after : L
   pub is_left : Is after
+  pub are_left : AreLists lists_after
   pub does : DoesWords world around remaining guard file before after keeper file_of lists_before lists_after words
       input held holds answered
   pub lived : AreLived g image words held holds left
+  pub listed : AreListed world around remaining h lists_image words held holds lists_left

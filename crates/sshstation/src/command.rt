@@ -4,7 +4,7 @@ ghost use Rattle.std.specs.Prelude.{◌≡◌, ◌≤◌, IfErr, map, string_byt
 ghost use Rattle.office.specs.Openings.{are_serials};
 ghost use Rattle.station_command.specs.Answers.{AreBad};
 ghost use Rattle.station_jobs.specs.Whole.{KeepsFiles};
-ghost use Rattle.sshstation.specs.Doing.{DoesJob, DoesList, DoesWords, InitsAt, PrintsPolicyAt};
+ghost use Rattle.sshstation.specs.Doing.{Declines, DoesJob, DoesList, DoesWords, InitsAt, PrintsPolicyAt};
 ghost use Rattle.sshstation.specs.Ending.{IsOfBadWords};
 
 use crate::ending::status_of;
@@ -173,6 +173,7 @@ pub(crate) fn do_job<
 fn answer_words<O: Write, E: Write>(fault: WordsFault, out: &mut O, err: &mut E) -> u8
     ensures status { result ≤ BAD_WORDS }
     ensures bad { result ≡ BAD_WORDS → IsOfBadWords fault }
+    ensures declines { Declines fault (O.contents out.old) (O.contents out.new) result }
 {
     match fault {
         WordsFault::Help(text) => {

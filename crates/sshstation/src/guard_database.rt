@@ -1,12 +1,14 @@
 //! Guards in the files of databases: finding, making, opening and closing them.
 
-ghost use Rattle.std.specs.Prelude.{◌≡◌, IfOk, IsSomeAnd, IsTrue, None};
+ghost use Rattle.std.specs.Prelude.{◌≡◌, IfErr, IfOk, IsSomeAnd, IsTrue, None, OnErr};
 ghost use Rattle.office.specs.Openings.{are_serials};
 ghost use Rattle.sqlite_wal.specs.Files.{image_at};
 ghost use Rattle.restart.specs.Images.{HoldsNone};
 ghost use Rattle.guard_restart.specs.Images.{HoldsKept};
-ghost use Rattle.sshstation.specs.GuardFiles.{AreSettled, EndsGuard, FindsGuard, HaveGuard, HaveOne};
-ghost use Rattle.sshstation.specs.GuardFiles.{MakesGuard, OpensFiles, of_database, of_ending};
+ghost use Rattle.guard_sql.specs.Opening.{FoundsNone};
+ghost use Rattle.sshstation.specs.GuardFiles.{AreSettled, EndsGuard, FindsGuard, FindsNone, HaveGuard, HaveOne};
+ghost use Rattle.sshstation.specs.GuardFiles.{IsOfFiles, IsOfSearch, MakesGuard, MakesNone, OpensFiles, OpensNone};
+ghost use Rattle.sshstation.specs.GuardFiles.{SaysAndMisses, of_database, of_ending, of_opening};
 
 use guard::Scope;
 use guard_restart::{end_path, open_at};
@@ -33,7 +35,7 @@ pub(crate) type FilesLeft<S> = (Result<(), EndFault>, Files<FileFrom<S>>);
 pub(crate) type FileGuard<S> = GuardStore<FileStore<FileFrom<S>>>;
 
 /// The fault of a database that wasn't opened or closed.
-fn database_fault(error: Error) -> StationFault
+pub(crate) fn database_fault(error: Error) -> StationFault
     ensures { result ≡ of_database error }
 {
     match error {
@@ -43,7 +45,9 @@ fn database_fault(error: Error) -> StationFault
 }
 
 /// The fault of a database that can't be looked for or made.
-fn unfound_fault(error: &io::Error) -> StationFault {
+fn unfound_fault(error: &io::Error) -> StationFault
+    ensures { IsOfFiles result }
+{
     match error.kind() {
         ErrorKind::OutOfMemory => StationFault::NoMemory,
         _ => StationFault::Device,
@@ -51,7 +55,9 @@ fn unfound_fault(error: &io::Error) -> StationFault {
 }
 
 /// The fault of a guard that wasn't opened or made.
-fn unopened_fault(fault: OpeningFault) -> StationFault {
+fn unopened_fault(fault: OpeningFault) -> StationFault
+    ensures { result ≡ of_opening fault }
+{
     match fault {
         OpeningFault::AlreadyAGuard => StationFault::AlreadyAGuard,
         OpeningFault::NotAGuard => StationFault::NotAGuard,
@@ -63,12 +69,13 @@ fn unopened_fault(fault: OpeningFault) -> StationFault {
 }
 
 /// Opens the database at a path, or makes one without tables. `start` represents what its files hold.
-pub(crate) fn open_database<S: Start>(
+fn open_database<S: Start>(
     rt: &HostRuntime,
     path: &str,
     start: S,
 ) -> Result<FileConnection<S>, StationFault>
-    ensures { IfOk result (OpensFiles (image_at S.Start)) }
+    ensures ok { IfOk result (OpensFiles (image_at S.Start)) }
+    ensures err { IfErr result IsOfFiles }
 {
     match open_at(rt, path, start) {
         Ok(conn) => Ok(conn),
@@ -111,7 +118,9 @@ fn make_file(rt: &HostRuntime, path: &str) -> io::Result<()> {
 }
 
 /// Makes the file of a guard, if it doesn't exist.
-pub(crate) fn made(rt: &HostRuntime, path: &str) -> Result<(), StationFault> {
+pub(crate) fn made(rt: &HostRuntime, path: &str) -> Result<(), StationFault>
+    ensures { IfErr result IsOfFiles }
+{
     match make_file(rt, path) {
         Ok(()) => Ok(()),
         Err(error) => Err(unfound_fault(&error)),
@@ -119,7 +128,10 @@ pub(crate) fn made(rt: &HostRuntime, path: &str) -> Result<(), StationFault> {
 }
 
 /// Looks for the file of a guard.
-pub(crate) fn looked_for(rt: &HostRuntime, path: &str) -> Result<(), StationFault> {
+#[tactic(auto, using(crate::proofs::Kept::files_searched))]
+pub(crate) fn looked_for(rt: &HostRuntime, path: &str) -> Result<(), StationFault>
+    ensures { IfErr result IsOfSearch }
+{
     match fs::exists(rt, path) {
         Ok(true) => Ok(()),
         Ok(false) => Err(StationFault::NotAGuard),
@@ -152,6 +164,7 @@ impl<'a, S: Start> GuardDatabase<'a, S> {
     /// Opens the files at a path, unless they were opened before.
     fn connect(&mut self, path: &str) -> Result<FileConnection<S>, StationFault>
         ensures opens { IfOk result (OpensFiles (image_at S.Start)) }
+        ensures fault { IfErr result IsOfFiles }
         ensures left { self.new.left ≡ self.old.left }
     {
         match self.start.take() {
@@ -179,7 +192,8 @@ fn make_over<S: Start>(
 ) -> Result<FileGuard<S>, StationFault>
     requires files { OpensFiles (image_at S.Start) conn }
     requires lawful { IsTrue (are_serials first last) }
-    ensures { IfOk result (MakesGuard (image_at S.Start) (record { ca = ca; first = first; last = last })) }
+    ensures made { IfOk result (MakesGuard (image_at S.Start) (record { ca = ca; first = first; last = last })) }
+    ensures none { OnErr result (OpensNone (image_at S.Start) FoundsNone result) }
 {
     match GuardStore::init(alloc, conn, &Scope { ca, first, last }) {
         Ok(guard) => Ok(guard),
@@ -193,7 +207,8 @@ fn make_over<S: Start>(
 /// Opens the guard of a new connection.
 fn open_over<S: Start>(alloc: Global, conn: FileConnection<S>) -> Result<FileGuard<S>, StationFault>
     requires { OpensFiles (image_at S.Start) conn }
-    ensures { IfOk result (FindsGuard (image_at S.Start)) }
+    ensures found { IfOk result (FindsGuard (image_at S.Start)) }
+    ensures none { OnErr result (OpensNone (image_at S.Start) SaysAndMisses result) }
 {
     match GuardStore::open(alloc, conn) {
         Ok(guard) => Ok(guard),
@@ -208,9 +223,10 @@ impl<S: Start> GuardFile for GuardDatabase<'_, S> {
     type Guard = FileGuard<S>;
 
     ghost makes = { λ db _ scope found after. IfOk found (MakesGuard (image_at S.Start) scope)
-        × (after.left ≡ db.left) };
+        × (after.left ≡ db.left) × MakesNone (image_at S.Start) found };
 
-    ghost opens = { λ db _ found after. IfOk found (FindsGuard (image_at S.Start)) × (after.left ≡ db.left) };
+    ghost opens = { λ db _ found after. IfOk found (FindsGuard (image_at S.Start)) × (after.left ≡ db.left)
+        × FindsNone (image_at S.Start) found };
 
     ghost closes = { λ _ guard done db. IsSomeAnd db.left (EndsGuard guard done) };
 
@@ -224,6 +240,7 @@ impl<S: Start> GuardFile for GuardDatabase<'_, S> {
 
     ghost has_one = { λ db guard s t. IsSomeAnd db.left (HaveOne guard s t) };
 
+    #[tactic(auto, using(crate::proofs::Kept::not_made))]
     fn make(
         &mut self,
         alloc: Global,
@@ -239,6 +256,7 @@ impl<S: Start> GuardFile for GuardDatabase<'_, S> {
         }
     }
 
+    #[tactic(auto, using(crate::proofs::Kept::files_searched, crate::proofs::Kept::not_found))]
     fn open(&mut self, alloc: Global, path: &str) -> Result<FileGuard<S>, StationFault> {
         match looked_for(self.rt, path) {
             Ok(()) => match self.connect(path) {

@@ -60,9 +60,9 @@ impl Surroundings for Host<'_> {
     }
 }
 
-/// Does what the words ask for, with the system's files and clock. Returns the exit status, and the files of a guard as
-/// they are left, if any were closed. `start` represents what the files of a guard hold, and `lists` what those of a
-/// guard of lists hold: a job opens one or the other.
+/// Does what the words ask for, with the system's files and clock. Returns the exit status, and the files of a guard
+/// and of a guard of lists as they are left, if any were closed. `start` represents what the files of a guard hold, and
+/// `lists` what those of a guard of lists hold: a job opens one or the other.
 pub(crate) fn run<S: Start, T: Start, O: Write, E: Write>(
     rt: &HostRuntime,
     start: S,
@@ -70,16 +70,17 @@ pub(crate) fn run<S: Start, T: Start, O: Write, E: Write>(
     words: &[String],
     out: &mut O,
     err: &mut E,
-) -> (u8, Option<FilesLeft<S>>)
+) -> (u8, Option<FilesLeft<S>>, Option<FilesLeft<T>>)
     ensures status { result.0 ≤ BAD_WORDS }
     ensures bad { result.0 ≡ BAD_WORDS → AreBad (map string_bytes words.now) }
 
-    // This is the effect of the words, and a job over the files of a guard was a run in their lifetime.
+    // This is the effect of the words, and a job over the files of a guard, or of a guard of lists, was a run in their
+    // lifetime.
     ensures runs { RunsWords ⟦<Host<'static> as Surroundings>⟧ ⟦<fs::File as Read>⟧.remaining
         ⟦<GuardStore<FileStore<FileFrom<S>>> as Register>⟧ ⟦<GuardDatabase<'static, S> as GuardFile>⟧
         ⟦<ListStore<FileStore<FileFrom<T>>> as ListRegister>⟧ ⟦<ListDatabase<'static, T> as ListFile>⟧
-        (λ db. db.left ≡ result.1) (image_at S.Start) result.1 (map string_bytes words.now) (O.contents out.old)
-        (O.contents out.new) result.0 }
+        (λ db. db.left ≡ result.1) (λ lists. lists.left ≡ result.2) (image_at S.Start) (image_at T.Start) result.1
+        result.2 (map string_bytes words.now) (O.contents out.old) (O.contents out.new) result.0 }
 {
     let mut db = GuardDatabase::new(rt, start);
     let mut lists = ListDatabase::new(rt, lists);
@@ -95,5 +96,5 @@ pub(crate) fn run<S: Start, T: Start, O: Write, E: Write>(
         out,
         err,
     );
-    (status, db.into_left())
+    (status, db.into_left(), lists.into_files_left())
 }

@@ -11,16 +11,18 @@ use Rattle.station_jobs.specs.declared.station_fault.StationFault.TheVariants.{B
 use Rattle.station_jobs.specs.Bodies.{ListsBodies, PrintsBody}
 use Rattle.station_jobs.specs.Input.{JudgesInput}
 use Rattle.station_jobs.specs.Judging.{Judges}
-use Rattle.station_jobs.specs.Leaving.{Leaves, Outlasts}
+use Rattle.station_jobs.specs.Leaving.{Leaves, OfNone, Outlasts, Step}
 use Rattle.station_jobs.specs.Whole.{ClosesNew, Does, JudgesGiven, KeepsFiles, LeavesFiles, Retires, RetiresTo, RunsIn}
 use Rattle.station_jobs.specs.Whole.{closed}
 use Rattle.station_jobs.proofs.Judgements.{judged_so}
 
 module _ {D G : Type 0} (guard : register.Ghosts G) (file : file.Ghosts D G) (keeps : KeepsFiles guard file) where
   -- what is left of an open guard is left in its files
-  leaves_files : {A : Type 0} (db db' : D) (first last : G) (s t : State) (outcome : Result A StationFault)
+  leaves_files : {A : Type 0} {May : Step → Type 0} (db db' : D) (first last : G) (s t : State)
+      (outcome : Result A StationFault)
       (closing : Result (Unit {0}) StationFault) → file.closes db last closing db' → file.is_settled db' last
-      → guard.leaves first s s → Leaves guard first last s t outcome → LeavesFiles guard file db' last closing t outcome
+      → guard.leaves first s s → Leaves guard May first last s t outcome
+      → LeavesFiles guard file May db' last closing t outcome
   leaves_files db db' first last s t outcome (Ok done) closes settled left is =
       keeps.closes db db' last closes settled t is.kept
   leaves_files db db' first last s t (Ok x) (Err e) closes settled left is =
@@ -30,28 +32,31 @@ module _ {D G : Type 0} (guard : register.Ghosts G) (file : file.Ghosts D G) (ke
       (lasts.0, lasts.1, keeps.gives_up db db' last e closes settled t lasts.0 is.kept lasts.2)
 
   -- what was done over the guard was done over its files
-  runs_over : {A : Type 0} (Did : State → (Left : State → Result A StationFault → Type 0) → Result A StationFault → Type 0)
+  runs_over : {A : Type 0} (May : Step → Type 0)
+      (Did : State → (Left : State → Result A StationFault → Type 0) → Result A StationFault → Type 0)
       → ((s : State) (Left Left' : State → Result A StationFault → Type 0) (r : Result A StationFault)
       → ((t : State) (r : Result A StationFault) → Left t r → Left' t r) → Did s Left r → Did s Left' r)
       → (before opened db' : D) (path : List ℕ) (first last : G) (outcome : Result A StationFault)
       (closing : Result (Unit {0}) StationFault) → file.opens before path (Ok first) opened
-      → Does guard Did first last outcome → file.closes opened last closing db'
-      → file.is_settled db' last → (s : State) → file.held s → Did s (LeavesFiles guard file db' last closing) outcome
-  runs_over Did grows before opened db' path first last outcome closing opens did closes settled s held =
+      → Does guard May Did first last outcome → file.closes opened last closing db'
+      → file.is_settled db' last → (s : State) → file.held s →
+      Did s (LeavesFiles guard file May db' last closing) outcome
+  runs_over May Did grows before opened db' path first last outcome closing opens did closes settled s held =
       let honest = keeps.honest opened db' last closing closes settled in
       let found = keeps.opens before opened path first opens (did.0 honest) s held in
-      grows s (Leaves guard first last s) (LeavesFiles guard file db' last closing) outcome
+      grows s (Leaves guard May first last s) (LeavesFiles guard file May db' last closing) outcome
       (λ t r is. leaves_files opened db' first last s t r closing closes settled found.1 is)
       (did.1 honest s found.0)
 
-  pub ran_in : {A : Type 0} (Did : State → (Left : State → Result A StationFault → Type 0) → Result A StationFault → Type 0)
+  pub ran_in : {A : Type 0} (May : Step → Type 0)
+      (Did : State → (Left : State → Result A StationFault → Type 0) → Result A StationFault → Type 0)
       → ((s : State) (Left Left' : State → Result A StationFault → Type 0) (r : Result A StationFault)
       → ((t : State) (r : Result A StationFault) → Left t r → Left' t r) → Did s Left r → Did s Left' r)
       → (Nothing : Type 0) (before opened db' : D) (path : List ℕ) (first last : G) (outcome : Result A StationFault)
       (closing : Result (Unit {0}) StationFault) (result : Result A StationFault) → file.opens before path (Ok first) opened
-      → Does guard Did first last outcome → file.closes opened last closing db' → result ≡ closed outcome closing
-      → RunsIn guard file before db' path Did Nothing result
-  ran_in Did grows Nothing before opened db' path first last outcome closing result opens did closes came = record {
+      → Does guard May Did first last outcome → file.closes opened last closing db' → result ≡ closed outcome closing
+      → RunsIn guard file before db' path May Did Nothing result
+  ran_in May Did grows Nothing before opened db' path first last outcome closing result opens did closes came = record {
     found = Ok first;
     opened = opened;
     is_opened = opens;
@@ -62,7 +67,7 @@ module _ {D G : Type 0} (guard : register.Ghosts G) (file : file.Ghosts D G) (ke
       closing = closing;
       is_closed = closes;
       came = came;
-      files = runs_over Did grows before opened db' path first last outcome closing opens did closes;
+      files = runs_over May Did grows before opened db' path first last outcome closing opens did closes;
     };
   }
 
@@ -79,7 +84,7 @@ module _ {D G : Type 0} (guard : register.Ghosts G) (file : file.Ghosts D G) (ke
     where
       filed : guard.keeps g (opened scope) × guard.leaves g (opened scope) (opened scope)
           → (r : Result (Unit {0}) StationFault) → file.closes made g r db' → file.is_settled db' g
-          → LeavesFiles guard file {A = Unit {0}} db' g r (opened scope) (Ok tt)
+          → LeavesFiles guard file {A = Unit {0}} OfNone db' g r (opened scope) (Ok tt)
       filed stores (Ok done) closes settled = keeps.closes made db' g closes settled (opened scope) stores.0
       filed stores (Err e) closes settled =
           keeps.gives_up made db' g e closes settled (opened scope) (opened scope) stores.0 stores.1

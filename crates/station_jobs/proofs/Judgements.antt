@@ -19,9 +19,9 @@ use Rattle.station_jobs.specs.declared.station_fault.StationFault.{StationFault}
 use Rattle.station_jobs.specs.declared.surroundings.Surroundings.{Ghosts}
 use Rattle.station_jobs.specs.Judging.{AreAnswered, Asks, AsksNow, Covers, IsPolicyAt, IsPrinted, Judgement, Judges}
 use Rattle.station_jobs.specs.Judging.{left_by, lines_of}
-use Rattle.station_jobs.specs.Leaving.{Leaves}
+use Rattle.station_jobs.specs.Leaving.{IsNext, Leaves, OfBodies, OfQuestion, Step}
 use Rattle.station_jobs.specs.Steps.{Answered, AnswersOne, IsLinePrinted, NotOk, Weighs}
-use Rattle.station_jobs.proofs.Leavings.{leaves_then}
+use Rattle.station_jobs.proofs.Leavings.{leaves_so, leaves_then}
 use Rattle.station_jobs.proofs.Longer.{of_all}
 
 -- ---- lists of judgements
@@ -166,14 +166,15 @@ same_scope : (s : State) (js : List Judgement) → (left_by s js).scope ≡ s.sc
 same_scope s [] = refl
 same_scope s (j ∷ js) = same_scope (after s j.question) js ∙ one_scope s j.question
 
-pub judged_then : {G : Type 0} (guard : register.Ghosts G) (old between new : G) (Asked : List ℕ → Question → Type 0)
+pub judged_then : {G : Type 0} {May : Step → Type 0} (guard : register.Ghosts G) (old between new : G)
+    (Asked : List ℕ → Question → Type 0)
     (s : State) (a b : List (List ℕ)) (held mid holds : Option (List ℕ)) (r : Result (Unit {0}) StationFault)
-    (first : Judges s (Leaves guard old between s) Asked a held mid (Ok tt))
-    → Judges (left_by s first.judged) (Leaves guard between new (left_by s first.judged)) Asked b mid holds r
-    → Judges s (Leaves guard old new s) Asked (a ++ b) held holds r
-judged_then guard old between new Asked s a b held mid holds r first second =
-    judged_on (Leaves guard old between s) (Leaves guard between new (left_by s first.judged)) (Leaves guard old new s)
-    Asked s a b held mid holds r first second
+    (first : Judges s (Leaves guard May old between s) Asked a held mid (Ok tt))
+    → Judges (left_by s first.judged) (Leaves guard May between new (left_by s first.judged)) Asked b mid holds r
+    → Judges s (Leaves guard May old new s) Asked (a ++ b) held holds r
+judged_then {May = May} guard old between new Asked s a b held mid holds r first second =
+    judged_on (Leaves guard May old between s) (Leaves guard May between new (left_by s first.judged))
+    (Leaves guard May old new s) Asked s a b held mid holds r first second
     (λ t is. leaves_then guard old between new s (left_by s first.judged) t r (same_scope s first.judged) first.left is)
 
 -- the same judgements, with a weaker statement about what is left or about the questions
@@ -254,21 +255,44 @@ one_judged Left Asked s path q held holds r asks (inr is) = go r is
 
 -- ---- questions about a file
 
--- a body was read from a file at the path and judged, at a time of the clock
-pub one_weighed : {E F : Type 0} (world : Ghosts E F) (around : E) (remaining : F → Option (List ℕ))
-    (policy : List Department) (ahead : ℕ) (path read body : List ℕ) (moment : ℕ) → body ≡ read
-    → Weighs world around remaining path read moment
-    → (Left : State → Result (Unit {0}) StationFault → Type 0) (s : State) (held holds : Option (List ℕ))
+-- a question that was asked of a body at a path leads to the next state, and so does one of the same effect
+asked_next : (Asked : List ℕ → Question → Type 0) (path : List ℕ) (q all : Question) → Asked path all
+    → ((t : State) → after t q ≡ after t all) → (t next : State) → IsNext (OfQuestion q) t next
+    → IsNext (OfBodies Asked) t next
+asked_next Asked path q all asks same t next (inl is) = inl is
+asked_next Asked path q all asks same t next (inr (inl (p, one, is))) =
+    inr (inl (all, (path, asks), is ∙ (ap (λ x. after t x) one ∙ same t)))
+asked_next Asked path q all asks same t next (inr (inr (last, none, low, is))) = absurd none
+
+-- a body was read from a file at the path and judged over a register, at a time of the clock
+pub one_weighed : {E F G : Type 0} (guard : register.Ghosts G) (old new : G) (world : Ghosts E F) (around : E)
+    (remaining : F → Option (List ℕ)) (policy : List Department) (ahead : ℕ) (path read body : List ℕ) (moment : ℕ)
+    → body ≡ read → Weighs world around remaining path read moment → (s : State) (held holds : Option (List ℕ))
     (r : Result (Unit {0}) StationFault)
-    → AnswersOne s Left (record { policy = policy; moment = moment; ahead = ahead; body = body }) held holds r
-    → Judges s Left (Asks world around remaining (λ p. p ≡ policy) ahead) (path ∷ []) held holds r
-one_weighed world around remaining policy ahead path read body moment same is Left s held holds r answers =
+    → AnswersOne s
+    (Leaves guard (OfQuestion (record { policy = policy; moment = moment; ahead = ahead; body = body })) old new s)
+    (record { policy = policy; moment = moment; ahead = ahead; body = body }) held holds r
+    → Judges s (Leaves guard (OfBodies (Asks world around remaining (λ p. p ≡ policy) ahead)) old new s)
+    (Asks world around remaining (λ p. p ≡ policy) ahead) (path ∷ []) held holds r
+one_weighed guard old new world around remaining policy ahead path read body moment same is s held holds r answers =
     let q : Question = record { policy = policy; moment = moment; ahead = ahead; body = body } in
-    let all = of_all (remaining is.file) s q Left held holds r
+    let Asked : List ℕ → Question → Type 0 = Asks world around remaining (λ p. p ≡ policy) ahead in
+    let all = of_all (remaining is.file) s q (Leaves guard (OfQuestion q) old new s) held holds r
     (subst (λ (b : List ℕ). IfSome (remaining is.file) (λ bytes. b ≡ take 16385 bytes)) (sym same) is.body_of) answers in
-    one_judged Left (Asks world around remaining (λ p. p ≡ policy) ahead) s path (record q { body = all.0 }) held holds r
-    (record { file = is.file; found = is.found; body = all.1; policy = refl; moment = is.moment_of; ahead_of = refl })
-    all.2
+    let asks : Asked path (record q { body = all.0 }) = record {
+      file = is.file;
+      found = is.found;
+      body = all.1;
+      policy = refl;
+      moment = is.moment_of;
+      ahead_of = refl;
+    } in
+    judged_so (Leaves guard (OfQuestion q) old new s) (Leaves guard (OfBodies Asked) old new s) Asked s (path ∷ []) held
+    holds r
+    (λ t left. leaves_so guard {May = OfQuestion q} {More = OfBodies Asked} old new s t r
+    (λ next may. asked_next Asked path q (record q { body = all.0 }) asks all.3 t next may) left)
+    (one_judged (Leaves guard (OfQuestion q) old new s) Asked s path (record q { body = all.0 })
+    held holds r asks all.2)
 
 -- by the policy in a file
 pub asks_now : {E F : Type 0} (world : Ghosts E F) (around : E) (remaining : F → Option (List ℕ)) (policy : List Department)
@@ -282,6 +306,35 @@ asks_now world around remaining policy at ahead is path q asks = record {
   moment = asks.moment;
   ahead_of = asks.ahead_of;
 }
+
+-- the same for the judgements of a register
+steps_now : {E F : Type 0} (world : Ghosts E F) (around : E) (remaining : F → Option (List ℕ))
+    (policy : List Department)
+    (at : List ℕ) (ahead : ℕ) → IsPolicyAt world around remaining at policy → (t next : State)
+    → IsNext (OfBodies (Asks world around remaining (λ p. p ≡ policy) ahead)) t next
+    → IsNext (OfBodies (AsksNow world around remaining at ahead)) t next
+steps_now world around remaining policy at ahead known t next (inl is) = inl is
+steps_now world around remaining policy at ahead known t next (inr (inl (q, (path, asks), is))) =
+    inr (inl (q, (path, asks_now world around remaining policy at ahead known path q asks), is))
+steps_now world around remaining policy at ahead known t next (inr (inr (last, none, low, is))) = absurd none
+
+pub judged_now : {E F G : Type 0} (guard : register.Ghosts G) (old new : G) (world : Ghosts E F) (around : E)
+    (remaining : F → Option (List ℕ)) (policy : List Department) (at : List ℕ) (ahead : ℕ)
+    → IsPolicyAt world around remaining at policy → (s : State) (paths : List (List ℕ)) (held holds : Option (List ℕ))
+    (r : Result (Unit {0}) StationFault)
+    → Judges s (Leaves guard (OfBodies (Asks world around remaining (λ p. p ≡ policy) ahead)) old new s)
+    (Asks world around remaining (λ p. p ≡ policy) ahead) paths held holds r
+    → Judges s (Leaves guard (OfBodies (AsksNow world around remaining at ahead)) old new s)
+    (AsksNow world around remaining at ahead) paths held holds r
+judged_now guard old new world around remaining policy at ahead known s paths held holds r is =
+    let Before : List ℕ → Question → Type 0 = Asks world around remaining (λ p. p ≡ policy) ahead in
+    let Now : List ℕ → Question → Type 0 = AsksNow world around remaining at ahead in
+    asked_so (Leaves guard (OfBodies Now) old new s) Before Now s paths held holds r
+    (asks_now world around remaining policy at ahead known)
+    (judged_so (Leaves guard (OfBodies Before) old new s) (Leaves guard (OfBodies Now) old new s)
+    Before s paths held holds
+    r (λ t left. leaves_so guard {May = OfBodies Before} {More = OfBodies Now} old new s t r
+    (λ next may. steps_now world around remaining policy at ahead known t next may) left) is)
 
 -- ---- paths in a list
 

@@ -17,7 +17,7 @@ use Rattle.guard.proofs.Allowed.{left_by}
 use Rattle.station_jobs.specs.declared.station_fault.StationFault.{StationFault}
 use Rattle.station_jobs.specs.declared.station_fault.StationFault.TheVariants as fault
 use Rattle.station_jobs.specs.Faults.{IsOfABody, IsOfAFile, IsOfAnAnswer, IsOfAPolicy, of_register}
-use Rattle.station_jobs.specs.Leaving.{HasCause, IsNext, Leaves, Stays}
+use Rattle.station_jobs.specs.Leaving.{HasCause, IsNext, Leaves, OfQuestion, Outlasts, Stays, Step}
 use Rattle.station_jobs.specs.Steps.{AnswersOne}
 
 -- ---- faults that don't come from a register
@@ -53,15 +53,33 @@ register_cause failed register.NoMemory h = tt
 -- ---- what is left
 
 -- each body stays in the next state
-pub next_still : (s next : State) → IsNext s next → IsStill s next
-next_still s next (inl same) = subst (IsStill s) (sym same) ([], sym (append-nil s.approved))
-next_still s next (inr (inl (q, same))) =
+pub next_still : (May : Step → Type 0) (s next : State) → IsNext May s next → IsStill s next
+next_still May s next (inl same) = subst (IsStill s) (sym same) ([], sym (append-nil s.approved))
+next_still May s next (inr (inl (q, may, same))) =
     subst (IsStill s) (sym same)
     (left_by (IsStill s) s q ([], sym (append-nil s.approved)) (λ c new. (row_of q c ∷ [], refl)))
-next_still s next (inr (inr (last, low, same))) = subst (IsStill s) (sym same) ([], sym (append-nil s.approved))
+next_still May s next (inr (inr (last, may, low, same))) =
+    subst (IsStill s) (sym same) ([], sym (append-nil s.approved))
+
+outlasts_so : {A : Type 0} (May More : Step → Type 0) (leaves : State → State → Type 0) (t : State)
+    (r : Result A StationFault) → ((next : State) → IsNext May t next → IsNext More t next) → Outlasts May leaves t r
+    → Outlasts More leaves t r
+outlasts_so May More leaves t (Ok x) leads is = is
+outlasts_so May More leaves t (Err e) leads is = (is.0, leads is.0 is.1, is.2)
 
 module _ {G : Type 0} (guard : Ghosts G) where
-  pub stays_same : (g : G) (s : State) → guard.keeps g s → Stays guard g g s
+  -- a job that may take each step of another may leave what the other leaves
+  pub leaves_so : {A : Type 0} {May More : Step → Type 0} (old new : G) (s t : State) (r : Result A StationFault)
+      → ((next : State) → IsNext May t next → IsNext More t next) → Leaves guard May old new s t r
+      → Leaves guard More old new s t r
+  leaves_so {May = May} {More = More} old new s t r leads is = record {
+    kept = is.kept;
+    lasts = λ left. outlasts_so May More (guard.leaves new) t r leads (is.lasts left);
+    cause = is.cause;
+  }
+
+  pub stays_same : {May : Step → Type 0} (g : G) (s : State) → guard.keeps g s
+      → Leaves {A = Unit {0}} guard May g g s s (Ok tt)
   stays_same g s kept = record { kept = kept; lasts = λ left. left; cause = λ low. tt }
 
   pub stays_then : (old between new : G) (s : State) → Stays guard old between s → Stays guard between new s
@@ -72,16 +90,18 @@ module _ {G : Type 0} (guard : Ghosts G) where
     cause = λ low. tt;
   }
 
-  pub fails_same : (A : Type 0) (g : G) (s : State) (e : StationFault) → guard.keeps g s
-      → HasCause (guard.has_failed g) e → Leaves {A = A} guard g g s s (Err e)
+  pub fails_same : {May : Step → Type 0} (A : Type 0) (g : G) (s : State) (e : StationFault) → guard.keeps g s
+      → HasCause (guard.has_failed g) e → Leaves {A = A} guard May g g s s (Err e)
   fails_same A g s e kept cause = record {
     kept = kept;
     lasts = λ left. (s, inl refl, left);
     cause = λ low. cause;
   }
 
-  pub leaves_then : {A : Type 0} (old between new : G) (s t u : State) (r : Result A StationFault) → t.scope ≡ s.scope
-      → Leaves {A = Unit {0}} guard old between s t (Ok tt) → Leaves guard between new t u r → Leaves guard old new s u r
+  pub leaves_then : {A : Type 0} {May : Step → Type 0} (old between new : G)
+      (s t u : State) (r : Result A StationFault) → t.scope ≡ s.scope
+      → Leaves {A = Unit {0}} guard May old between s t (Ok tt) → Leaves guard May between new t u r
+      → Leaves guard May old new s u r
   leaves_then old between new s t u r same first second = record {
     kept = second.kept;
     lasts = λ left. second.lasts (first.lasts left);
@@ -93,12 +113,12 @@ module _ {G : Type 0} (guard : Ghosts G) where
   pub unanswered : (old new : G) (s : State) (q : Question) (held : Option (List ℕ)) (e : RegisterFault)
       → guard.keeps new s → (guard.leaves old s s → guard.leaves new s (after s q))
       → (s.scope.last < 2 ^ 63 → IsRegisters e (guard.has_failed new))
-      → AnswersOne s (Leaves guard old new s) q held held (Err (of_register e))
+      → AnswersOne s (Leaves guard (OfQuestion q) old new s) q held held (Err (of_register e))
   unanswered old new s q held e kept crash cause = inr (
     tt,
     record {
       kept = kept;
-      lasts = λ left. (after s q, inr (inl (q, refl)), crash left);
+      lasts = λ left. (after s q, inr (inl (q, refl, refl)), crash left);
       cause = λ low. register_cause (guard.has_failed new) e (cause low);
     },
     refl,
@@ -108,7 +128,7 @@ module _ {G : Type 0} (guard : Ghosts G) where
       (r : Result (Unit {0}) StationFault) → Answers a s q → guard.keeps new (after s q) → IsKept a (after s q) q.body
       → (guard.leaves old s s → guard.leaves new (after s q) (after s q)) → OnOk r (Appends held holds (answer_line a))
       → OnErr r (AppendsBeginning held holds (answer_line a)) → IfErr r IsOfAnAnswer
-      → AnswersOne s (Leaves guard old new s) q held holds r
+      → AnswersOne s (Leaves guard (OfQuestion q) old new s) q held holds r
   answered old new s q held holds a (Ok done) answers left kept durable ok err only = inl (record {
     answer = a;
     answers = answers;

@@ -10,7 +10,7 @@ use Rattle.station_jobs.specs.declared.station_fault.StationFault.{StationFault}
 use Rattle.station_jobs.specs.declared.station_fault.StationFault.TheVariants.{File}
 use Rattle.station_jobs.specs.Input.{AreLines, Begins, JudgesInput, JudgesNext, TakesLine, TakesPath}
 use Rattle.station_jobs.specs.Judging.{Judges, left_by}
-use Rattle.station_jobs.specs.Leaving.{Leaves}
+use Rattle.station_jobs.specs.Leaving.{Leaves, Step}
 use Rattle.station_jobs.proofs.Judgements.{fault_first, judged_then, none_judged}
 use Rattle.station_jobs.proofs.Leavings.{fails_same}
 
@@ -85,11 +85,12 @@ one_taken (Some text) (Some rest) now paths path (left, same, begins) takes =
       begins_with_more paths path text rest (subst (Begins paths text) (sym is) begins) takes.0 takes.1,
     )
 
-pub goes_on : {G A : Type 0} (guard : Ghosts G) (old between new : G) (Asked : List ℕ → Question → Type 0) (s : State)
-    (input mid now held so_far holds : Option (List ℕ)) (x : A)
-    (first : Underway s (Leaves guard old between s) Asked input mid held so_far)
-    → JudgesNext (left_by s first.judges.judged) (Leaves guard between new (left_by s first.judges.judged)) Asked mid now
-    so_far holds (Ok (Some x)) → Underway s (Leaves guard old new s) Asked input now held holds
+pub goes_on : {G A : Type 0} {May : Step → Type 0} (guard : Ghosts G) (old between new : G)
+    (Asked : List ℕ → Question → Type 0) (s : State) (input mid now held so_far holds : Option (List ℕ)) (x : A)
+    (first : Underway s (Leaves guard May old between s) Asked input mid held so_far)
+    → JudgesNext (left_by s first.judges.judged) (Leaves guard May between new (left_by s first.judges.judged)) Asked
+    mid
+    now so_far holds (Ok (Some x)) → Underway s (Leaves guard May old new s) Asked input now held holds
 goes_on guard old between new Asked s input mid now held so_far holds x first (path, takes, judges) = record {
   paths = first.paths ++ path ∷ [];
   taken = one_taken input mid now first.paths path first.taken takes;
@@ -108,18 +109,18 @@ some_taken : (input now : Option (List ℕ)) (paths : List (List ℕ)) (e : Stat
 some_taken None now paths e taken = tt
 some_taken (Some text) now paths e (left, same, begins) = (left, begins)
 
-pub ends : {G : Type 0} (A : Type 0) (guard : Ghosts G) (old between new : G) (Asked : List ℕ → Question → Type 0)
-    (s : State) (input mid now held so_far holds : Option (List ℕ))
-    (first : Underway s (Leaves guard old between s) Asked input mid held so_far)
-    → JudgesNext {A = A} (left_by s first.judges.judged) (Leaves guard between new (left_by s first.judges.judged)) Asked
-    mid now so_far holds (Ok None) → JudgesInput s (Leaves guard old new s) Asked input held holds (Ok tt)
-ends A guard old between new Asked s input mid now held so_far holds first (end, left, same) = record {
+pub ends : {G : Type 0} {May : Step → Type 0} (A : Type 0) (guard : Ghosts G) (old between new : G)
+    (Asked : List ℕ → Question → Type 0) (s : State) (input mid now held so_far holds : Option (List ℕ))
+    (first : Underway s (Leaves guard May old between s) Asked input mid held so_far)
+    → JudgesNext {A = A} (left_by s first.judges.judged) (Leaves guard May between new (left_by s first.judges.judged))
+    Asked mid now so_far holds (Ok None) → JudgesInput s (Leaves guard May old new s) Asked input held holds (Ok tt)
+ends {May = May} A guard old between new Asked s input mid now held so_far holds first (end, left, same) = record {
   paths = first.paths ++ [];
   lines = subst (λ (ps : List (List ℕ)). IfSome input (λ text. AreLines ps text (Ok tt))) (sym (nil_behind first.paths))
       (all_taken input mid first.paths first.taken end);
   judges = judged_then guard old between new Asked s first.paths [] held so_far holds (Ok tt) first.judges
-      (subst (λ (h : Option (List ℕ)). Judges t (Leaves guard between new t) Asked [] so_far h (Ok tt)) (sym same)
-      (none_judged (Leaves guard between new t) Asked t so_far left));
+      (subst (λ (h : Option (List ℕ)). Judges t (Leaves guard May between new t) Asked [] so_far h (Ok tt)) (sym same)
+      (none_judged (Leaves guard May between new t) Asked t so_far left));
 }
   where
     t : State
@@ -128,33 +129,35 @@ ends A guard old between new Asked s input mid now held so_far holds first (end,
     nil_behind : (ps : List (List ℕ)) → ps ++ [] ≡ ps
     nil_behind ps = append-nil ps
 
-pub fails : {G : Type 0} (A : Type 0) (guard : Ghosts G) (old between new : G) (Asked : List ℕ → Question → Type 0)
-    (s : State) (input mid now held so_far holds : Option (List ℕ)) (e : StationFault)
-    (first : Underway s (Leaves guard old between s) Asked input mid held so_far)
-    → JudgesNext {A = A} (left_by s first.judges.judged) (Leaves guard between new (left_by s first.judges.judged)) Asked
-    mid now so_far holds (Err e) → JudgesInput s (Leaves guard old new s) Asked input held holds (Err e)
-fails A guard old between new Asked s input mid now held so_far holds e first (inl (path, takes, judges)) = record {
-  paths = first.paths ++ path ∷ [];
-  lines = some_taken input now (first.paths ++ path ∷ []) e
-      (one_taken input mid now first.paths path first.taken takes);
-  judges = judged_then guard old between new Asked s first.paths (path ∷ []) held so_far holds (Err e) first.judges judges;
+pub fails : {G : Type 0} {May : Step → Type 0} (A : Type 0) (guard : Ghosts G) (old between new : G)
+    (Asked : List ℕ → Question → Type 0) (s : State) (input mid now held so_far holds : Option (List ℕ))
+    (e : StationFault)
+    (first : Underway s (Leaves guard May old between s) Asked input mid held so_far)
+    → JudgesNext {A = A} (left_by s first.judges.judged) (Leaves guard May between new (left_by s first.judges.judged))
+    Asked mid now so_far holds (Err e) → JudgesInput s (Leaves guard May old new s) Asked input held holds (Err e)
+fails {May = May} A guard old between new Asked s input mid now held so_far holds e first (inl is) = record {
+  paths = first.paths ++ is.0 ∷ [];
+  lines = some_taken input now (first.paths ++ is.0 ∷ []) e
+      (one_taken input mid now first.paths is.0 first.taken is.1);
+  judges = judged_then guard old between new Asked s first.paths (is.0 ∷ []) held so_far holds (Err e) first.judges is.2;
 }
-fails A guard old between new Asked s input mid now held so_far holds e first (inr (left, same)) = record {
+fails {May = May} A guard old between new Asked s input mid now held so_far holds e first (inr (left, same)) = record {
   paths = first.paths ++ [];
   lines = some_taken input mid (first.paths ++ []) e
       (subst (Taken input mid) (sym (append-nil first.paths)) first.taken);
   judges = judged_then guard old between new Asked s first.paths [] held so_far holds (Err e) first.judges
-      (subst (λ (h : Option (List ℕ)). Judges t (Leaves guard between new t) Asked [] so_far h (Err e)) (sym same)
-      (fault_first (Leaves guard between new t) Asked t [] so_far e left));
+      (subst (λ (h : Option (List ℕ)). Judges t (Leaves guard May between new t) Asked [] so_far h (Err e)) (sym same)
+      (fault_first (Leaves guard May between new t) Asked t [] so_far e left));
 }
   where
     t : State
     t = left_by s first.judges.judged
 
 -- the end of the input was never reached
-pub stops : {G : Type 0} (guard : Ghosts G) (old new : G) (Asked : List ℕ → Question → Type 0) (s : State)
-    (input now held holds : Option (List ℕ)) (first : Underway s (Leaves guard old new s) Asked input now held holds)
-    → JudgesInput s (Leaves guard old new s) Asked input held holds (Err File)
+pub stops : {G : Type 0} {May : Step → Type 0} (guard : Ghosts G) (old new : G) (Asked : List ℕ → Question → Type 0)
+    (s : State) (input now held holds : Option (List ℕ))
+    (first : Underway s (Leaves guard May old new s) Asked input now held holds)
+    → JudgesInput s (Leaves guard May old new s) Asked input held holds (Err File)
 stops guard old new Asked s input now held holds first =
     fails (Unit {0}) guard old new new Asked s input now now held holds holds File first
     (inr (fails_same guard (Unit {0}) new (left_by s first.judges.judged) File first.judges.left.kept tt, refl))

@@ -64,12 +64,13 @@ pub of_all : (o : Option (List ℕ)) (s : State) (q : Question) (Left : State �
     (held holds : Option (List ℕ)) (r : Result (Unit {0}) StationFault) → IfSome o (λ all. q.body ≡ take 16385 all)
     → AnswersOne s Left q held holds r
     → (bytes : List ℕ) × IfSome o (λ all. bytes ≡ all) × AnswersOne s Left (with_body q bytes) held holds r
-of_all None s q Left held holds r read one = (q.body, tt, one)
+    × ((t : State) → after t q ≡ after t (with_body q bytes))
+of_all None s q Left held holds r read one = (q.body, tt, one, λ t. refl)
 of_all (Some all) s q Left held holds r read one = elim (cases_lt 16384 (length all)) [
   | inl long ↦
       let short : 16384 < length q.body = omega (arith, ap (length {A = ℕ}) read, length-take {A = ℕ}, long) in
-      (all, refl, answers_one s q all short long Left held holds r one)
+      (all, refl, answers_one s q all short long Left held holds r one, λ t. same t q all short long)
   | inr low ↦
       let whole : q.body ≡ all = read ∙ take_all 16385 all (omega (arith, low)) in
-      (q.body, whole, one)
+      (q.body, whole, one, λ t. refl)
 ]

@@ -12,6 +12,7 @@ use Rattle.station_jobs.specs.declared.surroundings.Surroundings as surroundings
 use Rattle.station_jobs.specs.declared.station_fault.StationFault.{StationFault}
 use Rattle.station_jobs.specs.declared.station_fault.StationFault.TheVariants.{NoMemory, Write}
 use Rattle.station_jobs.specs.Bodies.{ListsBodies, PrintsBody}
+use Rattle.station_jobs.specs.Leaving.{OfLowering, OfNone}
 use Rattle.station_jobs.specs.Whole.{Follows, JudgesIn, MakesIn, Retires, RunsIn, ready_text, retired_text}
 
 -- a guard is only made with valid serials
@@ -37,7 +38,7 @@ module _ {D G : Type 0} (guard : register.Ghosts G) (file : file.Ghosts D G) (db
   pub record LowersIn (last : ℕ) (held holds : Option (List ℕ)) (result : Result (Unit {0}) StationFault)
       : Type 0 where
     pub lowered : Result ℕ StationFault
-    pub is_lowered : RunsIn guard file db db' path (Retires last) (Unit {0}) lowered
+    pub is_lowered : RunsIn guard file db db' path (OfLowering last) (Retires last) (Unit {0}) lowered
     pub told : Follows (λ first. Prints (retired_text first last) held holds) (holds ≡ held) lowered result
 
 -- the whole job was done, with this result
@@ -50,8 +51,10 @@ RunsJob world around remaining guard file db db' path (Judge j) input held holds
     JudgesIn world around remaining guard file db db' path j.policy.now j.ahead (map string_bytes j.bodies.now) input
     held holds result
 RunsJob world around remaining guard file db db' path Bodies input held holds result =
-    RunsIn guard file db db' path (λ s Left r. OnOk r (ListsBodies s held holds) × Left s (Ok tt)) (holds ≡ held) result
+    RunsIn guard file db db' path OfNone (λ s Left r. OnOk r (ListsBodies s held holds) × Left s (Ok tt)) (holds ≡ held)
+    result
 RunsJob world around remaining guard file db db' path (Body serial) input held holds result =
-    RunsIn guard file db db' path (λ s Left r. PrintsBody s serial held holds r × Left s (Ok tt)) (holds ≡ held) result
+    RunsIn guard file db db' path OfNone (λ s Left r. PrintsBody s serial held holds r × Left s (Ok tt)) (holds ≡ held)
+    result
 RunsJob world around remaining guard file db db' path (Retire last) input held holds result =
     LowersIn guard file db db' path last held holds result

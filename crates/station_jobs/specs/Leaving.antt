@@ -1,21 +1,47 @@
 -- What a call over a register leaves: when it returns, and after a crash.
-use Rattle.std.specs.Prelude.{ℕ, ◌≡◌, ◌⊎◌, ◌<◌, ◌^◌, IfErr, Result, Ok, Err}
+use Rattle.std.specs.Prelude.{ℕ, List, ◌≡◌, ◌⊎◌, ◌<◌, ◌^◌, IfErr, Result, Ok, Err}
 use Rattle.guard.specs.declared.register.Register.{Ghosts}
 use Rattle.guard.specs.Machine.{State, Question, after}
 use Rattle.guard.specs.Retiring.{IsLowered, with_last}
 use Rattle.station_jobs.specs.declared.station_fault.StationFault.{StationFault}
 use Rattle.station_jobs.specs.declared.station_fault.StationFault.TheVariants.{Damaged, Device}
 
--- the same state, the state after a question, or one with a lower last serial: each body stays
-abbrev pub IsNext : State → State → Type 0
-IsNext s next =
+-- one step of a job over a guard: a question about a body, or a last serial to lower to
+pub data Step : Type 0 where
+  asking : Question → Step
+  lowering : ℕ → Step
+
+-- a job that only reads
+abbrev pub OfNone : Step → Type 0
+OfNone step = ⊥
+
+-- one question
+abbrev pub OfQuestion : Question → Step → Type 0
+OfQuestion q (Step.asking p) = p ≡ q
+OfQuestion q (Step.lowering last) = ⊥
+
+-- questions that are asked of the bodies at paths
+abbrev pub OfBodies : (Asked : List ℕ → Question → Type 0) → Step → Type 0
+OfBodies Asked (Step.asking q) = (path : List ℕ) × Asked path q
+OfBodies Asked (Step.lowering last) = ⊥
+
+-- the last serial is lowered to this one
+abbrev pub OfLowering : ℕ → Step → Type 0
+OfLowering last (Step.asking q) = ⊥
+OfLowering last (Step.lowering lower) = lower ≡ last
+
+-- the same state, or the one after a step that the job may take: each body stays
+abbrev pub IsNext : (May : Step → Type 0) → State → State → Type 0
+IsNext May s next =
     (next ≡ s)
-    ⊎ (((q : Question) × (next ≡ after s q)) ⊎ ((last : ℕ) × IsLowered s last × (next ≡ with_last s last)))
+    ⊎ (((q : Question) × May (Step.asking q) × (next ≡ after s q))
+    ⊎ ((last : ℕ) × May (Step.lowering last) × IsLowered s last × (next ≡ with_last s last)))
 
 -- A crash leaves this state, or after a fault perhaps the next one.
-abbrev pub Outlasts : {A : Type 0} → (leaves : State → State → Type 0) → State → Result A StationFault → Type 0
-Outlasts leaves t (Ok x) = leaves t t
-Outlasts leaves t (Err e) = (next : State) × IsNext t next × leaves t next
+abbrev pub Outlasts : {A : Type 0} → (May : Step → Type 0) → (leaves : State → State → Type 0) → State
+    → Result A StationFault → Type 0
+Outlasts May leaves t (Ok x) = leaves t t
+Outlasts May leaves t (Err e) = (next : State) × IsNext May t next × leaves t next
 
 -- the database is reported as failed only if it has failed, and no damage is reported
 abbrev pub HasCause : (failed : Type 0) → StationFault → Type 0
@@ -25,12 +51,12 @@ HasCause failed other = Unit {0}
 
 -- A register that kept the state `s` now keeps `t`. If a crash would have left `s`, it now leaves `t`, or after a fault
 -- perhaps the next state. A fault has its cause if the last serial is below 2^63, as every guard's is.
-pub record Leaves {G A : Type 0} (guard : Ghosts G) (old new : G) (s t : State) (result : Result A StationFault)
-    : Type 0 where
+pub record Leaves {G A : Type 0} (guard : Ghosts G) (May : Step → Type 0) (old new : G) (s t : State)
+    (result : Result A StationFault) : Type 0 where
   pub kept : guard.keeps new t
-  pub lasts : guard.leaves old s s → Outlasts (guard.leaves new) t result
+  pub lasts : guard.leaves old s s → Outlasts May (guard.leaves new) t result
   pub cause : s.scope.last < 2 ^ 63 → IfErr result (HasCause (guard.has_failed new))
 
 -- it keeps the state that it kept, and a crash leaves this state too
 abbrev pub Stays : {G : Type 0} → Ghosts G → (old new : G) → State → Type 0
-Stays guard old new s = Leaves {A = Unit {0}} guard old new s s (Ok tt)
+Stays guard old new s = Leaves {A = Unit {0}} guard OfNone old new s s (Ok tt)

@@ -23,7 +23,7 @@ use Rattle.station_jobs.specs.Bodies.{ListsBodies, PrintsBody}
 use Rattle.station_jobs.specs.Faults.{IsOfAKey, IsOfAPolicy}
 use Rattle.station_jobs.specs.Input.{JudgesInput}
 use Rattle.station_jobs.specs.Judging.{AsksNow, IsPolicyAt, Judges}
-use Rattle.station_jobs.specs.Leaving.{Leaves, Outlasts}
+use Rattle.station_jobs.specs.Leaving.{Leaves, OfBodies, OfNone, Outlasts, Step}
 
 -- ---- steps
 
@@ -63,51 +63,51 @@ module _ {D G : Type 0} (guard : register.Ghosts G) (file : file.Ghosts D G) whe
 
   -- After a successful close the files hold the guard with this state, whatever a crash leaves of them. If the guard
   -- was abandoned, they hold this guard, or after a fault perhaps one that still has each of its bodies.
-  abbrev pub LeavesFiles : {A : Type 0} → D → G → (closing : Result (Unit {0}) StationFault) → State
-      → Result A StationFault → Type 0
-  LeavesFiles db' last (Ok done) t outcome = file.has db' last t
-  LeavesFiles db' last (Err e) t outcome = Outlasts (file.has_one db' last) t outcome
+  abbrev pub LeavesFiles : {A : Type 0} → (May : Step → Type 0) → D → G → (closing : Result (Unit {0}) StationFault)
+      → State → Result A StationFault → Type 0
+  LeavesFiles May db' last (Ok done) t outcome = file.has db' last t
+  LeavesFiles May db' last (Err e) t outcome = Outlasts May (file.has_one db' last) t outcome
 
 -- ---- a guard opened and closed
 
 -- what is done over a guard, from each state that it keeps; a guard that is honest afterwards was honest before
-abbrev pub Does : {G A : Type 0} → register.Ghosts G
+abbrev pub Does : {G A : Type 0} → register.Ghosts G → (May : Step → Type 0)
     → (State → (Left : State → Result A StationFault → Type 0) → Result A StationFault → Type 0) → G → G
     → Result A StationFault → Type 0
-Does guard Did old new result =
+Does guard May Did old new result =
     (guard.is_honest new → guard.is_honest old)
-    × (guard.is_honest new → (s : State) → guard.keeps old s → Did s (Leaves guard old new s) result)
+    × (guard.is_honest new → (s : State) → guard.keeps old s → Did s (Leaves guard May old new s) result)
 
 -- `file` says how a file is made, opened and closed. `db` is the file before the job, and `db'` the file after it.
 module _ {D G : Type 0} (guard : register.Ghosts G) (file : file.Ghosts D G) (db db' : D) where
   -- `Did` was done over the guard, which was then closed. So it was done from the guard that the files held to the one
   -- that they hold now, if the disk has returned what was written.
-  pub record RunsOver {A : Type 0}
+  pub record RunsOver {A : Type 0} (May : Step → Type 0)
       (Did : State → (Left : State → Result A StationFault → Type 0) → Result A StationFault → Type 0) (opened : D)
       (g : G) (result : Result A StationFault) : Type 0 where
     pub outcome : Result A StationFault
     pub last : G
-    pub did : Does guard Did g last outcome
+    pub did : Does guard May Did g last outcome
     pub closing : Result (Unit {0}) StationFault
     pub is_closed : file.closes opened last closing db'
     pub came : result ≡ closed outcome closing
     pub files : file.is_settled db' last → (s : State) → file.held s
-        → Did s (LeavesFiles guard file db' last closing) outcome
+        → Did s (LeavesFiles guard file May db' last closing) outcome
 
   -- The guard at the path was opened once, and `Did` was done over it. Or it wasn't opened, and nothing was done.
-  pub record RunsIn {A : Type 0} (path : List ℕ)
+  pub record RunsIn {A : Type 0} (path : List ℕ) (May : Step → Type 0)
       (Did : State → (Left : State → Result A StationFault → Type 0) → Result A StationFault → Type 0)
       (Nothing : Type 0) (result : Result A StationFault) : Type 0 where
     pub found : Result G StationFault
     pub opened : D
     pub is_opened : file.opens db path found opened
-    pub ran : Follows (RunsOver Did opened) ((db' ≡ opened) × Nothing) found result
+    pub ran : Follows (RunsOver May Did opened) ((db' ≡ opened) × Nothing) found result
 
   -- The new guard was closed. If the files held none before, they hold it now.
   pub record ClosesNew (scope : Scope) (made : D) (g : G) (result : Result (Unit {0}) StationFault) : Type 0 where
     pub is_closed : file.closes made g result db'
     pub files : file.is_settled db' g → file.is_blank
-        → LeavesFiles guard file {A = Unit {0}} db' g result (opened scope) (Ok tt)
+        → LeavesFiles guard file {A = Unit {0}} OfNone db' g result (opened scope) (Ok tt)
 
   -- a guard with this scope was made at the path, and closed
   pub record MakesIn (path : List ℕ) (scope : Scope) (result : Result (Unit {0}) StationFault) : Type 0 where
@@ -152,7 +152,7 @@ pub record JudgesIn {E F D G : Type 0} (world : surroundings.Ghosts E F) (around
   pub known : Result (List Department) StationFault
   pub read : IsReadAs world around remaining policy known
   pub judged : Follows
-      (λ _. RunsIn guard file db db' path
+      (λ _. RunsIn guard file db db' path (OfBodies (AsksNow world around remaining policy ahead))
       (λ s Left r. JudgesGiven (is_input bodies) s Left (AsksNow world around remaining policy ahead) bodies input held
       holds r) (holds ≡ held))
       ((db' ≡ db) × (holds ≡ held)) known result

@@ -7,7 +7,7 @@ ghost use Rattle.guard.specs.Policies.{policy_at};
 ghost use Rattle.station_jobs.specs.Faults.{IsOfAFile};
 ghost use Rattle.station_jobs.specs.Input.{JudgesInput, JudgesNext, TakesLine};
 ghost use Rattle.station_jobs.specs.Judging.{AsksNow, Judges};
-ghost use Rattle.station_jobs.specs.Leaving.{Leaves};
+ghost use Rattle.station_jobs.specs.Leaving.{Leaves, OfBodies};
 ghost use Rattle.station_jobs.specs.Steps.{done_of};
 
 use crate::file_reader::file_fault;
@@ -69,7 +69,8 @@ fn judge_now<F: Read + Drop, P: Surroundings<File = F>, G: Register, W: Write>(
     ensures honest { G.is_honest register.new → G.is_honest register.old }
     ensures known { IfOk result (λ p. policy_at p.text.items ≡ Ok p.policy) }
     ensures judges { G.is_honest register.new → (s : State) → G.keeps register.old s
-        → Judges s (Leaves G.Register register.old register.new s)
+        → Judges s (Leaves G.Register
+        (OfBodies (AsksNow P.Surroundings around.now F.remaining policy.now ahead)) register.old register.new s)
         (AsksNow P.Surroundings around.now F.remaining policy.now ahead) (path.now ∷ [])
         (W.contents out.old) (W.contents out.new) (done_of result) }
 {
@@ -99,7 +100,8 @@ fn judge_line<F: Read + Drop, P: Surroundings<File = F>, G: Register, W: Write>(
     ensures honest { G.is_honest register.new → G.is_honest register.old }
     ensures known { IfOk result (λ p. policy_at p.text.items ≡ Ok p.policy) }
     ensures judges { G.is_honest register.new → (s : State) → G.keeps register.old s
-        → Judges s (Leaves G.Register register.old register.new s)
+        → Judges s (Leaves G.Register
+        (OfBodies (AsksNow P.Surroundings around.now F.remaining policy.now ahead)) register.old register.new s)
         (AsksNow P.Surroundings around.now F.remaining policy.now ahead) (strip_last 10 line.now ∷ [])
         (W.contents out.old) (W.contents out.new) (done_of result) }
 {
@@ -127,7 +129,8 @@ fn judge_next<F: Read + Drop, P: Surroundings<File = F>, G: Register, I: BufRead
     ensures honest { G.is_honest register.new → G.is_honest register.old }
     ensures known { IfOk result (λ p. IfSome p (λ p. policy_at p.text.items ≡ Ok p.policy)) }
     ensures judges { G.is_honest register.new → (s : State) → G.keeps register.old s
-        → JudgesNext s (Leaves G.Register register.old register.new s)
+        → JudgesNext s (Leaves G.Register
+        (OfBodies (AsksNow P.Surroundings around.now F.remaining policy.now ahead)) register.old register.new s)
         (AsksNow P.Surroundings around.now F.remaining policy.now ahead)
         (I.remaining input.old) (I.remaining input.new) (W.contents out.old) (W.contents out.new) result }
 {
@@ -171,7 +174,8 @@ pub fn judge_lines<F: Read + Drop, P: Surroundings<File = F>, G: Register, I: Bu
     requires { policy_at known.text.items ≡ Ok known.policy }
     ensures honest { G.is_honest register.new → G.is_honest register.old }
     ensures judges { G.is_honest register.new → (s : State) → G.keeps register.old s → JudgesInput s
-        (Leaves G.Register register.old register.new s) (AsksNow P.Surroundings around.now F.remaining policy.now ahead)
+        (Leaves G.Register (OfBodies (AsksNow P.Surroundings around.now F.remaining policy.now ahead))
+        register.old register.new s) (AsksNow P.Surroundings around.now F.remaining policy.now ahead)
         (I.remaining input.old) (W.contents out.old) (W.contents out.new) result }
 {
     let mut known = known;

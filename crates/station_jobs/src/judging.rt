@@ -8,7 +8,7 @@ ghost use Rattle.guard.specs.Decided.{question};
 ghost use Rattle.guard.specs.Machine.{State};
 ghost use Rattle.station_jobs.specs.Faults.{IsOfABody, IsOfAnAnswer};
 ghost use Rattle.station_jobs.specs.Judging.{Asks, Judges};
-ghost use Rattle.station_jobs.specs.Leaving.{Leaves};
+ghost use Rattle.station_jobs.specs.Leaving.{Leaves, OfBodies, OfQuestion};
 ghost use Rattle.station_jobs.specs.Steps.{Answered, AnswersOne, Weighs};
 
 use crate::file_reader::read_body;
@@ -42,8 +42,9 @@ fn answer_body<G: Register, W: Write>(
     requires { window.moment < 2 ^ 63 }
     ensures honest { G.is_honest register.new → G.is_honest register.old }
     ensures answers { G.is_honest register.new → (s : State) → G.keeps register.old s
-        → AnswersOne s (Leaves G.Register register.old register.new s) (question policy.now window body.now)
-        (W.contents out.old) (W.contents out.new) result }
+        → AnswersOne s (Leaves G.Register (OfQuestion (question policy.now window body.now))
+        register.old register.new s)
+        (question policy.now window body.now) (W.contents out.old) (W.contents out.new) result }
 {
     match judge(alloc, register, policy, window, body) {
         Ok(answer) => print_answer(alloc, answer, out),
@@ -82,7 +83,8 @@ pub fn judge_file<F: Read + Drop, P: Surroundings<File = F>, G: Register, W: Wri
 ) -> Result<(), StationFault>
     ensures honest { G.is_honest register.new → G.is_honest register.old }
     ensures judges { G.is_honest register.new → (s : State) → G.keeps register.old s
-        → Judges s (Leaves G.Register register.old register.new s)
+        → Judges s (Leaves G.Register
+        (OfBodies (Asks P.Surroundings around.now F.remaining (λ p. p ≡ policy.now) ahead)) register.old register.new s)
         (Asks P.Surroundings around.now F.remaining (λ p. p ≡ policy.now) ahead) (path.now ∷ []) (W.contents out.old)
         (W.contents out.new) result }
 {
@@ -112,7 +114,8 @@ pub fn judge_files<F: Read + Drop, P: Surroundings<File = F>, G: Register, W: Wr
 ) -> Result<(), StationFault>
     ensures honest { G.is_honest register.new → G.is_honest register.old }
     ensures judges { G.is_honest register.new → (s : State) → G.keeps register.old s
-        → Judges s (Leaves G.Register register.old register.new s)
+        → Judges s (Leaves G.Register
+        (OfBodies (Asks P.Surroundings around.now F.remaining (λ p. p ≡ policy.now) ahead)) register.old register.new s)
         (Asks P.Surroundings around.now F.remaining (λ p. p ≡ policy.now) ahead) (map string_bytes paths.now)
         (W.contents out.old) (W.contents out.new) result }
 {

@@ -8,7 +8,7 @@ ghost use Rattle.guard.specs.Machine.{State};
 ghost use Rattle.guard.specs.Policies.{policy_at};
 ghost use Rattle.station_jobs.specs.Bodies.{ListsBodies, PrintsBody};
 ghost use Rattle.station_jobs.specs.Judging.{AsksNow, IsPolicyAt, Judges};
-ghost use Rattle.station_jobs.specs.Leaving.{Leaves};
+ghost use Rattle.station_jobs.specs.Leaving.{Leaves, OfBodies, OfLowering, OfNone};
 ghost use Rattle.station_jobs.specs.Whole.{IsReadAs, JudgesGiven, JudgesIn, KeepsFiles, MakesIn, Retires};
 ghost use Rattle.station_jobs.specs.Whole.{RunsIn, departments_of, is_input};
 
@@ -57,7 +57,9 @@ fn judge_named<F: Read + Drop, P: Surroundings<File = F>, G: Register, W: Write>
     requires { IsPolicyAt P.Surroundings around.now F.remaining judging.now.policy.now known.policy }
     ensures honest { G.is_honest register.new → G.is_honest register.old }
     ensures judges { G.is_honest register.new → (s : State) → G.keeps register.old s
-        → Judges s (Leaves G.Register register.old register.new s)
+        → Judges s (Leaves G.Register (OfBodies
+        (AsksNow P.Surroundings around.now F.remaining judging.now.policy.now judging.now.ahead))
+        register.old register.new s)
         (AsksNow P.Surroundings around.now F.remaining judging.now.policy.now judging.now.ahead)
         (map string_bytes judging.now.bodies.now) (W.contents out.old) (W.contents out.new) result }
 {
@@ -82,7 +84,9 @@ fn judge_given<F: Read + Drop, P: Surroundings<File = F>, G: Register, I: BufRea
     ensures honest { G.is_honest register.new → G.is_honest register.old }
     ensures judges { G.is_honest register.new → (s : State) → G.keeps register.old s
         → JudgesGiven (is_input (map string_bytes judging.now.bodies.now)) s
-        (Leaves G.Register register.old register.new s)
+        (Leaves G.Register (OfBodies
+        (AsksNow P.Surroundings around.now F.remaining judging.now.policy.now judging.now.ahead))
+        register.old register.new s)
         (AsksNow P.Surroundings around.now F.remaining judging.now.policy.now judging.now.ahead)
         (map string_bytes judging.now.bodies.now) (I.remaining input.old) (W.contents out.old) (W.contents out.new)
         result }
@@ -131,6 +135,7 @@ fn judge_over<
     requires at { IsPolicyAt P.Surroundings around.now F.remaining judging.now.policy.now known.policy }
     requires keeps { KeepsFiles G.Register D.GuardFile }
     ensures { RunsIn G.Register D.GuardFile db.old db.new path.now
+        (OfBodies (AsksNow P.Surroundings around.now F.remaining judging.now.policy.now judging.now.ahead))
         (λ s Left r. JudgesGiven (is_input (map string_bytes judging.now.bodies.now)) s Left
         (AsksNow P.Surroundings around.now F.remaining judging.now.policy.now judging.now.ahead)
         (map string_bytes judging.now.bodies.now) (I.remaining input.old) (W.contents out.old) (W.contents out.new) r)
@@ -195,7 +200,7 @@ pub fn bodies_in<G: Register, D: GuardFile<Guard = G>, W: Write>(
     out: &mut W,
 ) -> Result<(), StationFault>
     requires { KeepsFiles G.Register D.GuardFile }
-    ensures { RunsIn G.Register D.GuardFile db.old db.new path.now
+    ensures { RunsIn G.Register D.GuardFile db.old db.new path.now OfNone
         (λ s Left r. OnOk r (ListsBodies s (W.contents out.old) (W.contents out.new)) × Left s (Ok tt))
         (W.contents out.new ≡ W.contents out.old) result }
 {
@@ -222,7 +227,7 @@ pub fn body_in<G: Register, D: GuardFile<Guard = G>, W: Write>(
     out: &mut W,
 ) -> Result<(), StationFault>
     requires { KeepsFiles G.Register D.GuardFile }
-    ensures { RunsIn G.Register D.GuardFile db.old db.new path.now
+    ensures { RunsIn G.Register D.GuardFile db.old db.new path.now OfNone
         (λ s Left r. PrintsBody s serial (W.contents out.old) (W.contents out.new) r × Left s (Ok tt))
         (W.contents out.new ≡ W.contents out.old) result }
 {
@@ -240,7 +245,7 @@ pub fn body_in<G: Register, D: GuardFile<Guard = G>, W: Write>(
 fn retire_over<G: Register>(alloc: Global, register: &mut G, last: u64) -> Result<u64, StationFault>
     ensures honest { G.is_honest register.new → G.is_honest register.old }
     ensures retires { G.is_honest register.new → (s : State) → G.keeps register.old s
-        → Retires last s (Leaves G.Register register.old register.new s) result }
+        → Retires last s (Leaves G.Register (OfLowering last) register.old register.new s) result }
 {
     match register.scope() {
         Ok(scope) => match retire(alloc, register, last) {
@@ -263,7 +268,8 @@ pub fn retire_in<G: Register, D: GuardFile<Guard = G>>(
     last: u64,
 ) -> Result<u64, StationFault>
     requires { KeepsFiles G.Register D.GuardFile }
-    ensures { RunsIn G.Register D.GuardFile db.old db.new path.now (Retires last) (Unit {0}) result }
+    ensures { RunsIn G.Register D.GuardFile db.old db.new path.now (OfLowering last) (Retires last) (Unit {0})
+        result }
 {
     match db.open(alloc, path) {
         Ok(guard) => {

@@ -1,4 +1,4 @@
-use Rattle.std.proofs.Common.{◌∙◌, ap, arith, rules}
+use Rattle.std.proofs.Common.{Err, ap, arith, rules, ◌∙◌}
 use Rattle.std.specs.List.{list_any}
 use Rattle.sqlite.specs.Schema.{Schema}
 use Rattle.guard_sql.specs.Look.{is_guard_name, whole_has_tables}
@@ -15,8 +15,8 @@ init-requires-clause-outside g c = c.requires.files.new.autocommit
 pub init-requires-clause-unlimited : goal.init-requires-clause-unlimited
 init-requires-clause-unlimited g c = c.requires.files.new.unlimited
 
-pub returns-in-Ok : goal.returns-in-Ok
-returns-in-Ok g c = (
+pub returns-in-Ok-clause-made : goal.returns-in-Ok-clause-made
+returns-in-Ok-clause-made g c = (
   record {
     conn = c.args.conn;
     files = c.requires.files;
@@ -28,3 +28,14 @@ returns-in-Ok g c = (
   },
   c.in-Ok.ensures.scope,
 )
+
+pub returns-in-Err-clause-none : goal.returns-in-Err-clause-none
+returns-in-Err-clause-none g c = record {
+  conn = c.args.conn;
+  last = c.in-Err.conn;
+  files = c.requires.files;
+  fault = c.in-Err.fault;
+  is = ap (λ e. Err e) c.unopened_fault.ensures;
+  honest = λ clean. omega (arith, c.in-Err.ensures.crash_back.clean, clean);
+  caused = c.in-Err.ensures.none;
+}

@@ -1,4 +1,4 @@
-use Rattle.std.proofs.Common.{◌∙◌, ap}
+use Rattle.std.proofs.Common.{Err, ap, ◌∙◌}
 use Rattle.std.specs.List.{list_any}
 use Rattle.sqlite.specs.Schema.{Schema}
 use Rattle.guard_sql.specs.Look.{is_guard_table, none_is_guard}
@@ -11,8 +11,8 @@ open-requires-clause-outside g c = c.requires.new.autocommit
 pub open-requires-clause-unlimited : goal.open-requires-clause-unlimited
 open-requires-clause-unlimited g c = c.requires.new.unlimited
 
-pub returns-in-Ok : goal.returns-in-Ok
-returns-in-Ok g c = record {
+pub returns-in-Ok-clause-found : goal.returns-in-Ok-clause-found
+returns-in-Ok-clause-found g c = record {
   conn = c.args.conn;
   files = c.requires;
   right = λ blank.
@@ -20,4 +20,15 @@ returns-in-Ok g c = record {
       is_no_fault _ _ (c.in-Ok.ensures.none seen);
   honest = c.in-Ok.ensures.honest;
   found = c.in-Ok.ensures.opened;
+}
+
+pub returns-in-Err-clause-none : goal.returns-in-Err-clause-none
+returns-in-Err-clause-none g c = record {
+  conn = c.args.conn;
+  last = c.in-Err.conn;
+  files = c.requires;
+  fault = c.in-Err.fault;
+  is = ap (λ e. Err e) c.unopened_fault.ensures;
+  honest = c.in-Err.ensures.honest_back;
+  caused = λ clean. (c.in-Err.ensures.refused clean, c.in-Err.ensures.missed clean);
 }

@@ -2,6 +2,7 @@ use Rattle.std.proofs.Common.{map, sym}
 use Rattle.std.specs.Prelude.{string_bytes}
 use Rattle.sqlite_wal.specs.Files.{image_at}
 use Rattle.sshstation.proofs.Lived.{words_lived}
+use Rattle.sshstation.proofs.ListsLived.{words_listed}
 use Rattle.sshstation.proofs.Kept.{closes_have, ends_honest, found_stores, given_up_have, made_stores}
 use Rattle.sshstation.proofs.host.run.Goals as goal
 
@@ -25,11 +26,12 @@ returns-clause-runs g c = record {
   lists_before = _;
   lists_after = _;
   is_left = sym c.into_left.ensures;
+  are_left = sym c.into_files_left.ensures;
   does = c.do_words-status.ensures.does;
   lived = words_lived _ _ (image_at g.S.Start) _ _ (λ db. db.left)
       (record {
-        opens = λ db after path found opens. opens;
-        makes = λ db after path scope found makes. makes;
+        opens = λ db after path found opens. (opens.0, opens.1);
+        makes = λ db after path scope found makes. (makes.0, makes.1);
         closes = λ db after it r closes. closes;
         held = λ s held. held;
         blank = λ blank. blank;
@@ -39,4 +41,16 @@ returns-clause-runs g c = record {
         honest = λ it clean. clean;
         is_clean = λ it honest. honest;
       }) _ _ c.new-db.ensures _ _ _ _ _ _ _ (map string_bytes c.args.words.now) _ _ _ _ _ c.into_left.ensures c.do_words-status.ensures.does;
+  listed = words_listed _ _ (image_at g.T.Start) _ _ (λ db. db.left)
+      (record {
+        opens = λ db after path found opens. opens;
+        makes = λ db after path found makes. makes;
+        closes = λ db after it r closes. closes;
+        stores = λ it s keeps leaves. (keeps, leaves);
+        keeps = λ it s keeps. keeps.1;
+        leaves = λ it s t leaves. leaves;
+        honest = λ it clean. clean;
+        is_clean = λ it honest. honest;
+      }) _ _ c.new-lists.ensures _ _ _ _ _ _ _ (map string_bytes c.args.words.now) _ _ _ _ _ c.into_files_left.ensures
+      c.do_words-status.ensures.does;
 }

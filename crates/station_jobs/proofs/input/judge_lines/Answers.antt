@@ -3,7 +3,7 @@ use Rattle.guard.specs.Policies.{policy_at}
 use Rattle.station_jobs.specs.declared.policy_file.PolicyText.{PolicyText}
 use Rattle.station_jobs.specs.Input.{JudgesNext}
 use Rattle.station_jobs.specs.Judging.{AsksNow, left_by}
-use Rattle.station_jobs.specs.Leaving.{Leaves}
+use Rattle.station_jobs.specs.Leaving.{Leaves, OfBodies}
 use Rattle.station_jobs.proofs.Leavings.{stays_same}
 use Rattle.station_jobs.proofs.Lines.{ends, fails, goes_on, starts, stops}
 use Rattle.station_jobs.proofs.input.judge_lines.Goals as goal
@@ -12,8 +12,9 @@ pub loop-turn-init : goal.loop-turn-init
 loop-turn-init g c = record {
   honest = λ h. h;
   known = c.requires;
-  underway = λ h s kept. starts (Leaves g.G.Register c.args.register.now c.args.register.now s)
-      (AsksNow g.P.Surroundings c.args.around.now g.F.Read.remaining c.args.policy.now c.args.ahead) s
+  underway = λ h s kept.
+      let Asked = AsksNow g.P.Surroundings c.args.around.now g.F.Read.remaining c.args.policy.now c.args.ahead in
+      starts (Leaves g.G.Register (OfBodies Asked) c.args.register.now c.args.register.now s) Asked s
       (g.I.Read.remaining c.args.input.now) (g.W.Write.contents c.args.out.now)
       (stays_same g.G.Register c.args.register.now s kept);
 }
@@ -32,7 +33,8 @@ loop-turn-preserved g c =
           let first = inv.underway (c.judge_next.ensures.honest h) s kept in
           let t = left_by s first.judges.judged in
           let Next : Option PolicyText → Type 0 =
-          λ o. JudgesNext t (Leaves g.G.Register between new t) Asked (g.I.Read.remaining c.loop-turn.input)
+          λ o. JudgesNext t (Leaves g.G.Register (OfBodies Asked) between new t) Asked
+          (g.I.Read.remaining c.loop-turn.input)
           (g.I.Read.remaining c.judge_next.new.input) (g.W.Write.contents c.loop-turn.out)
           (g.W.Write.contents c.judge_next.new.out) (Ok o) in
           goes_on {A = PolicyText} g.G.Register old between new Asked s (g.I.Read.remaining c.args.input.now)

@@ -2,7 +2,7 @@ use Rattle.std.proofs.Common.{◌≡◌, Ok}
 use Rattle.guard.specs.Machine.{State}
 use Rattle.guard.specs.Policies.{policy_at}
 use Rattle.station_jobs.specs.Judging.{AsksNow}
-use Rattle.station_jobs.specs.Leaving.{Leaves}
+use Rattle.station_jobs.specs.Leaving.{Leaves, OfBodies}
 use Rattle.station_jobs.proofs.Lines.{Underway}
 use Rattle.station_jobs.proofs.input.judge_lines.Given as goal
 
@@ -12,7 +12,8 @@ invariant-loop-turn g l = record {
   honest : g.G.Register.is_honest l.register → g.G.Register.is_honest l.fn.register;
   known : policy_at l.known.text.items ≡ Ok l.known.policy;
   underway : g.G.Register.is_honest l.register → (s : State) → g.G.Register.keeps l.fn.register s
-      → Underway s (Leaves g.G.Register l.fn.register l.register s)
+      → Underway s (Leaves g.G.Register
+      (OfBodies (AsksNow g.P.Surroundings l.around g.F.Read.remaining l.policy l.ahead)) l.fn.register l.register s)
       (AsksNow g.P.Surroundings l.around g.F.Read.remaining l.policy l.ahead) (g.I.Read.remaining l.fn.input)
       (g.I.Read.remaining l.input) (g.W.Write.contents l.fn.out) (g.W.Write.contents l.out);
 }

@@ -1,6 +1,7 @@
-use Rattle.std.proofs.Common.{◌≡◌, refl}
+use Rattle.std.proofs.Common.{◌≡◌, List, ℕ}
+use Rattle.guard.specs.Machine.{Question}
 use Rattle.station_jobs.specs.Judging.{Asks}
-use Rattle.station_jobs.specs.Leaving.{Leaves}
+use Rattle.station_jobs.specs.Leaving.{Leaves, OfBodies}
 use Rattle.station_jobs.proofs.Judgements.{fault_first, one_weighed}
 use Rattle.station_jobs.proofs.Leavings.{body_cause, fails_same}
 use Rattle.station_jobs.proofs.judging.judge_file.Goals as goal
@@ -8,13 +9,14 @@ use Rattle.station_jobs.proofs.judging.judge_file.Goals as goal
 pub returns-in-Err-clause-judges : goal.returns-in-Err-clause-judges
 returns-in-Err-clause-judges g c h s kept =
     let register = c.args.register.now in
-    fault_first (Leaves g.G.Register register register s)
-    (Asks g.P.Surroundings c.args.around.now g.F.Read.remaining (λ p. p ≡ c.args.policy.now) c.args.ahead) s _ _ _
+    let Asked : List ℕ → Question → Type 0 =
+    Asks g.P.Surroundings c.args.around.now g.F.Read.remaining (λ p. p ≡ c.args.policy.now) c.args.ahead in
+    fault_first (Leaves g.G.Register (OfBodies Asked) register register s) Asked s _ _ _
     (fails_same g.G.Register Unit register s c.in-Err.fault kept
     (body_cause (g.G.Register.has_failed register) c.in-Err.fault c.in-Err.ensures.only))
 
 pub returns-in-Ok-clause-judges : goal.returns-in-Ok-clause-judges
 returns-in-Ok-clause-judges g c h s kept =
-    one_weighed g.P.Surroundings c.args.around.now g.F.Read.remaining c.args.policy.now c.args.ahead c.args.path.now _ _ _
-    c.as_slice.ensures.value c.in-Ok.ensures.weighs (Leaves g.G.Register c.args.register.now c.answer_body.new.register s)
-    s _ _ _ (c.answer_body.ensures.answers h s kept)
+    one_weighed g.G.Register c.args.register.now c.answer_body.new.register g.P.Surroundings c.args.around.now
+    g.F.Read.remaining c.args.policy.now c.args.ahead c.args.path.now _ _ _ c.as_slice.ensures.value
+    c.in-Ok.ensures.weighs s _ _ _ (c.answer_body.ensures.answers h s kept)

@@ -3,6 +3,7 @@ use Rattle.std.specs.Prelude.{OnOk}
 use Rattle.guard.specs.Machine.{State}
 use Rattle.station_jobs.specs.declared.station_fault.StationFault.{StationFault}
 use Rattle.station_jobs.specs.Bodies.{ListsBodies}
+use Rattle.station_jobs.specs.Leaving.{OfNone}
 use Rattle.station_jobs.proofs.Filed.{ran_in}
 use Rattle.station_jobs.proofs.whole.bodies_in.Goals as goal
 
@@ -13,7 +14,7 @@ returns-in-Ok g c =
     let is = c.print_bodies-done.ensures in
     let Did : State → (State → Result (Unit {0}) StationFault → Type 0) → Result (Unit {0}) StationFault → Type 0 =
     λ s Left r. OnOk r (ListsBodies s held holds) × Left s (Ok tt) in
-    ran_in g.G.Register g.D.GuardFile c.requires Did (λ s Left Left' r leads is. (is.0, leads s (Ok tt) is.1))
+    ran_in g.G.Register g.D.GuardFile c.requires OfNone Did (λ s Left Left' r leads is. (is.0, leads s (Ok tt) is.1))
     (holds ≡ held) c.args.db.now c.open.new.self c.close.new.self c.args.path.now c.in-Ok.guard
     c.print_bodies-done.new.register c.print_bodies-done.result c.close.result c.closed.result c.in-Ok.ensures
     (is.honest, λ h s kept. (is.lists h s kept, is.stays h s kept)) c.close.ensures c.closed.ensures

@@ -2,6 +2,7 @@ use Rattle.std.proofs.Common.{◌≡◌, Bool, List, ℕ, Result, map, string_by
 use Rattle.guard.specs.Machine.{State, Question}
 use Rattle.station_jobs.specs.declared.station_fault.StationFault.{StationFault}
 use Rattle.station_jobs.specs.Judging.{AsksNow}
+use Rattle.station_jobs.specs.Leaving.{OfBodies}
 use Rattle.station_jobs.specs.Whole.{JudgesGiven, is_input}
 use Rattle.station_jobs.proofs.Filed.{given_so, ran_in}
 use Rattle.station_jobs.proofs.whole.judge_over.Goals as goal
@@ -17,7 +18,7 @@ returns-in-Ok g c =
     let is = c.judge_given-done.ensures in
     let Did : State → (State → Result (Unit {0}) StationFault → Type 0) → Result (Unit {0}) StationFault → Type 0 =
     λ s Left r. JudgesGiven (is_input bodies) s Left Asked bodies input held holds r in
-    ran_in g.G.Register g.D.GuardFile c.requires.keeps Did
+    ran_in g.G.Register g.D.GuardFile c.requires.keeps (OfBodies Asked) Did
     (λ s Left Left' r leads is. given_so (is_input bodies) s Left Left' Asked bodies input held holds r leads is)
     (holds ≡ held) c.args.db.now c.open.new.self c.close.new.self c.args.path.now c.in-Ok.guard
     c.judge_given-done.new.register c.judge_given-done.result c.close.result c.closed.result c.in-Ok.ensures

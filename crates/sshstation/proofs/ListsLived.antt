@@ -1,0 +1,354 @@
+-- A job over the files of a list guard, as a run in their lifetime.
+use Rattle.std.proofs.Common.{◌≡◌, ◌⊎◌, ◌∙◌, ◌∷◌, [], ℕ, List, Option, Some, None, Result, Ok, Err, ap, arith, inl, inr}
+use Rattle.std.proofs.Common.{length, map, refl, subst, sym, take}
+use Rattle.std.specs.Prelude.{IfOk, IfSome, IsSomeAnd, string_bytes}
+use Rattle.std.specs.Io.KnownBytes.{Appends}
+use Rattle.std.proofs.KnownBytes.{Appends-nil}
+use Rattle.std.proofs.lemmas.List.{take_all}
+use Rattle.std.proofs.Math.Logic.{∥∥₁_map}
+use Rattle.sqlite_disk.specs.declared.Disk.{Ghosts}
+use Rattle.sqlite_disk.specs.declared.Files.{Files}
+use Rattle.sqlite_wal.specs.Recovery.{Image}
+use Rattle.sqlite_wal.specs.Files.{outcomes}
+use Rattle.sqlite_wal.specs.Reads.{AreClean}
+use Rattle.sqlite_store.specs.declared.store.FileStore.{FileStore}
+use Rattle.sqlite.specs.State.{HasCleanDisk}
+use Rattle.sqlite.specs.Files.{file_state}
+use Rattle.lines.specs.Digests.{digest_text}
+use Rattle.krl.specs.Contents.{IsPublished}
+use Rattle.guard.specs.declared.register.Register as register
+use Rattle.list_guard.specs.declared.judging.Answer.{Answer}
+use Rattle.list_guard.specs.declared.judging.Answer.TheVariants as answer
+use Rattle.list_guard.specs.declared.refusal.Refusal.TheVariants.{NotAList}
+use Rattle.list_guard.specs.declared.register.ListRegister as lister
+use Rattle.list_guard.specs.History.{Call, Comes}
+use Rattle.list_guard.specs.Judged.{Answers, left_by}
+use Rattle.list_guard.specs.Machine.{IsApproved, Question, State, opened, with_last}
+use Rattle.list_guard.specs.Refusals.{refusal_name}
+use Rattle.list_guard.specs.Statements.{answer_line, refused_line, statement_line}
+use Rattle.list_sql.specs.declared.store.ListStore.{ListStore}
+use Rattle.list_sql.specs.Keeping.{IsFilled, Keeps, Leaves}
+use Rattle.list_sql.proofs.Changed.{published_some}
+use Rattle.list_jobs.specs.declared.list_file.ListFile as lists
+use Rattle.list_jobs.specs.Jobs.{Follows, IsRead, MakesIn, RunsIn, RunsOver}
+use Rattle.list_jobs.specs.Stating.{IsPrinted, LeavesOne, Loses, States, StatesOne, Stores, stated_by}
+use Rattle.restart.specs.declared.ending.EndFault.{EndFault}
+use Rattle.restart.specs.declared.ending.EndFault.TheVariants.{GivenUp, Uncopied}
+use Rattle.list_restart.specs.Images.{Holds, HoldsKept, HoldsList, HoldsOneOf, Standing}
+use Rattle.list_restart.specs.Lives.{AreSaid, Goes, IsTold, Said}
+use Rattle.list_restart.specs.Runs.{EndsWell}
+use Rattle.list_restart.proofs.Lives.{runs_on}
+use Rattle.station_command.specs.declared.job.StationJob.{StationJob}
+use Rattle.station_command.specs.declared.job.StationJob.TheVariants as job
+use Rattle.station_jobs.specs.declared.guard_file.GuardFile as file
+use Rattle.station_jobs.specs.declared.station_fault.StationFault.{StationFault}
+use Rattle.station_jobs.specs.declared.surroundings.Surroundings as surroundings
+use Rattle.sshstation.specs.Doing.{DoesList, DoesWords}
+use Rattle.sshstation.specs.GuardFiles.{IsWhole}
+use Rattle.sshstation.specs.ListFiles.{EndsList, FindsList, MakesList}
+use Rattle.sshstation.specs.Listing.{AreListed, IsListed, IsListedBy, Prints}
+
+-- ---- one list
+
+-- a published list has a byte
+approved_filled : (s : State) (q : Question) → IsApproved s q → IsFilled (with_last q.list)
+approved_filled s q (c, of, next) = λ none. published_some (subst IsPublished none (c, of.published))
+
+-- an answer is a possible result of the call
+comes_of : (s : State) (q : Question) (a : Answer) → Answers a s q → Comes s q (stated_by a q) (left_by a s q)
+comes_of s q (answer.Approve digest version) is = (refl, (is.0.0, is.0.1, is.0.2), refl)
+comes_of s q (answer.Refuse r) is = inl refl
+
+-- the line was printed, or a beginning of it
+line_told : (text : List ℕ) (held holds : Option (List ℕ)) (r : Result (Unit {0}) StationFault)
+    → IsPrinted text held holds r → (count : ℕ) × Appends held holds (take count text)
+line_told text held holds (Ok done) printed =
+    (length text, subst (Appends held holds) (sym (take_all (length text) text (omega arith))) printed)
+line_told text held holds (Err e) printed = (printed.count, printed.grown)
+
+answer_told : (s : State) (q : Question) (a : Answer) (moment : ℕ) (held holds : Option (List ℕ))
+    (r : Result (Unit {0}) StationFault) → Answers a s q → IsPrinted (answer_line a moment) held holds r
+    → IsTold (stated_by a q) held holds
+answer_told s q (answer.Approve digest version) moment held holds r is printed =
+    let line = line_told (statement_line digest version moment) held holds r printed in (
+      is.0.0,
+      is.0.1.published,
+      moment,
+      line.0,
+      subst (λ (v : ℕ). Appends held holds (take line.0 (statement_line (digest_text q.list) v moment))) is.0.3
+          (subst (λ (d : List ℕ). Appends held holds (take line.0 (statement_line d version moment))) is.1 line.1),
+    )
+answer_told s q (answer.Refuse refusal) moment held holds r is printed =
+    let line = line_told (refused_line (refusal_name refusal)) held holds r printed in (refusal, line.0, line.1)
+
+-- nothing was printed
+none_told : (held holds : Option (List ℕ)) → holds ≡ held → IsTold None held holds
+none_told held holds same =
+    subst (λ (h : Option (List ℕ)). IsTold None held h) (sym same) (NotAList, 0, Appends-nil held)
+
+either : {A : Type 0} → A ⊎ A → A
+either (inl a) = a
+either (inr a) = a
+
+module _ (Dk : Type 0) (g : Ghosts Dk) (image : Image) where
+  abbrev Store : Type 0
+  Store = ListStore (FileStore Dk g)
+
+  abbrev Ended : Type 0
+  Ended = Result (Unit {0}) EndFault × Files Dk
+
+  -- ---- what the files hold
+
+  -- the files hold what a run that printed this leads to
+  abbrev Reaches : Standing → Said → Image → Type 0
+  Reaches before said files =
+      (calls : List Call) × (after : Standing) × AreSaid calls said × Goes before calls after × Holds files after
+
+  reached : (s t : State) (q : Question) (told : Option (List ℕ)) (held holds : Option (List ℕ)) (files : Image)
+      → Comes s q told t → IsTold told held holds → HoldsKept files t
+      → Reaches (Some s) (Said.judging q held holds) files
+  reached s t q told held holds files comes printed has =
+      (record { asked = q; told = told } ∷ [], Some t, (told, refl, printed), (t, (t, comes, refl), refl), has)
+
+  -- the connection ended, its disk was faithful, and its log was copied, or the copy wasn't begun
+  record IsSettled (it : Store) (left : Ended) : Type 0 where
+    ends : EndsWell it.conn left.0 left.1
+    clean : AreClean g left.1.log left.1.db
+    whole : IsWhole left.0
+
+  settled_clean : (it : Store) (left : Ended) → IsSettled it left → HasCleanDisk (file_state it.conn)
+  settled_clean it (Ok done, files) is = (is.ends is.clean).0
+  settled_clean it (Err (GivenUp error), files) is = (is.ends is.clean).0
+  settled_clean it (Err (Uncopied error), files) is = absurd is.whole
+
+  -- the files hold the list guard that was kept, or the other one that a crash could leave
+  settled_holds : (it : Store) (left : Ended) → IsSettled it left → (s t : State) → Keeps (file_state it.conn) s
+      → Leaves (file_state it.conn) s t → (files : Image) → outcomes g left.1.log left.1.db files
+      → HoldsOneOf files s t
+  settled_holds it (Ok done, left) is s t keeps leaves files may = ∣ inl ((is.ends is.clean).1 s keeps files may) ∣₁
+  settled_holds it (Err (GivenUp error), left) is s t keeps leaves files may =
+      (is.ends is.clean).1 s t leaves files may
+  settled_holds it (Err (Uncopied error), left) is s t keeps leaves files may = absurd is.whole
+
+  -- ---- a list guard that was opened
+
+  module _ (it : Store) (left : Ended) (settled : IsSettled it left) (s : State) (q : Question)
+      (held holds : Option (List ℕ)) (files : Image) (may : outcomes g left.1.log left.1.db files) where
+    abbrev Came : Type 0
+    Came = Reaches (Some s) (Said.judging q held holds) files
+
+    -- the list was judged
+    answered : (a : Answer) (moment : ℕ) (r : Result (Unit {0}) StationFault) → Answers a s q
+        → IsPrinted (answer_line a moment) held holds r → Keeps (file_state it.conn) (left_by a s q)
+        → Leaves (file_state it.conn) (left_by a s q) (left_by a s q) → ∥ Came ∥₁
+    answered a moment r answers printed keeps leaves =
+        let t = left_by a s q in
+        ∥∥₁_map (settled_holds it left settled t t keeps leaves files may)
+        (λ which. reached s t q (stated_by a q) held holds files (comes_of s q a answers)
+        (answer_told s q a moment held holds r answers printed) (keeps.filled, either which))
+
+    -- it wasn't, and the files hold what they held, or the list
+    one_of : Keeps (file_state it.conn) s → IsApproved s q → holds ≡ held
+        → HoldsList files s ⊎ HoldsList files (with_last q.list) → Came
+    one_of keeps approved same (inl has) =
+        reached s s q None held holds files (inl refl) (none_told held holds same) (keeps.filled, has)
+    one_of keeps approved same (inr has) =
+        reached s (with_last q.list) q None held holds files (inr (approved, refl)) (none_told held holds same)
+        (approved_filled s q approved, has)
+
+    lost : Keeps (file_state it.conn) s → LeavesOne s (Leaves (file_state it.conn)) q → holds ≡ held → ∥ Came ∥₁
+    lost keeps (inl leaves) same =
+        ∥∥₁_map (settled_holds it left settled s s keeps leaves files may)
+        (λ which. reached s s q None held holds files (inl refl) (none_told held holds same)
+        (keeps.filled, either which))
+    lost keeps (inr (approved, leaves)) same =
+        ∥∥₁_map (settled_holds it left settled s (with_last q.list) keeps leaves files may)
+        (λ which. one_of keeps approved same which)
+
+  opened_lived : (o : Option Ended) (first last : Store) (closing : Result (Unit {0}) StationFault) (said : Said)
+      → FindsList image first → IsSomeAnd o (EndsList last closing)
+      → (HasCleanDisk (file_state last.conn) → HasCleanDisk (file_state first.conn))
+      → ((left : Ended) → IsSettled last left → (s : State) → (first.last ≡ s.last) × Keeps (file_state first.conn) s
+      → Leaves (file_state first.conn) s s → (files : Image) → outcomes g left.1.log left.1.db files
+      → ∥ Reaches (Some s) said files ∥₁)
+      → IfSome o (IsListed g image said)
+  opened_lived None first last closing said found ends honest did = tt
+  opened_lived (Some left) first last closing said found ends honest did = λ clean whole.
+      let settled : IsSettled last left = record { ends = ends.0; clean = clean; whole = whole } in
+      runs_on image said (outcomes g left.1.log left.1.db)
+      (λ files may before holds. by_standing settled files may before holds)
+    where
+      by_standing : IsSettled last left → (files : Image) → outcomes g left.1.log left.1.db files
+          → (before : Standing) → Holds image before → ∥ Reaches before said files ∥₁
+      by_standing settled files may None holds =
+          let clean = honest (settled_clean last left settled) in
+          absurd (found.right (found.files.blank (found.honest clean) holds))
+      by_standing settled files may (Some s) holds =
+          let clean = honest (settled_clean last left settled) in
+          let is = found.found clean s holds.0 (found.files.held (found.honest clean) s holds.1) in
+          did left settled s (is.0, is.1.keeps) is.1.crash files may
+
+  -- ---- a list guard that was made
+
+  made_lived : (o : Option Ended) (it : Store) (closing : Result (Unit {0}) StationFault) → MakesList image it
+      → IsSomeAnd o (EndsList it closing) → IfSome o (IsListed g image Said.none)
+  made_lived None it closing made ends = tt
+  made_lived (Some left) it closing made ends = λ clean whole.
+      let settled : IsSettled it left = record { ends = ends.0; clean = clean; whole = whole } in
+      runs_on image Said.none (outcomes g left.1.log left.1.db)
+      (λ files may before holds. by_standing settled files may before holds)
+    where
+      by_standing : IsSettled it left → (files : Image) → outcomes g left.1.log left.1.db files
+          → (before : Standing) → Holds image before → ∥ Reaches before Said.none files ∥₁
+      by_standing settled files may None holds =
+          let clean = settled_clean it left settled in
+          let is = made.0.found clean (made.0.files.blank (made.0.honest clean) holds) in
+          ∥∥₁_map (settled_holds it left settled opened opened is.keeps is.crash files may)
+          (λ which.
+          let reaches : Reaches None Said.none files =
+          ([], Some opened, refl, (refl, inr refl), (tt, either which)) in reaches)
+      by_standing settled files may (Some s) holds =
+          let clean = settled_clean it left settled in
+          absurd (made.0.right (s, made.0.files.held (made.0.honest clean) s holds.1))
+
+  -- ---- jobs
+
+  module _ {L : Type 0} (keeper : lister.Ghosts Store) (lists_file : lists.Ghosts L Store) (left_of : L → Option Ended)
+    where
+      -- the list guard of the file is one of such files
+      pub record IsOver : Type 0 where
+        pub opens : (db after : L) (path : List ℕ) (found : Result Store StationFault)
+            → lists_file.opens db path found after → IfOk found (FindsList image) × (left_of after ≡ left_of db)
+        pub makes : (db after : L) (path : List ℕ) (found : Result Store StationFault)
+            → lists_file.makes db path found after → IfOk found (MakesList image) × (left_of after ≡ left_of db)
+        pub closes : (db after : L) (it : Store) (r : Result (Unit {0}) StationFault) → lists_file.closes db it r after
+            → IsSomeAnd (left_of after) (EndsList it r)
+        pub stores : (it : Store) (s : State) → (it.last ≡ s.last) × Keeps (file_state it.conn) s
+            → Leaves (file_state it.conn) s s → Stores keeper it s
+        pub keeps : (it : Store) (s : State) → keeper.keeps it s → Keeps (file_state it.conn) s
+        pub leaves : (it : Store) (s t : State) → keeper.leaves it s t → Leaves (file_state it.conn) s t
+        pub honest : (it : Store) → HasCleanDisk (file_state it.conn) → keeper.is_honest it
+        pub is_clean : (it : Store) → keeper.is_honest it → HasCleanDisk (file_state it.conn)
+
+      module _ (over : IsOver) (db db' : L) (none : left_of db ≡ None) where
+        untouched : (P : Ended → Type 0) → left_of db' ≡ None → IfSome (left_of db') P
+        untouched P is = subst (λ (o : Option Ended). IfSome o P) (sym is) tt
+
+        leaves_one : (it : Store) (s : State) (q : Question) → LeavesOne s (keeper.leaves it) q
+            → LeavesOne s (Leaves (file_state it.conn)) q
+        leaves_one it s q (inl leaves) = inl (over.leaves it s s leaves)
+        leaves_one it s q (inr (approved, leaves)) = inr (approved, over.leaves it s (with_last q.list) leaves)
+
+        made_listed : (path : List ℕ) (result : Result (Unit {0}) StationFault)
+            → MakesIn lists_file db db' path result → IfSome (left_of db') (IsListed g image Said.none)
+        made_listed path result is = by_found is.found is.is_made is.ran
+          where
+            by_found : (found : Result Store StationFault) → lists_file.makes db path found is.opened
+                → Follows (λ it r. lists_file.closes is.opened it r db') (db' ≡ is.opened) found result
+                → IfSome (left_of db') (IsListed g image Said.none)
+            by_found (Ok it) makes ran =
+                made_lived (left_of db') it result (over.makes db is.opened path (Ok it) makes).0
+                (over.closes is.opened db' it result ran)
+            by_found (Err e) makes ran =
+                untouched (IsListed g image Said.none)
+                (ap left_of ran.1 ∙ ((over.makes db is.opened path (Err e) makes).1 ∙ none))
+
+        module _ {E F : Type 0} (world : surroundings.Ghosts E F) (around : E) where
+          -- a list was judged over a list guard, and this is what the files hold
+          came : (first last : Store) (q : Question) (held holds : Option (List ℕ))
+              (outcome : Result (Unit {0}) StationFault) → States world around keeper q held holds first last outcome
+              → (left : Ended) → IsSettled last left → (s : State)
+              → (first.last ≡ s.last) × Keeps (file_state first.conn) s → Leaves (file_state first.conn) s s
+              → (files : Image) → outcomes g left.1.log left.1.db files
+              → ∥ Reaches (Some s) (Said.judging q held holds) files ∥₁
+          came first last q held holds outcome did left settled s keeps leaves files may =
+              let honest = over.honest last (settled_clean last left settled) in
+              let stores = over.stores first s keeps leaves in
+              by_states (did.states honest s stores) (leaves_one last s q (did.crash honest s stores))
+            where
+              by_states : StatesOne s (λ _ t. Stores keeper last t) (Loses keeper last s q) (world.shows around) q held
+                  holds outcome → LeavesOne s (Leaves (file_state last.conn)) q
+                  → ∥ Reaches (Some s) (Said.judging q held holds) files ∥₁
+              by_states (inl is) crash =
+                  let t = left_by is.answer s q in
+                  answered last left settled s q held holds files may is.answer is.moment outcome is.answers is.printed
+                  (over.keeps last t is.left.0) (over.leaves last t t is.left.1)
+              by_states (inr (e, failed, loses, same)) crash =
+                  lost last left settled s q held holds files may (over.keeps last s loses.0) crash same
+
+          ran_listed : (path : List ℕ) (q : Question) (held holds : Option (List ℕ))
+              (result : Result (Unit {0}) StationFault)
+              → RunsIn lists_file db db' path (States world around keeper q held holds) (holds ≡ held) result
+              → IfSome (left_of db') (IsListed g image (Said.judging q held holds))
+          ran_listed path q held holds result is = by_found is.found is.is_opened is.ran
+            where
+              by_found : (found : Result Store StationFault) → lists_file.opens db path found is.opened
+                  → Follows (RunsOver lists_file db db' path (States world around keeper q held holds) is.opened)
+                  ((db' ≡ is.opened) × (holds ≡ held)) found result
+                  → IfSome (left_of db') (IsListed g image (Said.judging q held holds))
+              by_found (Ok first) opens ran =
+                  opened_lived (left_of db') first ran.last ran.closing (Said.judging q held holds)
+                  (over.opens db is.opened path (Ok first) opens).0
+                  (over.closes is.opened db' ran.last ran.closing ran.is_closed)
+                  (λ clean. over.is_clean first (ran.did.honest (over.honest ran.last clean)))
+                  (came first ran.last q held holds ran.outcome ran.did)
+              by_found (Err e) opens ran =
+                  untouched (IsListed g image (Said.judging q held holds))
+                  (ap left_of ran.1.0 ∙ ((over.opens db is.opened path (Err e) opens).1 ∙ none))
+
+          module _ (remaining : F → Option (List ℕ)) where
+            abbrev By : StationJob → (held holds : Option (List ℕ)) → Ended → Type 0
+            By job held holds = IsListedBy world around remaining g image job held holds
+
+            prints_listed : (o : Option Ended) (job : StationJob) (held holds : Option (List ℕ)) (said : Said)
+                → Prints world around remaining job held holds said → IfSome o (IsListed g image said)
+                → IfSome o (By job held holds)
+            prints_listed None job held holds said prints is = tt
+            prints_listed (Some left) job held holds said prints is = (said, prints, is)
+
+            module _ {D G : Type 0} (guard : register.Ghosts G) (file : file.Ghosts D G) (before after : D) where
+              job_listed : (job : StationJob) (held holds : Option (List ℕ)) (result : Result (Unit {0}) StationFault)
+                  → DoesList world around remaining guard file before after keeper lists_file db db' job held
+                  holds result → IfSome (left_of db') (By job held holds)
+              job_listed (job.Lists path) held holds result is =
+                  prints_listed (left_of db') (job.Lists path) held holds Said.none refl
+                  (made_listed (string_bytes path) is.made is.is_made)
+              job_listed (job.List words) held holds result is = by_asked is.asked is.read is.judged
+                where
+                  by_asked : (asked : Result Question StationFault)
+                      → IsRead world around remaining (map string_bytes words.cas.items) words.begins
+                      (string_bytes words.list) asked
+                      → Follows
+                      (λ q. RunsIn lists_file db db' (string_bytes words.db) (States world around keeper q held holds)
+                      (holds ≡ held)) ((db' ≡ db) × (holds ≡ held)) asked result
+                      → IfSome (left_of db') (By (job.List words) held holds)
+                  by_asked (Ok q) read ran =
+                      prints_listed (left_of db') (job.List words) held holds (Said.judging q held holds)
+                      (q, read, refl) (ran_listed (string_bytes words.db) q held holds result ran)
+                  by_asked (Err e) read ran = untouched (By (job.List words) held holds) (ap left_of ran.1.0 ∙ none)
+              job_listed (job.Init path ca first last) held holds result is =
+                  untouched (By (job.Init path ca first last) held holds) (ap left_of is ∙ none)
+              job_listed (job.Judge words) held holds result is =
+                  untouched (By (job.Judge words) held holds) (ap left_of is ∙ none)
+              job_listed (job.Bodies path) held holds result is =
+                  untouched (By (job.Bodies path) held holds) (ap left_of is ∙ none)
+              job_listed (job.Body path serial) held holds result is =
+                  untouched (By (job.Body path serial) held holds) (ap left_of is ∙ none)
+              job_listed (job.Policy path) held holds result is =
+                  untouched (By (job.Policy path) held holds) (ap left_of is ∙ none)
+              job_listed (job.Retire path last) held holds result is =
+                  untouched (By (job.Retire path last) held holds) (ap left_of is ∙ none)
+
+              -- the words' job was a run
+              pub words_listed : (words : List (List ℕ)) (input held holds : Option (List ℕ)) (answered : ℕ)
+                  (left : Option Ended) → left ≡ left_of db'
+                  → DoesWords world around remaining guard file before after keeper lists_file db db' words input
+                  held holds answered → AreListed world around remaining g image words held holds left
+              words_listed words input held holds answered left same (inl is) = inl (
+                is.0,
+                is.2,
+                subst (λ (o : Option Ended). IfSome o (By is.0 held holds)) (sym same)
+                    (job_listed is.0 held holds is.1 is.4),
+              )
+              words_listed words input held holds answered left same (inr is) =
+                  inr (is.0, is.1, same ∙ (ap left_of is.3 ∙ none))
