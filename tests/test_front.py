@@ -344,6 +344,19 @@ def test_a_refusal_says_why(recorded, name, request_bytes, text):
     assert f"front: {text}\n" == recorded.ask(request_bytes, name).text
 
 
+ANSWERED = [("a message", "ana", posting(MESSAGE)), ("the list", None, getting("/v1/krl")),
+            ("a table", "ana", getting("/v1/table")), ("a certificate", "ana", getting("/v1/certs/1"))]
+# What a browser is told of each: a page of another site may neither have it nor take it for a script.
+TOLD = b"X-Content-Type-Options: nosniff", b"Cross-Origin-Resource-Policy: same-origin"
+
+
+@pytest.mark.parametrize("what, name, request_bytes", [it[:3] for it in [*ANSWERED, *REFUSALS]], ids=lambda it: (
+    it if isinstance(it, str) else ""))
+def test_a_browser_is_told_that_an_answer_is_of_this_site_alone(recorded, what, name, request_bytes):
+    head = recorded.ask(request_bytes, name).head.split(b"\r\n")
+    assert [] == [it for it in TOLD if it not in head]
+
+
 # ---- pages that are kept
 
 KEPT = ("/v1/krl", "/v1/signers", "/v1/cas", "/v1/table", "/v1/pending")
