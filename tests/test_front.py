@@ -2,6 +2,7 @@
 
 The office behind it is one that records what it is sent."""
 import collections
+import ssl
 import subprocess
 import time
 
@@ -9,7 +10,7 @@ import pytest
 
 from fronts import Front, has_ipv6
 from recording import Recorder, composed, getting, posting, statuses, staying
-from running import Programs, left_out, run, until
+from running import Programs, left_out, rest, run, until
 
 pytestmark = [pytest.mark.front, pytest.mark.xdist_group("front")]
 
@@ -343,6 +344,19 @@ def test_a_refusal_says_why(recorded, name, request_bytes, text):
     assert f"front: {text}\n" == recorded.ask(request_bytes, name).text
 
 
+ANSWERED = [("a message", "ana", posting(MESSAGE)), ("the list", None, getting("/v1/krl")),
+            ("a table", "ana", getting("/v1/table")), ("a certificate", "ana", getting("/v1/certs/1"))]
+# What a browser is told of each: a page of another site may neither have it nor take it for a script.
+TOLD = b"X-Content-Type-Options: nosniff", b"Cross-Origin-Resource-Policy: same-origin"
+
+
+@pytest.mark.parametrize("what, name, request_bytes", [it[:3] for it in [*ANSWERED, *REFUSALS]], ids=lambda it: (
+    it if isinstance(it, str) else ""))
+def test_a_browser_is_told_that_an_answer_is_of_this_site_alone(recorded, what, name, request_bytes):
+    head = recorded.ask(request_bytes, name).head.split(b"\r\n")
+    assert [] == [it for it in TOLD if it not in head]
+
+
 # ---- pages that are kept
 
 KEPT = ("/v1/krl", "/v1/signers", "/v1/cas", "/v1/table", "/v1/pending")
@@ -460,6 +474,21 @@ def test_a_handshake(recorded, words, succeeds):
                input=b"", stdin=None)
     assert (succeeds, succeeds) == (done.returncode == 0, b"Verify return code: 0 (ok)" in done.stdout
                                     and b"Cipher is (NONE)" not in done.stdout)
+
+
+@pytest.mark.parametrize("version", [ssl.TLSVersion.TLSv1_2, ssl.TLSVersion.TLSv1_3], ids=["TLS 1.2", "TLS 1.3"])
+def test_no_session_is_resumed(recorded, version):
+    """So a client's certificate is looked at for each connection: it may be revoked since the last one."""
+    of, session = ssl.create_default_context(cafile=recorded.authority / "ca.crt"), None
+    of.load_cert_chain(recorded.certificate("ana"))
+    of.minimum_version = of.maximum_version = version
+    for _ in range(2):
+        with of.wrap_socket(recorded.connect_plainly(), server_hostname="localhost", session=session) as peer:
+            assert not peer.session_reused
+            # By TLS 1.3 a session comes with what is answered.
+            peer.sendall(getting("/v1/cas"))
+            assert [200] == statuses(rest(peer))
+            session = peer.session
 
 
 def test_the_front_listens_on_ipv6_as_well(recorded):

@@ -6,6 +6,8 @@ import contextlib
 import hashlib
 import multiprocessing
 import os
+import resource
+import select
 import sqlite3
 import statistics
 import struct
@@ -16,7 +18,7 @@ import pytest
 
 from asking import department, issue, lasting, post, revoke_serial
 from recording import getting, posting, staying, statuses
-from running import rest
+from running import left_out, rest
 
 pytestmark = [pytest.mark.front, pytest.mark.xdist_group("front_readers"), pytest.mark.alone]
 PROCESSORS = len(os.sched_getaffinity(0))
@@ -99,6 +101,19 @@ def test_beside_slow_clients_issues_are_answered_at_once(put):
     print(f"{PROCESSORS} processors: an issue takes {statistics.median(alone):.1f} ms alone, and beside 200 silent and "
           f"200 dripping clients {statistics.median(beside):.1f} ms, {max(beside):.1f} ms at most")
     assert (400, True) == (held, max(beside) < max(1000, 10 * max(alone)))
+
+
+def test_more_silent_clients_than_nginx_has_room_for_by_itself_are_kept(put):
+    """By itself it keeps 512 for each of its processes, and ends others for those that come."""
+    count = 600 * os.cpu_count()
+    if count + 500 > resource.getrlimit(resource.RLIMIT_NOFILE)[0]:
+        left_out("a process may have too few files open here")
+    with contextlib.ExitStack() as ending:
+        silent = select.poll()
+        for _ in range(count):
+            silent.register(ending.enter_context(put.connect_plainly()), select.POLLIN)
+        issued(put, "beside")
+        assert [] == silent.poll(0)
 
 
 # ---- many servers that fetch the list

@@ -59,6 +59,12 @@ def test_only_the_front_has_a_right_of_root(unit):
     assert rights == settings(unit, "AmbientCapabilities")
 
 
+def test_each_connection_of_the_front_may_have_two_files_open():
+    """One to the client, and one to the office while it is asked."""
+    [most] = re.findall(r"^ +worker_connections (\d+);$", (EXAMPLES / "front/nginx.conf").read_text(), re.M)
+    assert [True] == [2 * int(most) < int(it) for it in settings("office-front.service", "LimitNOFILE")]
+
+
 @pytest.mark.root
 def test_sysusers_makes_the_users_of_the_units(room):
     (room / "etc").mkdir()
