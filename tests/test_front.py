@@ -314,6 +314,18 @@ def test_a_client(recorded, name, wanted):
     assert sent in ([], [f"POST /v1/callers/{wanted[1]}/requests/k-1"])
 
 
+@pytest.mark.slow
+@pytest.mark.parametrize("begun", [b"", getting("/v1/krl")[:-2], posting(MESSAGE, b"hello")[:-2]],
+                         ids=["at once", "in a head", "in a body"])
+def test_who_falls_silent_is_given_up_after_ten_seconds(recorded, begun):
+    with recorded.connect("ana") as peer:
+        peer.settimeout(30)
+        since = time.monotonic()
+        peer.sendall(begun)
+        assert [] == [it for it in statuses(rest(peer)) if it != 408]
+        assert 8 < time.monotonic() - since < 25
+
+
 def test_an_office_may_have_other_names_for_root_and_the_station(make_front, recorded):
     forget(recorded)
     front = make_front(recorded.recorder.port, edits=[('OU=office\\z"                root;', 'OU=office\\z" chief;'),
