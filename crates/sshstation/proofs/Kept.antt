@@ -1,6 +1,6 @@
 -- What the files of a guard keep.
-use Rattle.std.proofs.Common.{◌≡◌, Option, Some, None, Result, Ok, Err, inr, refl, subst}
-use Rattle.std.specs.Prelude.{IsSomeAnd, OnErr}
+use Rattle.std.proofs.Common.{◌≡◌, Option, Some, None, Result, Ok, Err}
+use Rattle.std.specs.Prelude.{IsSomeAnd}
 use Rattle.sqlite_disk.specs.declared.Disk.{Ghosts}
 use Rattle.sqlite_disk.specs.declared.Files.{Files}
 use Rattle.sqlite_wal.specs.Recovery.{Image}
@@ -17,9 +17,8 @@ use Rattle.restart.specs.Images.{HoldsNone}
 use Rattle.station_jobs.specs.declared.station_fault.StationFault.{StationFault}
 use Rattle.station_jobs.specs.declared.station_fault.StationFault.TheVariants.{Device, NoMemory}
 use Rattle.guard_restart.specs.Images.{HoldsKept}
-use Rattle.guard_sql.specs.Opening.{FoundsNone}
-use Rattle.sshstation.specs.GuardFiles.{AreSettled, EndsGuard, FindsGuard, FindsNone, HaveGuard, HaveOne, IsOfFiles}
-use Rattle.sshstation.specs.GuardFiles.{IsOfSearch, MakesGuard, MakesNone, OpensNone, SaysAndMisses}
+use Rattle.sshstation.specs.GuardFiles.{AreSettled, EndsGuard, FindsGuard, HaveGuard, HaveOne, IsOfFiles, IsOfSearch}
+use Rattle.sshstation.specs.GuardFiles.{MakesGuard}
 
 -- a success isn't a fault
 pub is_no_fault : {X E : Type 0} (x : X) (e : E) → Ok x ≡ Err e → ⊥
@@ -33,17 +32,6 @@ files_searched NoMemory h = tt
 files_searched other h = absurd h
 
 module _ {D : Type 0} {g : Ghosts D} where
-  -- a guard over a connection wasn't opened or made
-  pub not_found : (image : Image) (r : Result (GuardStore (FileStore D g)) StationFault)
-      → OnErr r (OpensNone image SaysAndMisses r) → FindsNone image r
-  not_found image (Ok x) h = tt
-  not_found image (Err e) h = inr h
-
-  pub not_made : (image : Image) (r : Result (GuardStore (FileStore D g)) StationFault)
-      → OnErr r (OpensNone image FoundsNone r) → MakesNone image r
-  not_made image (Ok x) h = tt
-  not_made image (Err e) h = inr h
-
   -- what a guard over files keeps and what a crash leaves of it
   abbrev StoresFiles : GuardStore (FileStore D g) → State → Type 0
   StoresFiles guard s =

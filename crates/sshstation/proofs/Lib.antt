@@ -1,4 +1,5 @@
 mod Kept
+mod Unopened
 mod Saying
 mod Lived
 mod ListsLived

@@ -19,6 +19,7 @@ use Rattle.guard.specs.Retiring.{with_last}
 use Rattle.guard.proofs.Allowed.{left_by}
 use Rattle.guard_sql.specs.declared.store.GuardStore.{GuardStore}
 use Rattle.guard_sql.specs.Keeping.{IsGuard}
+use Rattle.guard_sql.specs.Opening.{FoundsNone}
 use Rattle.guard_sql.proofs.Changed.{last_below, lower_lawful, more_lawful}
 use Rattle.restart.specs.declared.ending.EndFault.{EndFault}
 use Rattle.restart.specs.Images.{HoldsNone}
@@ -36,14 +37,17 @@ use Rattle.station_jobs.specs.Judging.{AsksNow}
 use Rattle.station_jobs.specs.Leaving.{IsNext, OfBodies, OfLowering, OfNone, Step}
 use Rattle.station_jobs.specs.Whole.{ClosesNew, Follows, JudgesGiven, LeavesFiles, MakesIn, Retires, RetiresTo, RunsIn}
 use Rattle.station_jobs.specs.Whole.{RunsOver, is_input}
-use Rattle.guard_restart.specs.Images.{Holds, HoldsGuard, HoldsKept, HoldsOneOf, Standing}
+use Rattle.guard_restart.specs.Images.{Holds, HoldsGuard, HoldsKept, Standing}
 use Rattle.guard_restart.specs.Lives.{Backs, Said, Stays}
 use Rattle.guard_restart.proofs.Lives.{runs_on, said_stays}
 use Rattle.sshstation.specs.Doing.{DoesJob, DoesWords, InitsAt}
-use Rattle.sshstation.specs.GuardFiles.{AreSettled, EndsGuard, FindsGuard, HaveGuard, HaveOne, MakesGuard}
+use Rattle.sshstation.specs.GuardFiles.{AreSettled, EndsGuard, FindsGuard, HaveGuard, HaveOne, IsOfFiles, IsOfSearch}
+use Rattle.sshstation.specs.GuardFiles.{MakesGuard, OpensNone, SaysAndMisses}
 use Rattle.sshstation.specs.Living.{AreLived, IsLived, said_by}
+use Rattle.sshstation.specs.Unopened.{HoldAgain, HoldAgainOrBegin, IsOrBegins, MakesLeaving, OpensLeaving}
 use Rattle.sshstation.proofs.Kept.{ends_honest}
-use Rattle.sshstation.proofs.Saying.{Lasts, backs_none, given_last, next_still, same_lasts, still_same, still_then}
+use Rattle.sshstation.proofs.Saying.{Lasts, backs_none, given_last, next_still, same_lasts, silent, silent_none}
+use Rattle.sshstation.proofs.Saying.{still_same, still_then}
 
 -- ---- the next state
 
@@ -170,15 +174,55 @@ module _ (Dk : Type 0) (g : Ghosts Dk) (image : Image) where
       by_standing settled clean files may (Some s) holds =
           absurd (made.0.right (s, made.0.files.held (made.0.honest clean) s holds.1))
 
+  -- ---- a guard that wasn't opened or made
+
+  stays_same : (p : Standing) → Stays p p
+  stays_same None = tt
+  stays_same (Some s) = still_same s
+
+  -- the files hold what they held, if they were opened
+  unopened_lived : (said : Said) → ((p : Standing) → Backs p said) → (o : Option Left)
+      → (o ≡ None) ⊎ IsSomeAnd o (λ left. HoldAgain g image left.1) → IfSome o (IsLived g image said)
+  unopened_lived said backs None is = tt
+  unopened_lived said backs (Some left) (inl none) = absurd cc
+  unopened_lived said backs (Some left) (inr again) = λ clean whole.
+      runs_on image said (outcomes g left.1.log left.1.db)
+      (λ files may before holds.
+      ∥∥₁_map (again clean files may before holds) (λ held.
+      let comes : Comes before said files = (before, stays_same before, backs before, held) in comes))
+
+  unmade_comes : (scope : Scope) (files : Image) (before : Standing) → IsOrBegins files scope before
+      → Comes before Said.none files
+  unmade_comes scope files before (inl held) = (before, stays_same before, silent_none before, held)
+  unmade_comes scope files None (inr new) = (Some (opened scope), refl, backs_none (opened scope), new.1)
+  unmade_comes scope files (Some s) (inr new) = let no = new.0 in absurd cc
+
+  -- the files hold what they held, or the new guard in place of none
+  unmade_lived : (scope : Scope) (o : Option Left)
+      → (o ≡ None) ⊎ IsSomeAnd o (λ left. HoldAgainOrBegin g image scope left.1) → IfSome o (IsLived g image Said.none)
+  unmade_lived scope None is = tt
+  unmade_lived scope (Some left) (inl none) = absurd cc
+  unmade_lived scope (Some left) (inr again) = λ clean whole.
+      runs_on image Said.none (outcomes g left.1.log left.1.db)
+      (λ files may before holds.
+      ∥∥₁_map (again clean files may before holds) (λ is. unmade_comes scope files before is))
+
+  -- there were no files before
+  from_none : (P : Left → Type 0) (Searched Opened : Type 0) (old new : Option Left) → old ≡ None
+      → (Searched × (new ≡ old)) ⊎ (Opened × IsSomeAnd new P) → (new ≡ None) ⊎ IsSomeAnd new P
+  from_none P Searched Opened old new none (inl is) = inl (is.1 ∙ none)
+  from_none P Searched Opened old new none (inr is) = inr is.1
+
   -- ---- jobs
 
   module _ {D : Type 0} (guard : register.Ghosts Store) (file : file.Ghosts D Store) (left_of : D → Option Left) where
     -- the guards of `file` are those over such files
     pub record IsOver : Type 0 where
       pub opens : (db after : D) (path : List ℕ) (found : Result Store StationFault) → file.opens db path found after
-          → IfOk found (FindsGuard image) × (left_of after ≡ left_of db)
+          → IfOk found (FindsGuard image) × OpensLeaving image found (left_of db) (left_of after)
       pub makes : (db after : D) (path : List ℕ) (scope : Scope) (found : Result Store StationFault)
-          → file.makes db path scope found after → IfOk found (MakesGuard image scope) × (left_of after ≡ left_of db)
+          → file.makes db path scope found after
+          → IfOk found (MakesGuard image scope) × MakesLeaving image scope found (left_of db) (left_of after)
       pub closes : (db after : D) (it : Store) (r : Result (Unit {0}) StationFault) → file.closes db it r after
           → IsSomeAnd (left_of after) (EndsGuard it r)
       pub held : (s : State) → HoldsKept image s → file.held s
@@ -206,13 +250,19 @@ module _ (Dk : Type 0) (g : Ghosts Dk) (image : Image) where
       untouched : (said : Said) → left_of db' ≡ None → IfSome (left_of db') (IsLived g image said)
       untouched said is = subst (λ (o : Option Left). IfSome o (IsLived g image said)) (sym is) tt
 
+      -- nothing was done after the opening
+      at_once : {o : Option Left} (said : Said) → left_of db' ≡ o → IfSome o (IsLived g image said)
+          → IfSome (left_of db') (IsLived g image said)
+      at_once said same is = subst (λ (o : Option Left). IfSome o (IsLived g image said)) (sym same) is
+
       ran_lived : {A : Type 0} (May : Step → Type 0)
           (Did : State → (State → Result A StationFault → Type 0) → Result A StationFault → Type 0)
           (path : List ℕ) (Nothing : Type 0) (result : Result A StationFault) (said : Said)
+          → (Nothing → (p : Standing) → Backs p said)
           → ((s : State) (L : State → Result A StationFault → Type 0) (r : Result A StationFault) → IsGuard s
           → Did s L r → Lasts s said L)
           → RunsIn guard file db db' path May Did Nothing result → IfSome (left_of db') (IsLived g image said)
-      ran_lived {A} May Did path Nothing result said lasts is = by_found is.found is.is_opened is.ran
+      ran_lived {A} May Did path Nothing result said backs lasts is = by_found is.found is.is_opened is.ran
         where
           by_found : (found : Result Store StationFault) → file.opens db path found is.opened
               → Follows (RunsOver guard file db db' May Did is.opened) ((db' ≡ is.opened) × Nothing) found result
@@ -227,7 +277,11 @@ module _ (Dk : Type 0) (g : Ghosts Dk) (image : Image) where
               let it = lasts s (LeavesFiles guard file May db' ran.last ran.closing) ran.outcome holds.0 did in
               (it.t, it.still, it.backs, filed May ran.last ran.closing it.t it.outcome it.left))
           by_found (Err e) opens ran =
-              untouched said (ap left_of ran.1.0 ∙ ((over.opens db is.opened path (Err e) opens).1 ∙ none))
+              at_once said (ap left_of ran.1.0)
+              (unopened_lived said (backs ran.1.1) (left_of is.opened)
+              (from_none (λ left. HoldAgain g image left.1) (IsOfSearch e)
+              (OpensNone {g = g} image SaysAndMisses (Err e)) (left_of db) (left_of is.opened) none
+              (over.opens db is.opened path (Err e) opens).1))
 
       made_in_lived : (path : List ℕ) (scope : Scope) (result : Result (Unit {0}) StationFault)
           → MakesIn guard file db db' path scope result → IfSome (left_of db') (IsLived g image Said.none)
@@ -242,7 +296,11 @@ module _ (Dk : Type 0) (g : Ghosts Dk) (image : Image) where
               (λ settled holds.
               filed_new it result (opened scope) (ran.files (over.settles db' it settled) (over.blank holds)))
           by_found (Err e) makes ran =
-              untouched Said.none (ap left_of ran.1 ∙ ((over.makes db is.made path scope (Err e) makes).1 ∙ none))
+              at_once Said.none (ap left_of ran.1)
+              (unmade_lived scope (left_of is.made)
+              (from_none (λ left. HoldAgainOrBegin g image scope left.1) (IsOfFiles e)
+              (OpensNone {g = g} image FoundsNone (Err e)) (left_of db) (left_of is.made) none
+              (over.makes db is.made path scope (Err e) makes).1))
 
       same_db : (said : Said) → db' ≡ db → IfSome (left_of db') (IsLived g image said)
       same_db said same = untouched said (ap left_of same ∙ none)
@@ -284,21 +342,20 @@ module _ (Dk : Type 0) (g : Ghosts Dk) (image : Image) where
                 ran_lived (OfBodies Asked)
                 (λ s L r. JudgesGiven (is_input bodies) s L
                 (AsksNow world around remaining (string_bytes j.policy) j.ahead) bodies input held holds r)
-                (string_bytes j.db) (holds ≡ held) result (Said.judging held holds)
+                (string_bytes j.db) (holds ≡ held) result (Said.judging held holds) (silent held holds)
                 (λ s L r guard did. given_last (is_input bodies) s L
                 (AsksNow world around remaining (string_bytes j.policy) j.ahead) bodies input held holds r did) ran
             by_policy (Err e) ran = same_db (Said.judging held holds) ran.1.0
         job_lived (job.Bodies path) input held holds result is =
             ran_lived OfNone (λ s L r. OnOk r (ListsBodies s held holds) × L s (Ok tt)) (string_bytes path)
-            (holds ≡ held)
-            result Said.none (λ s L r guard did. same_lasts s L (Ok tt) did.1) is
+            (holds ≡ held) result Said.none (λ _. silent_none) (λ s L r guard did. same_lasts s L (Ok tt) did.1) is
         job_lived (job.Body path serial) input held holds result is =
             ran_lived OfNone (λ s L r. PrintsBody s serial held holds r × L s (Ok tt)) (string_bytes path)
-            (holds ≡ held)
-            result Said.none (λ s L r guard did. same_lasts s L (Ok tt) did.1) is
+            (holds ≡ held) result Said.none (λ _. silent_none) (λ s L r guard did. same_lasts s L (Ok tt) did.1) is
         job_lived (job.Policy path) input held holds result is = same_db Said.none is.1
         job_lived (job.Retire path last) input held holds result is =
             ran_lived (OfLowering last) (Retires last) (string_bytes path) (Unit {0}) is.lowered Said.none
+            (λ _. silent_none)
             (λ s L r guard did. retires_to_last last s L r (did (last_below s.scope guard.scope))) is.is_lowered
         job_lived (job.Lists path) input held holds result is = same_db Said.none is
         job_lived (job.List words) input held holds result is = same_db Said.none is

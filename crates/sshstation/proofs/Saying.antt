@@ -1,9 +1,9 @@
 -- What a job said about unsigned certificates (bodies), and the guard that backs it.
-use Rattle.std.proofs.Common.{◌≡◌, ◌++◌, ◌∷◌, ◌∙◌, [], ℕ, List, All, Bool, Option, Some, None, Result, Ok, Err, ap, append_assoc}
+use Rattle.std.proofs.Common.{◌≡◌, ◌++◌, ◌∷◌, ◌∙◌, [], ℕ, List, All, Bool, Option, Some, Result, Ok, Err, ap, append_assoc}
 use Rattle.std.proofs.Common.{arith, drop, false, inl, inr, length, map, refl, subst, sym, take, true}
-use Rattle.std.specs.Prelude.{OnOk}
 use Rattle.std.specs.List.{flat_map}
 use Rattle.std.specs.Io.KnownBytes.{Appends}
+use Rattle.std.proofs.KnownBytes.{Appends-nil}
 use Rattle.std.proofs.lemmas.List.{append-nil, take-append-drop, take_all, take_at}
 use Rattle.std.proofs.lemmas.List.Concat.{flat_map-append}
 use Rattle.std.proofs.lemmas.List.Elements.{All-cons, All-head, All-nil, All-tail}
@@ -15,9 +15,9 @@ use Rattle.guard.specs.History.{IsStill}
 use Rattle.guard.specs.Judged.{Answers, IsKept}
 use Rattle.guard.specs.Machine.{State, Question, after, row_of}
 use Rattle.guard.proofs.Allowed.{left_by as after_or_before}
+use Rattle.guard_restart.specs.Images.{Standing}
 use Rattle.guard_restart.specs.Lives.{Answered, AreBacked, AreSaid, Backs, IsBacked, Said}
 use Rattle.station_jobs.specs.declared.station_fault.StationFault.{StationFault}
-use Rattle.station_jobs.specs.Input.{JudgesInput}
 use Rattle.station_jobs.specs.Judging.{AreAnswered, IsPrinted, Judgement, Judges, left_by, lines_of}
 use Rattle.station_jobs.specs.Whole.{JudgesGiven}
 use Rattle.station_jobs.specs.Leaving.{IsNext, OfQuestion, Step}
@@ -99,8 +99,18 @@ are_backed s t (j ∷ js) answered kept =
     (All-tail (λ (j : Judgement). IsKept j.answer t j.question.body) j js kept))
 
 -- a run that judged no body said nothing
+pub silent_none : (p : Standing) → Backs p Said.none
+silent_none p = ([], refl, All-nil (λ (a : Answered). IsBacked p a.0 a.1))
+
 pub backs_none : (t : State) → Backs (Some t) Said.none
-backs_none t = ([], refl, All-nil (λ (a : Answered). IsBacked (Some t) a.0 a.1))
+backs_none t = silent_none (Some t)
+
+-- a run that printed nothing said nothing
+pub silent : (held holds : Option (List ℕ)) → holds ≡ held → (p : Standing) → Backs p (Said.judging held holds)
+silent held holds same p =
+    let said : AreSaid [] (Said.judging held holds) =
+    (0, subst (λ (h : Option (List ℕ)). Appends held h []) (sym same) (Appends-nil held)) in
+    ([], said, All-nil (λ (a : Answered). IsBacked p a.0 a.1))
 
 -- ---- what a job did with a guard
 

@@ -1,5 +1,5 @@
 -- A guard in the two files of a database: how it is made and opened, and what closing it leaves of them.
-use Rattle.std.specs.Prelude.{◌≡◌, ◌⊎◌, Result, Ok, Err}
+use Rattle.std.specs.Prelude.{◌≡◌, Result, Ok, Err}
 use Rattle.sqlite_disk.specs.declared.Disk.{Ghosts}
 use Rattle.sqlite_disk.specs.declared.Files.{Files}
 use Rattle.sqlite_wal.specs.Recovery.{Image}
@@ -16,7 +16,7 @@ use Rattle.guard.specs.declared.scope.Scope.{Scope}
 use Rattle.guard.specs.State.{State}
 use Rattle.guard_sql.specs.declared.store.GuardStore.{GuardStore}
 use Rattle.guard_sql.specs.Keeping.{HasGuard, IsBlank, IsGuard}
-use Rattle.guard_sql.specs.Opening.{Finds, Founds, FoundsNone, Misses, SaysUnless}
+use Rattle.guard_sql.specs.Opening.{Finds, Founds, Misses, SaysUnless}
 use Rattle.guard_sql.specs.declared.opening_fault.OpeningFault.{OpeningFault}
 use Rattle.guard_sql.specs.declared.opening_fault.OpeningFault.TheVariants as opening
 use Rattle.restart.specs.declared.ending.EndFault.{EndFault}
@@ -106,16 +106,6 @@ module _ {D : Type 0} {g : Ghosts D} where
     pub is : found ≡ Err (of_opening fault)
     pub honest : HasCleanDisk (file_state last) → HasCleanDisk (file_state conn)
     pub caused : HasCleanDisk (file_state last) → Caused (file_state conn) (file_state last) fault
-
-  -- why a guard isn't opened: its files weren't, or what their tables hold
-  abbrev pub FindsNone : Image → Result (GuardStore (FileStore D g)) StationFault → Type 0
-  FindsNone image (Ok guard) = Unit {0}
-  FindsNone image (Err e) = IsOfSearch e ⊎ OpensNone image SaysAndMisses (Err e)
-
-  -- why a guard isn't made
-  abbrev pub MakesNone : Image → Result (GuardStore (FileStore D g)) StationFault → Type 0
-  MakesNone image (Ok guard) = Unit {0}
-  MakesNone image (Err e) = IsOfFiles e ⊎ OpensNone image FoundsNone (Err e)
 
   -- the guard in the tables is opened, if there are any
   abbrev pub FindsGuard : Image → GuardStore (FileStore D g) → Type 0

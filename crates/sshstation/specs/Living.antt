@@ -35,12 +35,12 @@ abbrev pub IsLived : {D : Type 0} (g : Ghosts D) → Image → Said → Result (
 IsLived g image said left =
     AreClean g left.1.log left.1.db → IsWhole left.0 → RunsOn image said (outcomes g left.1.log left.1.db)
 
--- how the connection to a guard's files ended, and the files, if a guard was closed
+-- how the connection to a guard's files ended, and the files, if they were opened
 abbrev pub Left : Type 0 → Type 0
 Left D = Option (Result (Unit {0}) EndFault × Files D)
 
--- The words name a job, which was such a run if it closed the files of a guard. Or they name none, and no files were
--- closed.
+-- The words name a job, which was such a run if it opened the files of a guard. Or they name none, and no files were
+-- opened.
 abbrev pub AreLived : {D : Type 0} (g : Ghosts D) → Image → (words : List (List ℕ)) → (held holds : Option (List ℕ))
     → Left D → Type 0
 AreLived g image words held holds left =

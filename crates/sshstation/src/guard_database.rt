@@ -6,15 +6,18 @@ ghost use Rattle.sqlite_wal.specs.Files.{image_at};
 ghost use Rattle.restart.specs.Images.{HoldsNone};
 ghost use Rattle.guard_restart.specs.Images.{HoldsKept};
 ghost use Rattle.guard_sql.specs.Opening.{FoundsNone};
-ghost use Rattle.sshstation.specs.GuardFiles.{AreSettled, EndsGuard, FindsGuard, FindsNone, HaveGuard, HaveOne};
-ghost use Rattle.sshstation.specs.GuardFiles.{IsOfFiles, IsOfSearch, MakesGuard, MakesNone, OpensFiles, OpensNone};
-ghost use Rattle.sshstation.specs.GuardFiles.{SaysAndMisses, of_database, of_ending, of_opening};
+ghost use Rattle.sshstation.specs.GuardFiles.{AreSettled, EndsGuard, FindsGuard, HaveGuard, HaveOne, IsOfFiles};
+ghost use Rattle.sshstation.specs.GuardFiles.{IsOfSearch, MakesGuard, OpensFiles, OpensNone, SaysAndMisses};
+ghost use Rattle.sshstation.specs.GuardFiles.{of_database, of_ending, of_opening};
+ghost use Rattle.sshstation.specs.Unopened.{LeavesDatabase, MakesLeaving, MakesOrLeaves, OpensLeaving, OpensOrLeaves};
+ghost use Rattle.sshstation.specs.Unopened.{Settles, opening_of};
 
 use guard::Scope;
 use guard_restart::{end_path, open_at};
 use guard_sql::{GuardStore, OpeningFault};
 use restart::EndFault;
 use sqlite::{Connection, Error, ErrorCode, FileFrom, FileStore, Files, Start};
+use sqlite_disk::Disk;
 use station_jobs::{GuardFile, StationFault};
 use std::alloc::Global;
 use std::fs;
@@ -33,6 +36,9 @@ pub(crate) type FilesLeft<S> = (Result<(), EndFault>, Files<FileFrom<S>>);
 
 /// A guard in the files at a path.
 pub(crate) type FileGuard<S> = GuardStore<FileStore<FileFrom<S>>>;
+
+/// Why no guard was opened or made, and the files, which are left as they are.
+type Unopened<S> = (StationFault, Files<FileFrom<S>>);
 
 /// The fault of a database that wasn't opened or closed.
 pub(crate) fn database_fault(error: Error) -> StationFault
@@ -173,13 +179,22 @@ impl<'a, S: Start> GuardDatabase<'a, S> {
         }
     }
 
-    /// How the connection ended, and its files, if a guard was closed.
+    /// How the connection ended, and its files, if they were opened.
     pub(crate) fn into_left(self) -> Option<FilesLeft<S>>
         ensures { result ≡ self.entry.left }
     {
         let GuardDatabase { left, .. } = self;
         left
     }
+}
+
+/// Abandons a connection over which no guard was opened or made, and returns its files as they are.
+fn abandoned<D: Disk + Drop>(conn: Connection<FileStore<D>>) -> Files<D>
+    // Whatever a crash makes of the files from now on, they hold a database that it could leave before.
+    ensures leaves { LeavesDatabase conn result }
+    ensures settles { Settles D.Disk }
+{
+    conn.into_store().close()
 }
 
 /// Makes a guard over a new connection.
@@ -189,32 +204,34 @@ fn make_over<S: Start>(
     ca: [u8; 32],
     first: u64,
     last: u64,
-) -> Result<FileGuard<S>, StationFault>
+) -> Result<FileGuard<S>, Unopened<S>>
     requires files { OpensFiles (image_at S.Start) conn }
     requires lawful { IsTrue (are_serials first last) }
     ensures made { IfOk result (MakesGuard (image_at S.Start) (record { ca = ca; first = first; last = last })) }
-    ensures none { OnErr result (OpensNone (image_at S.Start) FoundsNone result) }
+    ensures none { OnErr result (OpensNone (image_at S.Start) FoundsNone (opening_of result)) }
+    ensures left { MakesOrLeaves (image_at S.Start) (record { ca = ca; first = first; last = last }) result }
 {
     match GuardStore::init(alloc, conn, &Scope { ca, first, last }) {
         Ok(guard) => Ok(guard),
         Err((fault, conn)) => {
-            drop(conn);
-            Err(unopened_fault(fault))
+            let files = abandoned(conn);
+            Err((unopened_fault(fault), files))
         }
     }
 }
 
 /// Opens the guard of a new connection.
-fn open_over<S: Start>(alloc: Global, conn: FileConnection<S>) -> Result<FileGuard<S>, StationFault>
+fn open_over<S: Start>(alloc: Global, conn: FileConnection<S>) -> Result<FileGuard<S>, Unopened<S>>
     requires { OpensFiles (image_at S.Start) conn }
     ensures found { IfOk result (FindsGuard (image_at S.Start)) }
-    ensures none { OnErr result (OpensNone (image_at S.Start) SaysAndMisses result) }
+    ensures none { OnErr result (OpensNone (image_at S.Start) SaysAndMisses (opening_of result)) }
+    ensures left { OpensOrLeaves (image_at S.Start) result }
 {
     match GuardStore::open(alloc, conn) {
         Ok(guard) => Ok(guard),
         Err((fault, conn)) => {
-            drop(conn);
-            Err(unopened_fault(fault))
+            let files = abandoned(conn);
+            Err((unopened_fault(fault), files))
         }
     }
 }
@@ -223,10 +240,10 @@ impl<S: Start> GuardFile for GuardDatabase<'_, S> {
     type Guard = FileGuard<S>;
 
     ghost makes = { λ db _ scope found after. IfOk found (MakesGuard (image_at S.Start) scope)
-        × (after.left ≡ db.left) × MakesNone (image_at S.Start) found };
+        × MakesLeaving (image_at S.Start) scope found db.left after.left };
 
-    ghost opens = { λ db _ found after. IfOk found (FindsGuard (image_at S.Start)) × (after.left ≡ db.left)
-        × FindsNone (image_at S.Start) found };
+    ghost opens = { λ db _ found after. IfOk found (FindsGuard (image_at S.Start))
+        × OpensLeaving (image_at S.Start) found db.left after.left };
 
     ghost closes = { λ _ guard done db. IsSomeAnd db.left (EndsGuard guard done) };
 
@@ -240,7 +257,6 @@ impl<S: Start> GuardFile for GuardDatabase<'_, S> {
 
     ghost has_one = { λ db guard s t. IsSomeAnd db.left (HaveOne guard s t) };
 
-    #[tactic(auto, using(crate::proofs::Kept::not_made))]
     fn make(
         &mut self,
         alloc: Global,
@@ -249,18 +265,30 @@ impl<S: Start> GuardFile for GuardDatabase<'_, S> {
     ) -> Result<FileGuard<S>, StationFault> {
         match made(self.rt, path) {
             Ok(()) => match self.connect(path) {
-                Ok(conn) => make_over(alloc, conn, scope.ca, scope.first, scope.last),
+                Ok(conn) => match make_over(alloc, conn, scope.ca, scope.first, scope.last) {
+                    Ok(guard) => Ok(guard),
+                    Err((fault, files)) => {
+                        self.left = Some((Ok(()), files));
+                        Err(fault)
+                    }
+                },
                 Err(fault) => Err(fault),
             },
             Err(fault) => Err(fault),
         }
     }
 
-    #[tactic(auto, using(crate::proofs::Kept::files_searched, crate::proofs::Kept::not_found))]
+    #[tactic(auto, using(crate::proofs::Kept::files_searched))]
     fn open(&mut self, alloc: Global, path: &str) -> Result<FileGuard<S>, StationFault> {
         match looked_for(self.rt, path) {
             Ok(()) => match self.connect(path) {
-                Ok(conn) => open_over(alloc, conn),
+                Ok(conn) => match open_over(alloc, conn) {
+                    Ok(guard) => Ok(guard),
+                    Err((fault, found)) => {
+                        self.left = Some((Ok(()), found));
+                        Err(fault)
+                    }
+                },
                 Err(fault) => Err(fault),
             },
             Err(fault) => Err(fault),

@@ -1,8 +1,10 @@
 use Rattle.std.proofs.Common.{Err, ap, ◌∙◌}
 use Rattle.std.specs.List.{list_any}
+use Rattle.sqlite_wal.specs.Files.{image_at}
 use Rattle.sqlite.specs.Schema.{Schema}
 use Rattle.guard_sql.specs.Look.{is_guard_table, none_is_guard}
 use Rattle.sshstation.proofs.Kept.{is_no_fault}
+use Rattle.sshstation.proofs.Unopened.{hold_again}
 use Rattle.sshstation.proofs.guard_database.open_over.Goals as goal
 
 pub open-requires-clause-outside : goal.open-requires-clause-outside
@@ -32,3 +34,8 @@ returns-in-Err-clause-none g c = record {
   honest = c.in-Err.ensures.honest_back;
   caused = λ clean. (c.in-Err.ensures.refused clean, c.in-Err.ensures.missed clean);
 }
+
+pub returns-in-Err-clause-left : goal.returns-in-Err-clause-left
+returns-in-Err-clause-left g c =
+    hold_again c.abandoned-files.ensures.settles (image_at g.S.Start) c.args.conn c.in-Err.conn c.requires
+    c.abandoned-files.result c.abandoned-files.ensures.leaves c.in-Err.ensures.crash_back
