@@ -395,7 +395,7 @@ def site(sites):
 FAULTS = {
     "server killed": (Site.kill_server, True, 0),
     "mount killed": (Site.kill_mount, True, 0),
-    "mount frozen": (Site.freeze_mount, True, 60),
+    "mount frozen": (Site.freeze_mount, True, 45),
     "machine frozen": (Site.freeze_machine, True, 60),
     "brick killed": (Site.kill_brick, False, 4),
     "disk full": (Site.fill_disk, False, 4),
