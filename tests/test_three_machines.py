@@ -67,7 +67,7 @@ class Site(boxes.Rack):
             os.mkdir(f"{self.disk}/{box.name}")
             box.disks.append(f"--bind={self.disk}/{box.name}:/srv/office-brick")
         else:
-            box.add_disk("/srv/office-brick", "2g")
+            box.add_disk("/srv/office-brick", "1200m")
 
     def hosts(self):
         """`office` has two addresses."""
