@@ -31,9 +31,10 @@ from running import TOP, left_out, until
 pytestmark = [pytest.mark.boxes, pytest.mark.root, pytest.mark.slow, pytest.mark.alone, pytest.mark.timeout(5400)]
 VOLUME = ["one", "two", "three"]
 MACHINES = [*VOLUME, "admin", "station"]
-# Sets of machines that have their faults side by side, since a round mostly waits. Linux gives root 128 instances of
-# inotify, of which a box takes seven: so at most two sets are made at once, with five boxes each. Later each has three.
-SITES, AT_ONCE = 2, 2
+# Sets of machines that have their faults side by side, since a round mostly waits. Each takes 6 GB of memory. Linux gives
+# root 128 instances of inotify, of which a box takes seven: so at most two sets are made at once, with five boxes each.
+# Later each has three.
+SITES, AT_ONCE = 1, 2
 DOOR = "unix:/run/office-door.sock"
 LOG = "/run/office-way/way.log"
 # A line of it: the moment of the answer, its status, the request, the doors that were asked, and the seconds of each.
