@@ -1,8 +1,7 @@
 #!/usr/bin/python3
 """Boxes: machines of Debian 12, each with a systemd of its own, for tests of units and of pages.
 
-    tests/boxes.py prepare    makes the folder that every box starts from, and that of boxes with GlusterFS, if they
-                              aren't there. This takes some minutes
+    tests/boxes.py prepare    makes the folder that every box starts from, unless it is there. This takes some minutes
     tests/boxes.py folder     prints where the first is: $OFFICE_BOXES, or /var/cache/sshoffice-boxes
 
 The boxes of a `Rack` have a network of their own. They run in namespaces that end with the process that made the rack,
@@ -26,9 +25,9 @@ RELEASE = "bookworm"
 PACKAGES = """systemd systemd-sysv dbus libpam-systemd iproute2 procps logrotate cron nginx-light openssh-client
 python3-requests
 openssh-server openssl curl sqlite3 python3 ca-certificates""".split()
-# The same for boxes of an office on a volume: their folder, and what is in it.
-OF_VOLUME = (FOLDER.with_name(f"{FOLDER.name}-volume"),
-             [*PACKAGES, "glusterfs-server", "glusterfs-client", "libnginx-mod-http-js"])
+# Boxes of an office on a volume start from a folder of their own, which the first test that needs it makes.
+OF_VOLUME = (FOLDER.with_name(f"{FOLDER.name}-ceph"),
+             [*PACKAGES, "ceph", "ceph-mds", "ceph-fuse", "libnginx-mod-http-js"])
 TOOLS = "debootstrap systemd-nspawn unshare nsenter ip mount".split()
 ENVIRONMENT = {"PATH": "/usr/local/sbin:/usr/local/bin:/usr/sbin:/usr/bin:/sbin:/bin", "HOME": "/root", "USER": "root",
                "LANG": "C.UTF-8", "TZ": "UTC"}
@@ -48,6 +47,20 @@ ip link add rack type bridge
 ip link set rack up
 echo ready
 exec cat >/dev/null
+"""
+# Copies a folder, and installs packages in the copy. It starts nothing.
+INSTALL = """cp -a "$1" "$2"
+root=$2
+shift 2
+mount -t proc proc "$root/proc"
+mount --bind /dev "$root/dev"
+mkdir -p "$root/var/cache/apt/archives/partial"
+cp /etc/resolv.conf "$root/etc/resolv.conf"
+printf '#!/bin/sh\\nexit 101\\n' >"$root/usr/sbin/policy-rc.d"
+chmod 755 "$root/usr/sbin/policy-rc.d"
+chroot "$root" apt-get -qq update
+chroot "$root" apt-get -qq install --no-install-recommends "$@"
+rm "$root/usr/sbin/policy-rc.d"
 """
 # Enters the folders of control groups that are named, and becomes systemd-nspawn.
 ENTER = 'for it in $GROUPS_OF_BOX; do echo 0 >"$it/cgroup.procs"; done; unset GROUPS_OF_BOX; exec "$@"'
@@ -95,15 +108,23 @@ def make_root(folder, packages):
     new, root = folder / "new", folder / "root"
     for it in (folder / "stamp", new, root):
         shutil.rmtree(it) if it.is_dir() else it.unlink(missing_ok=True)
-    # What it mounts ends with it, also if it is killed.
-    words = ["unshare", "--mount", "debootstrap", "--variant=minbase", f"--include={','.join(packages)}", RELEASE, new]
-    environment = ENVIRONMENT | {"DEBIAN_FRONTEND": "noninteractive"}
-    made = subprocess.run(words, capture_output=True, text=True, env=environment)
-    if made.returncode:
-        raise CannotBoot(f"debootstrap failed: {(made.stdout + made.stderr)[-800:]}")
+    further = [it for it in packages if it not in PACKAGES]
+    if further:
+        # debootstrap can't find the order of all of these.
+        make("sh", "-ec", INSTALL, "sh", prepare(), new, *further)
+    else:
+        make("debootstrap", "--variant=minbase", f"--include={','.join(packages)}", RELEASE, new)
     shutil.rmtree(new / "var/cache/apt/archives", ignore_errors=True)
     new.rename(root)
     (folder / "stamp").write_text(stamp(packages))
+
+
+def make(*words):
+    """Runs a command that makes a folder. What it mounts ends with it, also if it is killed."""
+    environment = ENVIRONMENT | {"DEBIAN_FRONTEND": "noninteractive"}
+    made = subprocess.run(["unshare", "--mount", *words], capture_output=True, text=True, env=environment)
+    if made.returncode:
+        raise CannotBoot(f"{words[0]} failed: {(made.stdout + made.stderr)[-800:]}")
 
 
 # ---- control groups
@@ -422,7 +443,7 @@ def main():
     match sys.argv[1:]:
         case ["prepare"]:
             try:
-                print(prepare(), prepare(*OF_VOLUME))
+                print(prepare())
             except CannotBoot as reason:
                 print(f"boxes: {reason}", file=sys.stderr)
                 return 1

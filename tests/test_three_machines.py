@@ -29,10 +29,12 @@ from asking import department
 from running import TOP, left_out, until
 
 pytestmark = [pytest.mark.boxes, pytest.mark.root, pytest.mark.slow, pytest.mark.alone, pytest.mark.timeout(5400)]
-MACHINES = ["one", "two", "three", "admin", "station"]
-# Sets of machines that have their faults side by side, since a round mostly waits. Linux gives root 128 instances of
-# inotify, of which a box takes seven: so at most two sets are made at once, with five boxes each. Later each has three.
-SITES, AT_ONCE = 3, 2
+VOLUME = ["one", "two", "three"]
+MACHINES = [*VOLUME, "admin", "station"]
+# Sets of machines that have their faults side by side, since a round mostly waits. Each takes 6 GB of memory. Linux gives
+# root 128 instances of inotify, of which a box takes seven: so at most two sets are made at once, with five boxes each.
+# Later each has three.
+SITES, AT_ONCE = 1, 2
 DOOR = "unix:/run/office-door.sock"
 LOG = "/run/office-way/way.log"
 # A line of it: the moment of the answer, its status, the request, the doors that were asked, and the seconds of each.
@@ -59,14 +61,15 @@ class Site(boxes.Rack):
         assert not self.enter("ip", "address", "add", "10.80.0.1/24", "dev", "rack").wait()
 
     def furnish(self, box):
-        if box.name not in ("one", "two", "three"):
+        if box.name not in VOLUME:
             return
         box.disks.append("--bind=/dev/fuse")
         if self.disk:
             os.mkdir(f"{self.disk}/{box.name}")
             box.disks.append(f"--bind={self.disk}/{box.name}:/srv/office-brick")
         else:
-            box.add_disk("/srv/office-brick", "256m")
+            box.add_disk("/srv/office-brick", "1200m")
+
     def hosts(self):
         """`office` has two addresses."""
         pair = [self.boxes[it].address for it in ("one", "two") if it in self.boxes]
@@ -163,7 +166,7 @@ class Site(boxes.Rack):
     # ---- faults
 
     def mount_of(self, box):
-        return box.says("pgrep -f -- '--process-name fuse' | head -n 1")
+        return box.says("pgrep -x ceph-fuse | head -n 1")
 
     def kill_server(self, box):
         box.run("pkill -KILL -u office -x sshoffice")
@@ -175,7 +178,7 @@ class Site(boxes.Rack):
         pid = self.mount_of(box)
         box.run(f"kill -STOP {pid}")
         # It may have been ended meanwhile, and another one begun.
-        return lambda: box.run("pkill -CONT -f -- '--process-name fuse' || true")
+        return lambda: box.run("pkill -CONT -x ceph-fuse || true")
 
     def freeze_machine(self, box):
         """Has a machine stand still, as a virtual one does that its host doesn't let run: its kernel doesn't answer."""
@@ -192,12 +195,17 @@ class Site(boxes.Rack):
                 os.kill(pid, number)
 
     def kill_brick(self, box):
-        box.run("pkill -KILL -x glusterfsd")
-        return lambda: box.run("gluster --mode=script volume start office force")
+        box.run("systemctl kill -s KILL ceph-osd@*; systemctl stop ceph-osd@*")
+        return lambda: box.run(f"systemctl start ceph-osd@{VOLUME.index(box.name)}")
 
     def fill_disk(self, box):
         box.run("dd if=/dev/zero of=/srv/office-brick/full bs=1M 2>/dev/null || true")
         return lambda: box.run("rm -f /srv/office-brick/full")
+
+    def kill_metadata_server(self, box):
+        """Kills the metadata server that is active, on whichever machine it is."""
+        said = self.boxes["three"].says("ceph mds stat 2>/dev/null")
+        self.boxes[re.search(r"=(\w+)=up:active", said)[1]].run("pkill -KILL -x ceph-mds")
 
     def cut_link(self, box):
         """Takes the box off the bridge, as a pulled cable does."""
@@ -213,13 +221,28 @@ class Site(boxes.Rack):
 
     def is_healed(self):
         """Whether all copies are there, and whole."""
-        command = "gluster --mode=script volume heal office"
-        text = self.boxes["three"].run(f"{command} info", check=False).stdout
-        self.ill = text
-        if 3 == text.count("Status: Connected") and ["0"] * 3 == re.findall(r"^Number of entries: (\d+)$", text, re.M):
-            return True
-        self.boxes["three"].run(command, check=False)
-        return False
+        self.ill = self.boxes["three"].run("timeout 30 ceph -s -f json 2>/dev/null", check=False).stdout
+        try:
+            found = json.loads(self.ill)
+        except ValueError:
+            return False
+        states = [it["state_name"] for it in found["pgmap"]["pgs_by_state"]]
+        return 3 == found["osdmap"]["num_up_osds"] and all(it.startswith("active+clean") for it in states)
+
+    def compare_copies(self):
+        """Has the volume compare the bytes of all its copies."""
+        three = self.boxes["three"]
+
+        def looked():
+            found = json.loads(three.run("ceph pg ls -f json 2>/dev/null").stdout)["pg_stats"]
+            return {it["pgid"]: (it["last_deep_scrub_stamp"], it["state"]) for it in found}
+
+        before = looked()
+        for it in before:
+            three.run(f"ceph pg deep-scrub {it}")
+        until(lambda: all(stamp != before[it][0] for it, (stamp, _) in looked().items()), seconds=300, pause=1)
+        states = {state for _, state in looked().values()}
+        assert not any("inconsistent" in it for it in states), f"the copies differ: {states}"
 
     def is_well(self):
         """Whether one office serves, and each machine has its mount."""
@@ -227,9 +250,24 @@ class Site(boxes.Rack):
         if not self.serving() or len(self.listening()) > 1:
             return False
         with ThreadPoolExecutor(2) as pool:
-            said = [*pool.map(lambda it: it.run("office-volume check", check=False), self.pair())]
+            said = [*pool.map(lambda it: it.run("office-volume check", check=False, timeout=120), self.pair())]
         self.ill = "\n".join(it.stdout for it in said)
         return not any(it.returncode for it in said)
+
+    def keep_evidence(self):
+        """Writes down what the machines have after a round that failed, and returns where."""
+        place = self.room / "evidence"
+        place.mkdir(exist_ok=True)
+        (place / "seen.json").write_text(json.dumps([self.reigns, self.backs]))
+        for name in VOLUME:
+            box, kept = self.boxes[name], place / name
+            shutil.copytree(box.files / "var/log/ceph", kept / "log", dirs_exist_ok=True)
+            if box.init:
+                said = box.run("journalctl -o short-precise --no-pager; timeout 20 ceph -s", check=False, timeout=120)
+                (kept / "journal").write_text(said.stdout)
+                box.run("timeout -s KILL 20 cp /var/lib/office/office.db* /root", check=False)
+                shutil.copytree(box.files / "root", kept / "root", dirs_exist_ok=True)
+        return place
 
     def copied(self):
         """Copies the office's file and its log, as both are at one moment, and returns where they are."""
@@ -358,16 +396,17 @@ def site(sites):
 FAULTS = {
     "server killed": (Site.kill_server, True, 0),
     "mount killed": (Site.kill_mount, True, 0),
-    "mount frozen": (Site.freeze_mount, True, 60),
+    "mount frozen": (Site.freeze_mount, True, 45),
     "machine frozen": (Site.freeze_machine, True, 60),
     "brick killed": (Site.kill_brick, False, 4),
     "disk full": (Site.fill_disk, False, 4),
+    "metadata server killed": (Site.kill_metadata_server, False, 0),
     "link cut": (Site.cut_link, True, 0),
     "rebooted": (Site.reboot, True, 0),
 }
 # How many of sixty rounds: those that take longer come less often. "Link cut, brick killed" leaves one copy alone.
-WEIGHTS = {"server killed": 15, "mount killed": 12, "mount frozen": 1, "machine frozen": 2, "brick killed": 10,
-           "disk full": 6, "link cut": 5, "rebooted": 6, "link cut, brick killed": 3}
+WEIGHTS = {"server killed": 12, "mount killed": 10, "mount frozen": 3, "machine frozen": 3, "brick killed": 8,
+           "disk full": 5, "metadata server killed": 5, "link cut": 6, "rebooted": 5, "link cut, brick killed": 3}
 # The longest takeover, in seconds, after a fault of the machine that serves.
 LONGEST = {"server killed": 10, "mount killed": 10, "mount frozen": 40, "machine frozen": 40, "link cut": 40,
            "rebooted": 40}
@@ -441,7 +480,7 @@ def until_well(site, is_so):
     with contextlib.suppress(AssertionError):
         return until(is_so, seconds=180, pause=0.5)
     commands = ("journalctl --no-pager -u 'office*' | tail -40; "
-                "ps aux | grep -E 'gluster|sshoffice|waiting' | cut -c1-150; tail -5 /var/log/glusterfs/office*.log")
+                "ps aux | grep -E 'ceph|sshoffice|waiting' | cut -c1-150; timeout 10 ceph -s")
     said = [it.run(commands, check=False).stdout for it in site.pair() if it.init]
     raise AssertionError("\n\n".join([site.ill, *said]))
 
@@ -492,12 +531,14 @@ class Rounds:
                 if took is not None:
                     self.times[name].append(took)
             calling.tell("rest")
+            until_well(site, site.is_healed)
+            site.compare_copies()
             found = wrong(site, calling, calling.look(300))
             assert not found, f"{found}; {site.reigns[-6:]}"
             self.answers.append(len(calling.since(0)))
         except Exception as fault:
             self.failed.set()
-            raise AssertionError(f"{name}: {fault!r}") from fault
+            raise AssertionError(f"{name}: {fault!r}\nwhat the machines have: {site.keep_evidence()}") from fault
         finally:
             calling.end()
 
@@ -517,61 +558,24 @@ def test_faults_at_random(sites, request):
     print(f"{sum(done.answers)} answers in {rounds} rounds")
 
 
-@pytest.mark.parametrize("setting, said", [
-    ("cluster.quorum-type none", "cluster.quorum-type is none, and has to be auto"),
-    ("network.ping-timeout 42", "network.ping-timeout is 42, and has to be 5"),
-    ("server.tcp-user-timeout 42", "server.tcp-user-timeout is 42, and has to be 5"),
+@pytest.mark.parametrize("wrong, said, right", [
+    ("ceph osd pool set office_data min_size 1", "min_size of office_data isn't 2",
+     "ceph osd pool set office_data min_size 2"),
+    ("sed -i 's/^client_reconnect_stale = .*/client_reconnect_stale = true/' /etc/ceph/ceph.conf",
+     "client_reconnect_stale is true in /etc/ceph/ceph.conf, and has to be false",
+     "sed -i 's/^client_reconnect_stale = .*/client_reconnect_stale = false/' /etc/ceph/ceph.conf"),
+    ("sed -i '/^mds_session_blocklist_on_evict/d' /etc/ceph/ceph.conf",
+     "mds_session_blocklist_on_evict is not set in /etc/ceph/ceph.conf, and has to be true",
+     "sed -i '/^.global/a mds_session_blocklist_on_evict = true' /etc/ceph/ceph.conf"),
 ])
-def test_each_setting_is_looked_at(site, setting, said):
-    one = site.boxes["one"]
-    assert 0 == one.run("office-volume check").returncode
-    name, value = setting.split()
-    before = one.says(f"gluster --mode=script volume get office {name}").split()[-1]
-    one.run(f"gluster --mode=script volume set office {name} {value}")
-    found = one.run("office-volume check", check=False)
+def test_each_setting_is_looked_at(site, wrong, said, right):
+    """An office whose volume lacks a setting is ended, and none starts, until the setting is back."""
+    until_well(site, site.is_well)
+    box = site.serving()
+    box.run(wrong)
+    found = box.run("office-volume check", check=False)
     assert 1 == found.returncode and said in found.stdout
-    one.run(f"gluster --mode=script volume set office {name} {before}")
-    assert 0 == one.run("office-volume check").returncode
-
-
-def test_the_volume_s_default_is_refused_and_would_lose_certificates(site):
-    one, two = site.pair()
-    one.run("gluster --mode=script volume set office client.strict-locks off")
-    said = one.run("office-volume check", check=False)
-    assert 1 == said.returncode and "client.strict-locks is off, and has to be on" in said.stdout
-    # The one that serves is ended, and none starts.
-    until(lambda: not site.listening(), seconds=90)
-    assert one.run("systemctl restart office", check=False).returncode
-    # Without that look the offices start. If nobody ends the one that was cut off, two of them answer over one file.
-    for box in (one, two):
-        box.run("sed -i '/^client.strict-locks on$/d' /usr/local/bin/office-volume; systemctl stop office-watch.timer; "
-                "sed -i 's/ office-watch.timer$//' /etc/systemd/system/office.service.d/volume.conf; "
-                "systemctl daemon-reload; systemctl restart office-volume office || true")
-    calling = Calling(site)
-    try:
-        until(lambda: lost_by_a_cut(site, calling), seconds=400)
-    finally:
-        calling.end()
-
-
-def lost_by_a_cut(site, calling):
-    """Cuts the machine that serves off until the other has taken over, and returns what was lost. As nobody ends it, it
-    goes on when its link is back. On a busy machine the two may answer at once before that."""
-    until(lambda: site.listening(), seconds=120)
-    until(lambda: len(calling.since(0)) > 20, seconds=60)
-    moment = time.time()
-    back = site.cut_link(site.serving() or site.boxes["one"])
-    with contextlib.suppress(AssertionError):
-        takeover(site, moment)
-    time.sleep(3)
-    back()
-    time.sleep(15)
-    for it in site.pair():
-        it.run("systemctl stop office", check=False)
-    try:
-        return wrong(site, calling, [], until(lambda: site.copied_from(site.boxes["one"]), seconds=60))
-    except sqlite3.DatabaseError as fault:
-        return fault
-    finally:
-        for it in site.pair():
-            it.run("systemctl start office", check=False)
+    until(lambda: box not in site.listening(), seconds=150)
+    assert said in box.run("journalctl -u office -u office-volume -u office-watch --no-pager").stdout
+    box.run(right)
+    until_well(site, site.is_well)
