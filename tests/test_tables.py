@@ -281,6 +281,25 @@ def test_a_department_of_no_kind_is_a_fault_of_what_reads_it(filled):
     assert ["issued 10"] == said(filled, post("ana", "e", issue("db/e", after=3000, before=4000)))
 
 
+DAMAGES = {
+    "no CA": "DELETE FROM ca",
+    "a next serial that was issued": "UPDATE office SET next = 7",
+    "runs that touch": "INSERT INTO run VALUES (7, 7), (8, 8)",
+    "a department of no kind": "UPDATE department SET kind = 3 WHERE name = 'web'",
+    "no certificate": "DELETE FROM cert",
+}
+
+
+@pytest.mark.parametrize("damage", DAMAGES)
+def test_damaged_tables_stay_as_they_are_unless_a_message_is_accepted(filled, damage):
+    """A repeat, a refusal and a request ID that was used change no row, whatever the rows mean."""
+    sql(filled.db, DAMAGES[damage])
+    before = sql(filled.db, ".dump")
+    by_another = ISSUES[0].replace(b"callers/ana", b"callers/bob")
+    given = said(filled, ISSUES[0], by_another, post("ana", "a", revoke_serial(7)), get("/v1/table"))
+    assert before == sql(filled.db, ".dump"), given
+
+
 def test_without_its_row_it_is_no_office(filled):
     sql(filled.db, "DELETE FROM office")
     assert "NotAnOffice" == fault(filled, "table", "--db", filled.db)
