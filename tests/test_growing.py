@@ -85,14 +85,16 @@ def test_a_snapshot_of_a_frozen_file_system_has_each_answer_before_it(program, m
     folder, image, copy = disk
     office = make_office(folder / "office.db")
     with office.serving() as served, Issuing(served) as issuing:
-        for _ in range(3):
+        for number in range(3):
             time.sleep(0.3)
             if run(["fsfreeze", "-f", folder]).returncode:
                 left_out("no file system may be frozen here")
             answered = issuing.serials[:]
-            run(["cp", "--sparse=always", image, room / "copy.img"], check=True)
+            # A file of its own: a loop device that still has the last one would give blocks of both.
+            copied = room / f"copy-{number}.img"
+            run(["cp", "--sparse=always", image, copied], check=True)
             run(["fsfreeze", "-u", folder], check=True)
-            run(["mount", "-o", "loop", room / "copy.img", copy], check=True)
+            run(["mount", "-o", "loop", copied, copy], check=True)
             assert_is_whole(program, copy / "office.db", answered)
             run(["umount", copy], check=True)
 
