@@ -102,6 +102,14 @@ def test_a_front_that_is_being_restarted_is_asked_again(signer, room):
     assert LIST == (room / "list").read_bytes()
 
 
+def test_a_front_does_not_say_how_long_it_is_waited_for(either, web, room):
+    """By Retry-After it would hold the lock for years, and nothing would say that no list comes."""
+    (room / "list").write_bytes(LIST)
+    busy = response(b"", "503 Busy\r\nretry-after: 1000000000")
+    assert (1, f"no list came from {web.url}; list is as it was") == either.raw(busy, timeout=60)
+    assert LIST == (room / "list").read_bytes()
+
+
 def test_its_time_is_that_of_the_last_fetch(either, room):
     for _ in range(2):
         (room / "list").write_bytes(LIST)
