@@ -144,6 +144,20 @@ def test_any_list_takes_the_place_of_one_that_cannot_be_read(either, room):
     assert (0, "") == either(krl(0))
 
 
+@pytest.mark.parametrize("end", ["kill -9 $$", "echo 'Invalid KRL file list: memory allocation failed' >&2; exit 255"])
+def test_a_list_that_is_not_read_for_lack_of_memory_stays(either, room, end):
+    """So that nobody gets a revocation forgotten by making memory scarce."""
+    (room / "list").write_bytes(LIST)
+    (room / "bin").mkdir()
+    (room / "bin/ssh-keygen").write_text(f'#!/bin/sh\n[ "$*" != "-Q -l -f list" ] || {{ {end}; }}\n'
+                                         f'exec {shutil.which("ssh-keygen")} "$@"\n')
+    (room / "bin/ssh-keygen").chmod(0o755)
+    env = os.environ | {"PATH": f"{room / 'bin'}:{os.environ['PATH']}"}
+    said = "ssh-keygen was killed, or has too little memory, and has read no list; list is as it was"
+    assert (1, said) == either(krl(0), env=env)
+    assert LIST == (room / "list").read_bytes()
+
+
 def test_no_two_lists_of_one_version(either, room):
     (room / "list").write_bytes(LIST)
     for other in (krl(3, [1, 2, 9, 11]), krl(3, [1, 2, 9], date=1001), krl(3)):
