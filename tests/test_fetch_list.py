@@ -374,6 +374,20 @@ def test_a_list_that_stays_the_same_is_seen_within_the_hour(fetch, web, room):
     assert 1 == metrics()["office_list_fresh"]
 
 
+def test_a_statement_of_the_future_in_place_is_not_fresh(fetch, room):
+    """As after a wrong clock: older ones are refused for a day, and meanwhile nothing shows whether lists are kept
+    away."""
+    ahead = statement(LIST, moment=int(time.time()) + 86400)
+    (room / "list").write_bytes(LIST)
+    (room / "list.statement").write_bytes(ahead + fetch.signer.sign(ahead))
+    words = ["fetch-list", "--signers", fetch.signer.allowed, "--metrics", "metrics", "http://127.0.0.1:1", "list"]
+    status, _, said = script(*words)
+    assert (3, 0) == (status, metrics()["office_list_fresh"])
+    assert re.fullmatch(r"fetch-list: list is stale: its statement is 8\d{4} seconds ahead of this clock", said[-1])
+    assert (0, "") == fetch(fetch.signer.published(NEWER), "list", "--forced", "--metrics", "metrics")
+    assert 1 == metrics()["office_list_fresh"]
+
+
 def test_a_front_that_gives_nothing_is_seen_within_the_hour(fetch, web, room):
     signer, now = fetch.signer, int(time.time())
     assert (0, "") == fetch(signer.published(LIST, moment=now), "list", "--metrics", "metrics")
