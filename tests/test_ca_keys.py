@@ -126,6 +126,14 @@ def test_a_key_is_taken_out_also_if_the_front_is_away(fetch, names, room):
     assert text(B) == of()
 
 
+def test_a_front_does_not_say_how_long_it_is_waited_for(fetch, room):
+    """By Retry-After it would hold the lock for years."""
+    started = time.monotonic()
+    status, errors = fetch(response(b"", "503 Busy\r\nretry-after: 100"), A)
+    assert status != 0 and any("no keys came from" in it for it in errors)
+    assert time.monotonic() - started < 60
+
+
 def test_a_front_that_is_being_restarted_is_asked_again(fetch, room):
     port = free_port()
     with concurrent.futures.ThreadPoolExecutor() as pool:

@@ -102,6 +102,14 @@ def test_a_front_that_is_being_restarted_is_asked_again(signer, room):
     assert LIST == (room / "list").read_bytes()
 
 
+def test_a_front_does_not_say_how_long_it_is_waited_for(either, web, room):
+    """By Retry-After it would hold the lock for years, and nothing would say that no list comes."""
+    (room / "list").write_bytes(LIST)
+    busy = response(b"", "503 Busy\r\nretry-after: 1000000000")
+    assert (1, f"no list came from {web.url}; list is as it was") == either.raw(busy, timeout=60)
+    assert LIST == (room / "list").read_bytes()
+
+
 def test_its_time_is_that_of_the_last_fetch(either, room):
     for _ in range(2):
         (room / "list").write_bytes(LIST)
@@ -134,6 +142,20 @@ def test_a_lower_version_is_not_taken(either, room, old):
 def test_any_list_takes_the_place_of_one_that_cannot_be_read(either, room):
     (room / "list").write_bytes(LIST[:50])
     assert (0, "") == either(krl(0))
+
+
+@pytest.mark.parametrize("end", ["kill -9 $$", "echo 'Invalid KRL file list: memory allocation failed' >&2; exit 255"])
+def test_a_list_that_is_not_read_for_lack_of_memory_stays(either, room, end):
+    """So that nobody gets a revocation forgotten by making memory scarce."""
+    (room / "list").write_bytes(LIST)
+    (room / "bin").mkdir()
+    (room / "bin/ssh-keygen").write_text(f'#!/bin/sh\n[ "$*" != "-Q -l -f list" ] || {{ {end}; }}\n'
+                                         f'exec {shutil.which("ssh-keygen")} "$@"\n')
+    (room / "bin/ssh-keygen").chmod(0o755)
+    env = os.environ | {"PATH": f"{room / 'bin'}:{os.environ['PATH']}"}
+    said = "ssh-keygen was killed, or has too little memory, and has read no list; list is as it was"
+    assert (1, said) == either(krl(0), env=env)
+    assert LIST == (room / "list").read_bytes()
 
 
 def test_no_two_lists_of_one_version(either, room):
@@ -349,6 +371,20 @@ def test_a_list_that_stays_the_same_is_seen_within_the_hour(fetch, web, room):
     assert 0o644 == os.stat("metrics").st_mode & 0o777
     # An older statement isn't taken again, and a new one ends it.
     assert (0, "") == fetch(signer.published(LIST), "list", "--metrics", "metrics")
+    assert 1 == metrics()["office_list_fresh"]
+
+
+def test_a_statement_of_the_future_in_place_is_not_fresh(fetch, room):
+    """As after a wrong clock: older ones are refused for a day, and meanwhile nothing shows whether lists are kept
+    away."""
+    ahead = statement(LIST, moment=int(time.time()) + 86400)
+    (room / "list").write_bytes(LIST)
+    (room / "list.statement").write_bytes(ahead + fetch.signer.sign(ahead))
+    words = ["fetch-list", "--signers", fetch.signer.allowed, "--metrics", "metrics", "http://127.0.0.1:1", "list"]
+    status, _, said = script(*words)
+    assert (3, 0) == (status, metrics()["office_list_fresh"])
+    assert re.fullmatch(r"fetch-list: list is stale: its statement is 8\d{4} seconds ahead of this clock", said[-1])
+    assert (0, "") == fetch(fetch.signer.published(NEWER), "list", "--forced", "--metrics", "metrics")
     assert 1 == metrics()["office_list_fresh"]
 
 
