@@ -220,11 +220,13 @@ FALSE_LISTS = [
     ("an older one", lambda site: site.krl(2, [1, 2]), "OlderVersion"),
     ("one more, and the same version", lambda site: site.krl(3, [1, 2, 9, 11]), "OtherBytes"),
     ("the highest version", lambda site: site.krl(HIGHEST, [1, 2, 9]), "VersionJumps"),
-    ("a higher version than any", lambda site: site.krl(2 ** 64 - 1, [1, 2, 9]), "VersionJumps"),
+    ("a higher version than any", lambda site: site.krl(2 ** 64 - 1, [1, 2, 9]), "BadVersion"),
     ("one more, and two versions", lambda site: site.krl(5, [1, 2, 9, 11]), "VersionJumps"),
     ("half a list", lambda site: site.old[:60], "NotAList"),
     ("another page", lambda site: b"<html>sign in to the network</html>\n", "NotAList"),
     ("nothing", lambda site: b"", "NotAList"),
+    # The guard would approve these, but no server can read them.
+    ("serial 0", lambda site: site.krl(4, [0, 1, 2, 9]), "NotAList"),
     ("sections without an end", lambda site: site.krl(4, [1, 2, 9]) + b"\1\xff\xff\xff\xff\0\0\0\0", "NotAList"),
 ]
 
