@@ -292,9 +292,10 @@ SERIAL, PORT = number(1, LAST_SERIAL, "a serial"), number(1, 65535, "a port")
 def list_settings(steps, office, authority, is_unsigned):
     """What the units that fetch the list and the CAs' keys read."""
     check_line("office", office)
-    old = [it for it in text_of(ETC / "server.env").splitlines() if not it.startswith("OFFICE=")]
+    unsigned = f"LIST_FROM=--unsigned --ca {ETC}/list-cas"
+    old = [it for it in text_of(ETC / "server.env").splitlines() if not it.startswith("OFFICE=") and it != unsigned]
     if is_unsigned and not any(it.startswith("LIST_FROM=") for it in old):
-        old.append(f"LIST_FROM=--unsigned --ca {ETC}/list-cas")
+        old.append(unsigned)
     steps.file(ETC / "server.env", "".join(f"{it}\n" for it in [f"OFFICE={office}", *old]))
     steps.file(ETC / "ca.crt", authority)
 

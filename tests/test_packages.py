@@ -521,6 +521,23 @@ def run_as_root(*words):
     return run(["/usr/bin/python3", "-B", "-c", AS_ROOT, *words])
 
 
+def test_the_last_set_up_says_whose_list_counts(room, monkeypatch):
+    """One without `--unsigned` takes back what one with it wrote, but no line of an administrator."""
+    common = load("setting_up.py")
+    monkeypatch.setattr(common, "ETC", room)
+
+    def settings(is_unsigned):
+        steps = common.Steps(None, "vethlumi-server-setup")
+        common.list_settings(steps, "https://a:8443", "the authority\n", is_unsigned)
+        for _, do in steps.steps:
+            do()
+        return (room / "server.env").read_text()
+    office, unsigned = "OFFICE=https://a:8443\n", f"LIST_FROM=--unsigned --ca {room}/list-cas\n"
+    assert [office, office + unsigned, office + unsigned, office] == [settings(it) for it in (False, True, True, False)]
+    (room / "server.env").write_text("LIST_FROM=--unsigned --ca mine\n")
+    assert 2 * [office + "LIST_FROM=--unsigned --ca mine\n"] == [settings(it) for it in (False, True)]
+
+
 @pytest.mark.parametrize("host, name", [("db.example.org", "db-example-org"), ("DB", "db"), ("a_b", None),
                                         ("db.some-longer-name.example.org", "db-some-longer-name-example-org"),
                                         ("db.a-still-longer-name.example.org", None), ("192.0.2.7", "192-0-2-7")])
