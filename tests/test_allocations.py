@@ -2,7 +2,8 @@
 
 sshoffice and trial apply exchanges: an issue, its delivery, its repeat with another nonce, its revocation, the list, and
 another issue. With an allocation refused, either it says NoMemory and has printed nothing, or some exchanges are given
-a fault and the others are given what they are given if those are left out, or all is as without a refusal.
+a fault and the others are given what they are given if those are left out, or all is as without a refusal. sshoffice
+opens the file of an office too: with an allocation refused it says NoMemory, or all is as without a refusal.
 
 krl_tool makes a list of a specification, adds serials to a set, and gathers serials into their runs. With an allocation
 refused, either it fails and has printed nothing, or all is as without a refusal. The gathering itself takes memory too:
@@ -79,6 +80,19 @@ def test_exchanges_are_applied(words, program, trial, refuse, room):
                 and answers(printed) == [it for it in given if it is not None])
 
     assert 100 < len(in_turn(attempt, is_lawful))
+
+
+@pytest.mark.slow
+def test_the_file_of_an_office_is_opened(program, refuse, room):
+    """Whatever the refusal keeps from being done, from the opening of the file to its closing, it is told as that."""
+    office = Office(program, ca=CA)
+
+    def is_lawful(whole, status, printed, errors):
+        lacks = 1, b"sshoffice: NoMemory\n"
+        return (printed, (status, errors)) in ((whole, (0, b"")), (b"", lacks), (whole, lacks))
+
+    ends = in_turn(lambda number: refuse([program, "table", "--db", office.db], number), is_lawful)
+    assert 10 < sum(status for status, _, _ in ends)
 
 
 def fails_or_is_whole(whole, status, printed, errors):
