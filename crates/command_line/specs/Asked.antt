@@ -6,7 +6,6 @@ use Rattle.std.specs.Str.Parse.{digits_value, without_leading_plus}
 use Rattle.clap.specs.ValueTests.{is_unsigned_in}
 use Rattle.clap.specs.Words.{Row, Text, first_of, subcommand_of}
 use Rattle.command_line.specs.Command.{most, office_command}
-use Rattle.command_line.specs.declared.command.TheConstants.{MOST_CONNECTIONS}
 use Rattle.command_line.specs.declared.job.Job.{Job}
 use Rattle.command_line.specs.declared.job.Job.TheVariants as job
 
@@ -67,7 +66,7 @@ abbrev pub serve_in : List Row → Option Asked
 serve_in rows = do
   db ← first_of (codes "db") rows
   port ← number_at rows (codes "port") 0 65535
-  connections ← number_at rows (codes "connections") 1 MOST_CONNECTIONS
+  connections ← number_at rows (codes "connections") 1 1000000
   nonces ← first_of (codes "nonces") rows
   Some (serve db port connections nonces)
 

@@ -6,7 +6,6 @@ use Rattle.clap.specs.declared.builder.command.Command.{Command}
 use Rattle.clap.specs.declared.builder.command.Command.TheViews.{out-Command}
 use Rattle.clap.specs.declared.builder.action.ArgAction.TheVariants.{Append}
 use Rattle.clap.specs.declared.builder.value_parser.ValueParser.TheVariants.{Unsigned}
-use Rattle.command_line.specs.declared.command.TheConstants.{MOST_CONNECTIONS}
 
 -- the largest 64-bit number
 abbrev pub most : ℕ
@@ -64,7 +63,7 @@ apply_command = subcommand (codes "apply") (optional (codes "db") ∷ word (code
 abbrev pub serve_command : Shape
 serve_command = subcommand (codes "serve") (
     required (codes "db") ∷ number (codes "port") 0 65535
-    ∷ number (codes "connections") 1 MOST_CONNECTIONS ∷ required (codes "nonces") ∷ [])
+    ∷ number (codes "connections") 1 1000000 ∷ required (codes "nonces") ∷ [])
 
 -- a subcommand for one database, for example `krl --db PATH`
 abbrev pub on_database : Text → Shape

@@ -1,7 +1,6 @@
 //! The source of connections.
 
 ghost use Rattle.std.specs.Prelude.{◌≡◌, ◌≤◌, Option, None, IfOk, IfErr};
-ghost use Rattle.values.specs.declared.limits.TheConstants.{LATEST_MOMENT};
 ghost use Rattle.server.specs.Books.{Book, WhereTold, IsAccepted, IsEnded};
 ghost use Rattle.server.specs.Connections.{IsOfAccepting, TellsFault};
 
@@ -41,7 +40,7 @@ pub trait Listener {
     fn accept(&mut self) -> Result<Connection<Self::Reader, Self::Writer>, Fault>
         ensures ok { IfOk result (λ c. WhereTold (IsAccepted (Self.Reader.remaining c.reader)
             (Self.Writer.taken c.writer) c.moment) (book self.old) (book self.new)) }
-        ensures lawful { IfOk result (λ c. c.moment ≤ LATEST_MOMENT) }
+        ensures lawful { IfOk result (λ c. c.moment ≤ 253402300799) }
         ensures fresh { IfOk result (λ c. (Self.Reader.failed c.reader ≡ 0) × (Self.Writer.failed c.writer ≡ 0)) }
         ensures err { IfErr result (λ fault. WhereTold (TellsFault fault) (book self.old) (book self.new)) }
         ensures only { IfErr result IsOfAccepting }

@@ -1,7 +1,6 @@
 //! The system's listener.
 
 ghost use Rattle.std.specs.Prelude.{◌≤◌, IfSome};
-ghost use Rattle.values.specs.declared.limits.TheConstants.{LATEST_MOMENT};
 
 use crate::closing::end_response;
 use crate::connection_fault::Fault;
@@ -31,7 +30,7 @@ impl<'a, C: Clock> Loopback<'a, C> {
 
 /// The clock's time, in seconds since 1970-01-01 00:00:00 UTC, or `None` if the clock fails or is past the latest time.
 fn moment_of<C: Clock>(clock: &C) -> Option<u64>
-    ensures { IfSome result (λ moment. moment ≤ LATEST_MOMENT) }
+    ensures { IfSome result (λ moment. moment ≤ 253402300799) }
 {
     let Ok(now) = SystemTime::now(clock) else {
         return None;

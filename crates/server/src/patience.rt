@@ -1,6 +1,6 @@
 //! The time limits of a connection.
 
-ghost use Rattle.std.specs.Prelude.{◌≡◌, ◌*◌};
+ghost use Rattle.std.specs.Prelude.{◌≡◌};
 ghost use Rattle.std.specs.Duration.{as_nanos};
 
 use std::time::Duration;
@@ -23,8 +23,8 @@ pub(crate) struct Patience {
 impl Patience {
     /// The time limits of a server.
     pub(crate) fn usual() -> Patience
-        ensures step { as_nanos result.step ≡ STEP_SECONDS * 1_000_000_000 }
-        ensures whole { as_nanos result.whole ≡ CONNECTION_SECONDS * 1_000_000_000 }
+        ensures step { as_nanos result.step ≡ 10_000_000_000 }
+        ensures whole { as_nanos result.whole ≡ 60_000_000_000 }
     {
         Patience {
             step: Duration::from_secs(STEP_SECONDS),

@@ -1,7 +1,6 @@
 //! Listeners in memory.
 
 ghost use Rattle.std.specs.Prelude.{◌≡◌, ◌≤◌, ◌<◌, Some, [], length, map, drop, vec_len, vec_capacity, IfOk};
-ghost use Rattle.values.specs.declared.limits.TheConstants.{LATEST_MOMENT};
 ghost use Rattle.server.specs.Books.{Book};
 
 use crate::connection_fault::Fault;
@@ -16,7 +15,7 @@ pub struct ScriptedConnection<'a> {
     pub sent: &'a [u8],
     /// The time when it is accepted, at most `values::LATEST_MOMENT`.
     pub moment: u64,
-    ghost lawful: { moment ≤ LATEST_MOMENT },
+    ghost lawful: { moment ≤ 253402300799 },
 }
 
 /// A listener of in-memory connections, in order. It keeps what is written on each.

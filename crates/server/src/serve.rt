@@ -36,21 +36,21 @@ pub fn serve_on<R: AllocGlobal, L: Listener, S: Registry, N: Source, O: Write, E
     err: &mut E,
 ) -> u8
     requires { N.failed nonces.old + connections ≤ u64.MAX }
-    ensures status { result ≤ FAULT }
+    ensures status { result ≤ 1 }
     ensures failures { FailuresPersist S.is_honest S.is_open store.old store.new }
 
     // Each connection gets the response that is specified for its request after the arrivals of the earlier ones, or it
     // is closed with a fault. The nonces are the next bytes of the source, in the order of the connections. The
     // register then means the history with the arrivals of the requests, and is open if it has answered since the last
     // fault.
-    ensures met { result ≡ DONE → Meets connections (L.book listener.old) (L.book listener.new) (N.remaining nonces.old)
+    ensures met { result ≡ 0 → Meets connections (L.book listener.old) (L.book listener.new) (N.remaining nonces.old)
         (N.remaining nonces.new) S.Registry store.old store.new }
 
     // The register means the history with at most one arrival for each connection, each at a valid time. If no
     // connection was handled, everything is unchanged.
     ensures served { S.is_honest store.new → Extends connections (S.means store.old) (S.means store.new) }
-    ensures unmet { result ≡ FAULT → store.new ≡ store.old }
-    ensures untouched { result ≡ FAULT → (listener.new ≡ listener.old) × (nonces.new ≡ nonces.old) }
+    ensures unmet { result ≡ 1 → store.new ≡ store.old }
+    ensures untouched { result ≡ 1 → (listener.new ≡ listener.old) × (nonces.new ≡ nonces.old) }
     ensures drawn { N.failed nonces.new ≤ N.failed nonces.old + connections }
     ensures quiet { out.new ≡ out.old }
 {
@@ -78,13 +78,13 @@ pub fn serve_keeping<R: AllocGlobal, L: Listener, S: Registry, N: Source, O: Wri
     err: &mut E,
 ) -> (u8, S)
     requires { N.failed nonces.old + connections ≤ u64.MAX }
-    ensures status { result.0 ≤ FAULT }
+    ensures status { result.0 ≤ 1 }
     ensures failures { FailuresPersist S.is_honest S.is_open store result.1 }
-    ensures met { result.0 ≡ DONE → Meets connections (L.book listener.old) (L.book listener.new)
+    ensures met { result.0 ≡ 0 → Meets connections (L.book listener.old) (L.book listener.new)
         (N.remaining nonces.old) (N.remaining nonces.new) S.Registry store result.1 }
     ensures served { S.is_honest result.1 → Extends connections (S.means store) (S.means result.1) }
-    ensures unmet { result.0 ≡ FAULT → result.1 ≡ store }
-    ensures untouched { result.0 ≡ FAULT → (listener.new ≡ listener.old) × (nonces.new ≡ nonces.old) }
+    ensures unmet { result.0 ≡ 1 → result.1 ≡ store }
+    ensures untouched { result.0 ≡ 1 → (listener.new ≡ listener.old) × (nonces.new ≡ nonces.old) }
     ensures drawn { N.failed nonces.new ≤ N.failed nonces.old + connections }
     ensures quiet { out.new ≡ out.old }
 {

@@ -1,23 +1,27 @@
 -- Which faults can occur.
 use Rattle.std.proofs.Common.{◌≡◌, ◌≢◌, Result, Ok, Err, refl, subst, sym}
 use Rattle.std.specs.Prelude.{IfErr}
+use Rattle.std.specs.declared.io.ErrorKind.{ErrorKind}
+use Rattle.std.specs.declared.io.ErrorKind.TheVariants.{OutOfMemory}
 use Rattle.lines.specs.declared.key_line.LineFault.{LineFault}
 use Rattle.lines.specs.declared.key_line.LineFault.TheVariants as line
 use Rattle.office.specs.declared.store_fault.StoreFault.{StoreFault}
 use Rattle.office.specs.declared.store_fault.StoreFault.TheVariants as store
 use Rattle.exchanges.specs.declared.running.RunFault.{RunFault}
 use Rattle.exchanges.specs.declared.running.RunFault.TheVariants as run
+use Rattle.sshoffice.specs.declared.file_reader.ReadFault.{ReadFault}
+use Rattle.sshoffice.specs.declared.file_reader.ReadFault.TheVariants.{Failed, TooLong}
 use Rattle.sshoffice.specs.declared.job_fault.JobFault.{JobFault}
 use Rattle.sshoffice.specs.declared.job_fault.JobFault.TheVariants.{File, Write, NoMemory, BadExchange, Fault}
-use Rattle.sshoffice.specs.Faults.{IsOfAFile, IsOfAKey, IsOfATrial, IsOfChecking, IsOfExchanges, of_line, of_store}
+use Rattle.sshoffice.specs.Faults.{IsOfAKey, IsOfATrial, IsOfChecking, IsOfExchanges, of_line, of_reading, of_store}
 use Rattle.sshoffice.specs.Faults.{run_result}
 
 -- ---- reading a key
 
-pub key_file : (e : JobFault) → IsOfAFile e → IsOfAKey e
-key_file File h = tt
-key_file NoMemory h = tt
-key_file other h = absurd h
+pub key_file : (e : ReadFault) → IsOfAKey (of_reading e)
+key_file TooLong = tt
+key_file (Failed OutOfMemory) = tt
+key_file (Failed other) = tt
 
 pub key_line : (e : LineFault) → IsOfAKey (of_line e)
 key_line line.NoMemory = tt
@@ -25,10 +29,10 @@ key_line other = tt
 
 -- ---- checking a list
 
-pub list_file : (e : JobFault) → IsOfAFile e → IsOfChecking e
-list_file File h = tt
-list_file NoMemory h = tt
-list_file other h = absurd h
+pub list_file : (e : ReadFault) → IsOfChecking (of_reading e)
+list_file TooLong = tt
+list_file (Failed OutOfMemory) = tt
+list_file (Failed other) = tt
 
 pub verdict : {T : Type 0} (r : Result T JobFault) → IfErr r (λ e. e ≡ Write) → IfErr r IsOfChecking
 verdict (Ok x) h = tt

@@ -1,5 +1,5 @@
 -- A connection to the two files of a database, when it is opened, and what closing it leaves of them.
-use Rattle.std.specs.Prelude.{IfErr, IfOk, IsTrue, Result}
+use Rattle.std.specs.Prelude.{◌≡◌, IfErr, IfOk, IsTrue, Option, None, Result, Err}
 use Rattle.sqlite_disk.specs.declared.Disk.{Ghosts}
 use Rattle.sqlite_disk.specs.declared.Files.{Files}
 use Rattle.sqlite_wal.specs.Recovery.{Image}
@@ -7,6 +7,8 @@ use Rattle.sqlite_wal.specs.Files.{outcomes}
 use Rattle.sqlite_wal.specs.Reads.{AreClean}
 use Rattle.sqlite_store.specs.declared.store.FileStore.{FileStore}
 use Rattle.sqlite.specs.declared.error.Error.{Error}
+use Rattle.sqlite.specs.declared.error.Error.TheVariants.{SqliteFailure}
+use Rattle.sqlite.specs.declared.error.ErrorCode.TheVariants.{CannotOpen}
 use Rattle.sqlite.specs.Opening.{is_open_error}
 use Rattle.sqlite.specs.State.{HasCleanDisk}
 use Rattle.sqlite.specs.Held.{Held, IsNew}
@@ -14,6 +16,10 @@ use Rattle.sqlite.specs.Files.{file_state, IsOpened}
 use Rattle.restart.specs.declared.ending.EndFault.{EndFault}
 use Rattle.restart.specs.Ending.{AreEnded, EndsRuns}
 use Rattle.restart.specs.Runs.{IsBlankIfNone, TellsWhatIsHeld}
+
+-- An open uses up what represents the contents of the files. Without it nothing is opened.
+abbrev pub OpensOnce : {A B : Type 0} → (start left : Option A) → Result B Error → Type 0
+OpensOnce start left found = (left ≡ None) × (start ≡ None → found ≡ Err (SqliteFailure CannotOpen))
 
 module _ {D : Type 0} {g : Ghosts D} where
   -- The connection is new. If its disk has returned what was written, it represents each history whose office the files

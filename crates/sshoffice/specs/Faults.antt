@@ -18,6 +18,8 @@ use Rattle.exchanges.specs.declared.running.RunFault.{RunFault}
 use Rattle.exchanges.specs.declared.running.RunFault.TheVariants as run
 use Rattle.headline.specs.declared.publish_fault.PublishFault.{PublishFault}
 use Rattle.headline.specs.declared.publish_fault.PublishFault.TheVariants as publish
+use Rattle.sshoffice.specs.declared.file_reader.ReadFault.{ReadFault}
+use Rattle.sshoffice.specs.declared.file_reader.ReadFault.TheVariants.{Failed, TooLong}
 use Rattle.sshoffice.specs.declared.job_fault.JobFault.{JobFault}
 use Rattle.sshoffice.specs.declared.job_fault.JobFault.TheVariants.{File, Write, Socket, Connection, Mismatch, NoMemory}
 use Rattle.sshoffice.specs.declared.job_fault.JobFault.TheVariants.{BadExchange, Line, List, Opening, Store, Fault}
@@ -77,6 +79,11 @@ test_result (Err fault) = Err (of_selftest fault)
 abbrev pub of_file : ErrorKind → JobFault
 of_file OutOfMemory = NoMemory
 of_file _ = File
+
+-- for a file that isn't read whole
+abbrev pub of_reading : ReadFault → JobFault
+of_reading TooLong = File
+of_reading (Failed kind) = of_file kind
 
 -- The faults of reading a file.
 abbrev pub IsOfAFile : JobFault → Type 0

@@ -1,16 +1,15 @@
 -- The in-memory office (trial office): an initial configuration, and the arrival that comes first.
-use Rattle.std.specs.Prelude.{ℕ, codes, ◌++◌, [], ◌∷◌, List, OnOk, Result}
+use Rattle.std.specs.Prelude.{ℕ, codes, ◌++◌, [], ◌∷◌, List, OnOk, Result, replicate}
 use Rattle.sqlite.specs.State.{State}
 use Rattle.office.specs.declared.opening.Opening.{Opening}
 use Rattle.office.specs.declared.arrival.Arrival.{Arrival}
 use Rattle.office.specs.declared.store_fault.StoreFault.{StoreFault}
 use Rattle.store.specs.Meaning.{Tells}
-use Rattle.sshoffice.specs.declared.trial.TheConstants.{CA_KEY, MESSAGE, NO_NONCE}
 
 -- the initial configuration of an office with these serials
 abbrev pub opening_of : ℕ → ℕ → Opening
 opening_of first last = record {
-  ca = CA_KEY;
+  ca = replicate 32 17;
   root = codes "root";
   station = codes "station";
   first = first;
@@ -18,13 +17,20 @@ opening_of first last = record {
 }
 
 -- the message by which root makes the department `web`
+abbrev pub trial_message : List ℕ
+trial_message =
+    codes "department web\nkind user\nadmins ana\nprincipals alice,*@example.org\noptions force-command\n"
+    ++ codes "extensions permit-X11-forwarding,permit-agent-forwarding,permit-pty\nmaxlife 86400\n"
+    ++ codes "namespaces file,git\n"
+
+-- the arrival of this message
 abbrev pub trial_arrival : Arrival
 trial_arrival = record {
   caller = codes "root";
   key = codes "trial-web";
-  bytes = MESSAGE.now;
+  bytes = trial_message;
   moment = 0;
-  nonce = NO_NONCE;
+  nonce = replicate 32 0;
 }
 
 -- after success the tables represent each history that they represented, with that arrival

@@ -27,7 +27,7 @@ use sqlite::{Alter, Connection};
 use std::io::{ErrorKind, Write};
 
 /// The status for invalid arguments.
-pub const BAD_WORDS: u8 = 2;
+const BAD_WORDS: u8 = 2;
 
 // Makes an office with the key of the file at a path.
 fn found_at<S: Alter, W: World<Conn = Connection<S>> + AllocGlobal, O: Write>(
@@ -273,8 +273,8 @@ fn show<O: Write, E: Write>(text: &String, out: &mut O, err: &mut E) -> u8
 // The answer to arguments that ask for no job: clap's text, or a fault.
 fn answer_words<O: Write, E: Write>(fault: WordsFault, out: &mut O, err: &mut E) -> u8
     ensures answers { AnswersWords fault (O.contents out.old) (O.contents out.new) result }
-    ensures status { result ≤ BAD_WORDS }
-    ensures bad { result ≡ BAD_WORDS → IsOfBadWords fault }
+    ensures status { result ≤ 2 }
+    ensures bad { result ≡ 2 → IsOfBadWords fault }
 {
     match fault {
         WordsFault::Help(text) => show(&text, out, err),
@@ -296,8 +296,8 @@ pub fn do_words<S: Alter, W: World<Conn = Connection<S>> + AllocGlobal, O: Write
     requires { KeepsDatabases S.Store W.World }
     ensures runs { RunsWords S.Store W.World W.File.remaining W.Incoming.book world.old world.new
         (map string_bytes words.now) (O.contents out) (O.contents result.1) result.0 }
-    ensures status { result.0 ≤ BAD_WORDS }
-    ensures bad { result.0 ≡ BAD_WORDS → AreBad (map string_bytes words.now) }
+    ensures status { result.0 ≤ 2 }
+    ensures bad { result.0 ≡ 2 → AreBad (map string_bytes words.now) }
 {
     match read_words(world.alloc(), words) {
         Ok(job) => do_job(world, &job, out, err),

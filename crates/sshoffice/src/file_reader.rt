@@ -1,9 +1,8 @@
 //! Reading the contents of files.
 
-ghost use Rattle.std.specs.IoError.{error_kind};
-ghost use Rattle.std.specs.Prelude.{◌≡◌, ◌<◌, ◌≤◌, ℕ, Err, IfErr, IfOk, IfSome, take, vec_len};
+ghost use Rattle.std.specs.Prelude.{◌≡◌, ◌<◌, ◌≤◌, ℕ, Err, IfErr, IfOk, IfSome, length, take, vec_len};
 ghost use Rattle.exchanges.specs.Exchanges.{AreExchanges, IsBadRecord, TellsOf, exchanges_text};
-ghost use Rattle.sshoffice.specs.Faults.{IsOfAFile, IsOfAKey, IsOfExchanges, of_file};
+ghost use Rattle.sshoffice.specs.Faults.{IsOfAKey, IsOfExchanges};
 ghost use Rattle.sshoffice.specs.Reading.{IsKeyText};
 
 use crate::files::kind_fault;
@@ -11,8 +10,7 @@ use crate::job_fault::JobFault;
 use exchanges::{MAX_FILE, read_exchanges};
 use lines::{KeyLine, read_key_line};
 use std::alloc::Global;
-use std::io;
-use std::io::Read;
+use std::io::{ErrorKind, Read};
 use web::Exchange;
 
 /// The greatest size of a public-key file: some KiB more than any has.
@@ -21,52 +19,67 @@ const MAX_KEY_FILE: u64 = 8192;
 /// The greatest size of a list: a header of 44 bytes, and a section of 4294967295 with its type and length.
 const MAX_LIST: u64 = 4_294_967_344;
 
-/// The fault for a file that can't be opened or read.
-pub fn file_fault(error: &io::Error) -> JobFault
-    ensures value { result ≡ of_file (error_kind error.now) }
-    ensures only { IsOfAFile result }
-{
-    kind_fault(error.kind())
+/// Why a file isn't read whole.
+#[derive(Clone, Copy)]
+pub enum ReadFault {
+    /// It is longer than any may be.
+    TooLong,
+    /// It can't be read, and this is the kind of the error.
+    Failed(ErrorKind),
 }
 
-/// The first bytes from a reader: `most` of them, or fewer if it ends before.
-fn read_first<R: Read + Drop>(alloc: Global, reader: R, most: u64) -> Result<Vec<u8>, JobFault>
-    ensures first { IfOk result (λ v. IfSome (R.remaining reader) (λ bytes. v.items ≡ take most bytes)) }
-    ensures only { IfErr result IsOfAFile }
+/// The first bytes from a reader: `most` of them, or fewer if it ends before. An error of the reader is its kind.
+fn read_first<R: Read + Drop>(alloc: Global, reader: R, most: u64) -> Result<Vec<u8>, ErrorKind>
+    ensures { IfOk result (λ v. IfSome (R.remaining reader) (λ bytes. v.items ≡ take most bytes)) }
 {
     let mut bytes = Vec::new(alloc);
     match reader.take(most).read_to_end(&mut bytes) {
         Ok(_) => Ok(bytes),
-        Err(error) => Err(file_fault(&error)),
+        Err(error) => Err(error.kind()),
     }
 }
 
-/// All bytes from a reader. More than `most` bytes are a fault of the file.
-fn read_whole<R: Read + Drop>(alloc: Global, reader: R, most: u64) -> Result<Vec<u8>, JobFault>
+/// All bytes from a reader, unless there are more than `most`.
+#[tactic(auto, using(crate::proofs::Telling::longer))]
+fn read_whole<R: Read + Drop>(alloc: Global, reader: R, most: u64) -> Result<Vec<u8>, ReadFault>
     requires { most < u64.MAX }
     ensures size { IfOk result (λ v. vec_len v ≤ most) }
     ensures whole { IfOk result (λ v. IfSome (R.remaining reader) (λ bytes. v.items ≡ bytes)) }
-    ensures only { IfErr result IsOfAFile }
+    ensures long { result ≡ Err ReadFault.TooLong → IfSome (R.remaining reader) (λ bytes. most < length bytes) }
 {
-    let bytes = read_first(alloc, reader, most + 1)?;
+    let bytes = match read_first(alloc, reader, most + 1) {
+        Ok(bytes) => bytes,
+        Err(kind) => return Err(ReadFault::Failed(kind)),
+    };
     if most < bytes.len() as u64 {
-        return Err(JobFault::File);
+        return Err(ReadFault::TooLong);
     }
     Ok(bytes)
 }
 
 /// The bytes of a list.
-pub fn read_list<R: Read + Drop>(alloc: Global, reader: R) -> Result<Vec<u8>, JobFault>
+pub fn read_list<R: Read + Drop>(alloc: Global, reader: R) -> Result<Vec<u8>, ReadFault>
     ensures whole { IfOk result (λ v. IfSome (R.remaining reader) (λ bytes. v.items ≡ bytes)) }
-    ensures only { IfErr result IsOfAFile }
+
+    // No shorter list is too long. Any other fault is an error of the reader.
+    ensures long { result ≡ Err ReadFault.TooLong
+        → IfSome (R.remaining reader) (λ bytes. 4_294_967_344 < length bytes) }
 {
     read_whole(alloc, reader, MAX_LIST)
 }
 
-/// The bytes of an exchange file, or a prefix of a longer file in which the first bad record is certain.
-fn read_exchanges_of<R: Read + Drop>(alloc: Global, reader: R) -> Result<Vec<u8>, JobFault>
-    ensures tells { IfOk result (λ v. IfSome (R.remaining reader) (λ file. TellsOf file v.items)) }
-    ensures only { IfErr result IsOfAFile }
+/// The bytes of a public-key file.
+fn read_key_text<R: Read + Drop>(alloc: Global, reader: R) -> Result<Vec<u8>, ReadFault>
+    ensures whole { IfOk result (λ v. IfSome (R.remaining reader) (λ bytes. v.items ≡ bytes)) }
+    ensures long { result ≡ Err ReadFault.TooLong → IfSome (R.remaining reader) (λ bytes. 8192 < length bytes) }
+{
+    read_whole(alloc, reader, MAX_KEY_FILE)
+}
+
+/// The bytes of an exchange file, or a prefix of a longer file in which the first bad record is certain. An error of
+/// the reader is its kind.
+fn read_exchanges_of<R: Read + Drop>(alloc: Global, reader: R) -> Result<Vec<u8>, ErrorKind>
+    ensures { IfOk result (λ v. IfSome (R.remaining reader) (λ file. TellsOf file v.items)) }
 {
     read_first(alloc, reader, MAX_FILE as u64 + 1)
 }
@@ -83,7 +96,7 @@ pub fn read_exchanges_from<R: Read + Drop>(
         → IfSome (R.remaining reader) (λ file. IsBadRecord file k) }
     ensures only { IfErr result IsOfExchanges }
 {
-    let bytes = read_exchanges_of(alloc, reader)?;
+    let bytes = read_exchanges_of(alloc, reader).map_err(kind_fault)?;
     match read_exchanges(alloc, bytes.as_slice()) {
         Ok(exchanges) => Ok(exchanges),
         Err(fault) => Err(JobFault::from(fault)),
@@ -109,6 +122,6 @@ pub fn read_key<R: Read + Drop>(alloc: Global, reader: R) -> Result<KeyLine, Job
     ensures key { IfOk result (λ k. IfSome (R.remaining reader) (λ text. IsKeyText text k)) }
     ensures only { IfErr result IsOfAKey }
 {
-    let bytes = read_whole(alloc, reader, MAX_KEY_FILE)?;
+    let bytes = read_key_text(alloc, reader)?;
     key_in(alloc, bytes.as_slice())
 }

@@ -7,9 +7,9 @@ ghost use Rattle.sqlite_wal.specs.Files.{image_at};
 ghost use Rattle.sqlite.specs.Files.{over_files};
 ghost use Rattle.command_line.specs.Answers.{AreBad};
 ghost use Rattle.sshoffice.specs.Commands.{RunsWordsOver};
-ghost use Rattle.sshoffice.specs.DatabaseFiles.{AreCleanOf, ClosesFiles, MayBecome, OpensOrNot};
+ghost use Rattle.sshoffice.specs.DatabaseFiles.{AreCleanOf, ClosesFiles, MayBecome, OpensOnce, OpensOrNot};
 
-use crate::command::{BAD_WORDS, do_words};
+use crate::command::do_words;
 use crate::files::make_file;
 use crate::trial::MemoryOffice;
 use crate::world::World;
@@ -87,7 +87,8 @@ impl<'a, S: Start> World for Host<'a, S> {
 
     type Incoming = Loopback<'a, HostRuntime>;
 
-    ghost opens = { λ _ _ found _. OpensOrNot (image_at S.Start) found };
+    ghost opens = { λ host _ found opened. OpensOrNot (image_at S.Start) found
+        × OpensOnce host.start opened.start found };
 
     ghost image = { image_at S.Start };
 
@@ -166,8 +167,8 @@ pub fn run<S: Start, O: Write, E: Write>(
     ensures runs { RunsWordsOver over_files ⟦<Host<'static, S> as World>⟧
         ⟦<fs::File as Read>⟧.remaining ⟦<Loopback<'static, HostRuntime> as Listener>⟧.book (λ host. host.left ≡ result.2)
         (map string_bytes words.now) (O.contents out) (O.contents result.1) result.0 }
-    ensures status { result.0 ≤ BAD_WORDS }
-    ensures bad { result.0 ≡ BAD_WORDS → AreBad (map string_bytes words.now) }
+    ensures status { result.0 ≤ 2 }
+    ensures bad { result.0 ≡ 2 → AreBad (map string_bytes words.now) }
 {
     let listener = OnceCell::new();
     let mut host = Host::new(rt, start, &listener);

@@ -1,5 +1,7 @@
 //! Why a job was not done.
 
+use crate::file_reader::ReadFault;
+use crate::files::kind_fault;
 use exchanges::{ExchangesFault, RunFault};
 use headline::PublishFault;
 use krl::KrlFault;
@@ -59,6 +61,20 @@ impl From<text::NoMemory> for JobFault {
 
     fn from(_e: text::NoMemory) -> JobFault {
         JobFault::NoMemory
+    }
+}
+
+impl From<ReadFault> for JobFault {
+    ghost use Rattle.std.specs.Prelude.{◌≡◌};
+    ghost use Rattle.sshoffice.specs.Faults.{of_reading};
+
+    ghost from_gives = { λ fault e. e ≡ of_reading fault };
+
+    fn from(fault: ReadFault) -> JobFault {
+        match fault {
+            ReadFault::TooLong => JobFault::File,
+            ReadFault::Failed(kind) => kind_fault(kind),
+        }
     }
 }
 

@@ -90,7 +90,8 @@ pub fn office_in_memory(alloc: Global, opening: &Opening) -> Result<MemoryOffice
 
 /// The in-memory office: the initial configuration, and then the department.
 pub fn trial_office(alloc: Global) -> Result<MemoryOffice, StoreFault>
-    ensures { IfOk result (λ s. Tells (state over_memory s.conn) (opening_of 1 LAST_SERIAL) (trial_arrival ∷ [])) }
+    ensures { IfOk result (λ s. Tells (state over_memory s.conn) (opening_of 1 9223372036854775806)
+        (trial_arrival ∷ [])) }
 {
     let opening = opening_of(alloc, FIRST_SERIAL, LAST_SERIAL)?;
     let mut store = office_in_memory(alloc, &opening)?;

@@ -4,7 +4,6 @@ use Rattle.std.specs.Prelude.{if◌then◌else◌, option_and_then, option_map, 
 use Rattle.clap.specs.Words.{Row, Text, all_of, first_of, subcommand_of}
 use Rattle.command_line.specs.Asked.{◌>>=◌, number_at, number_or}
 use Rattle.command_line.specs.Command.{most}
-use Rattle.station_command.specs.declared.command.TheConstants.{AHEAD}
 use Rattle.station_command.specs.declared.job.StationJob.{StationJob}
 use Rattle.station_command.specs.declared.job.StationJob.TheVariants as job
 use Rattle.station_command.specs.Arguments.{is_set}
@@ -46,7 +45,7 @@ abbrev pub judge_in : List Row → Option Asked
 judge_in rows = do
   db ← first_of (codes "db") rows
   rules ← first_of (codes "policy") rows
-  ahead ← number_or rows (codes "ahead") (0, most) AHEAD
+  ahead ← number_or rows (codes "ahead") (0, most) 3600
   files ← all_of (codes "BODY") rows
   Some (judge db rules ahead files)
 
