@@ -1,9 +1,12 @@
 -- Calls that leave a database as it was, whatever its tables represent.
-use Rattle.std.proofs.Common.{◌≡◌, inl, inr, IsTrue, refl, sym, ◌∙◌}
+use Rattle.std.proofs.Common.{◌≡◌, inl, inr, IsTrue, refl, subst, sym, ◌∙◌}
 use Rattle.std.specs.Prelude.{Result, Ok, Err, OnErr}
-use Rattle.sqlite.specs.State.{State}
+use Rattle.sqlite.specs.State.{Shows, State}
+use Rattle.office.specs.declared.arrival.Outcome.{Outcome}
+use Rattle.office.specs.declared.arrival.Outcome.TheVariants as outcome
 use Rattle.store_sql.specs.Calls.{Begins, Fails, Stays}
 use Rattle.store_sql.specs.declared.table_fault.Fault.{Fault}
+use Rattle.store.specs.Arriving.{KeepsUnaccepted, KeepsUnlessAccepted}
 use Rattle.store.specs.Transactions.{Concludes, HasEnded, IsAsBefore}
 
 pub fails_before : (a b : State) → Fails a b → IsAsBefore a b
@@ -45,3 +48,24 @@ concludes_before a b c d (Err e) (Err f) begun stays told =
     let inside : IsTrue b.in_transaction = begun.1.mode in
     let k = stays inside in
     ended a b c d (λ _. begun.1.was_open) (λ _. begun.1.committed_is) k.was_open k.committed told.1
+
+-- a transaction that is begun and committed, if its part leaves the database as it was
+committed_before : (a b c d : State) → Begins {X = Unit {0}} {E = Fault} a b (Ok tt) → c.now ≡ b.now
+    → Shows c d c.now c.now false → IsAsBefore a d
+committed_before a b c d begun kept shows = record {
+  was_open = λ _. begun.1.was_open;
+  rest = λ _ _. (shows.mode, shows.now_is ∙ sym shows.committed_is);
+  same = λ _ _. shows.now_is ∙ (kept ∙ begun.1.now_is);
+}
+
+pub concludes_unaccepted : (a b c d : State) (r q : Result Outcome Fault)
+    → Begins {X = Unit {0}} {E = Fault} a b (Ok tt)
+    → KeepsUnaccepted b c r → Concludes r c d q → KeepsUnlessAccepted a d q
+concludes_unaccepted a b c d r (Err f) begun keeps told = tt
+concludes_unaccepted a b c d r (Ok (outcome.Accepted reply)) begun keeps told = tt
+concludes_unaccepted a b c d (Err e) (Ok (outcome.Repeated reply)) begun keeps told = absurd told
+concludes_unaccepted a b c d (Err e) (Ok (outcome.Refused x)) begun keeps told = absurd told
+concludes_unaccepted a b c d (Ok v) (Ok (outcome.Repeated reply)) begun keeps told =
+    committed_before a b c d begun (subst (λ (o : Outcome). KeepsUnaccepted b c (Ok o)) (sym told.0) keeps) told.1
+concludes_unaccepted a b c d (Ok v) (Ok (outcome.Refused x)) begun keeps told =
+    committed_before a b c d begun (subst (λ (o : Outcome). KeepsUnaccepted b c (Ok o)) (sym told.0) keeps) told.1

@@ -42,7 +42,8 @@ use Rattle.store.proofs.Steps.{Leads, answers_then, goes_still, waits_then}
 use Rattle.store.specs.Histories.{AreApart, is_kept_for}
 use Rattle.store.proofs.Keeping.{known_by_kept, no_repeat, reply_by_kept, reply_of}
 use Rattle.store.specs.Meaning.{IsHistory}
-use Rattle.store.specs.Arriving.{ExceedsTables, IsAfter, IsAnswered, IsAsked, IsNew, Past, Settles, Settling}
+use Rattle.store.specs.Arriving.{ExceedsTables, IsAfter, IsAnswered, IsAsked, IsNew, KeepsUnaccepted, Past, Settles}
+use Rattle.store.specs.Arriving.{Settling}
 use Rattle.store.specs.Arriving.{contents_with, kept_at, state_at, stopped}
 use Rattle.store.proofs.Lawful.{lawful_after}
 use Rattle.store.proofs.Reading.{still_means}
@@ -149,13 +150,29 @@ step_refused p a m r is refused =
 
 -- ---- the whole contract of a part
 
+-- the same database shows no change
+kept_same : (c : Connection) (r : Result Outcome Fault) → KeepsUnaccepted c c r
+kept_same c (Ok (outcome.Accepted reply)) = tt
+kept_same c (Ok (outcome.Repeated reply)) = refl
+kept_same c (Ok (outcome.Refused x)) = refl
+kept_same c (Err f) = tt
+
+-- a database that was only read before
+keeps_then : (a b c : Connection) (r : Result Outcome Fault) → b.now ≡ a.now → KeepsUnaccepted b c r
+    → KeepsUnaccepted a c r
+keeps_then a b c (Ok (outcome.Accepted reply)) same keeps = tt
+keeps_then a b c (Ok (outcome.Repeated reply)) same keeps = keeps ∙ same
+keeps_then a b c (Ok (outcome.Refused x)) same keeps = keeps ∙ same
+keeps_then a b c (Err f) same keeps = tt
+
 -- a part that answers without a change
 pub settling_still : {a : Arrival} {Known : Past → Type 0} {c : Connection} {x : Outcome}
     → (IsTrue c.is_open → Settles a Known c c (Ok x)) → Settling (IsTrue c.is_open) a Known c c (Ok x)
-settling_still {Known = Known} {c = c} settles = record {
+settling_still {Known = Known} {c = c} {x = x} settles = record {
   settles = λ clean is_open. settles is_open;
   fails = λ clean. tt;
   stays = λ clean inside. (record { was_open = λ still. still; committed = λ _. refl }, refl);
+  keeps = λ clean. kept_same c (Ok x);
   survives = survives_still c (Waits (IsAfter Known) c);
 }
 
@@ -166,6 +183,7 @@ settling_not {a = a} {Known = Known} {c = c} = record {
   settles = λ clean given. settles_not a Known c NoMemory;
   fails = λ clean p after. tt;
   stays = λ clean inside. record { was_open = λ still. still; committed = λ _. refl };
+  keeps = λ clean. tt;
   survives = survives_still c (Waits (IsAfter Known) c);
 }
 
@@ -176,6 +194,7 @@ settling_open part = record {
   settles = λ clean _. part.settles clean tt;
   fails = part.fails;
   stays = part.stays;
+  keeps = part.keeps;
   survives = part.survives;
 }
 
@@ -202,6 +221,7 @@ settling_weaker {Asked} {a} {Known} {Later} {old} {new} {r} less part = record {
   fails = λ clean. fails_weaker (IsAfter Known) (IsAfter Later) (ExceedsTables a) (ExceedsTables a) (λ p. p) old new r
       more (λ p after why. why) (part.fails clean);
   stays = part.stays;
+  keeps = part.keeps;
   survives = survives_weaker old new (Waits (IsAfter Later) old) (Waits (IsAfter Known) old)
       (λ clean trees h p after. h p (more p after)) part.survives;
 }
@@ -259,6 +279,7 @@ module _ {X : Type 0} {First : State → List Kept → X → Type 0} {a b : Conn
             (λ p. p) Never a b c r (leads_later (still clean)) (λ p after why. why) one.survives (still clean)
             rest.survives.counts (rest.fails clean);
         stays = λ clean. stays_then a b c x r (reads_stay a b (Ok x) (one.reads (still clean))) (rest.stays clean);
+        keeps = λ clean. keeps_then a b c r (one.reads (still clean)).0.now_is (rest.keeps clean);
         survives = waits_then (IsAfter Known) (IsAfter Later) (λ p. p) a b c leads_later
             (waits_never Known a b one.survives) rest.survives;
       }
@@ -279,5 +300,6 @@ read_failed {a = a} {b = b} asks arrival Known (Err e) is = record {
       let q = asks.shows clean tt (state_at p) (kept_at p) (lawful_after p.0 p.1 after.history) after.means in
       cause_of (ExceedsTables arrival p) a b e (subst (λ (g : Fault). HasCause a b g) (sym is) q.1);
   stays = λ clean inside. stops a b (asks.reads clean tt).0;
+  keeps = λ clean. tt;
   survives = waits_never Known a b asks.survives;
 }

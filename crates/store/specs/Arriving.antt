@@ -30,7 +30,7 @@ use Rattle.office.specs.Messages.{message_with_text}
 use Rattle.office.specs.State.{State, next_serial}
 use Rattle.office.specs.History.{change as change_by, due, first_accepted, has_key, judged, kept_by, reply_kept, state}
 use Rattle.store.specs.Rows.{cert_row, department_row, office_contents, request_row}
-use Rattle.store.specs.Transactions.{Answers, FailsFor, StopsFor, Waits}
+use Rattle.store.specs.Transactions.{Answers, FailsFor, IsAsBefore, StopsFor, Waits}
 use Rattle.store.specs.declared.reads.concerning.Concerned.{Concerned}
 use Rattle.store.specs.Concerning.{AreConcerned}
 use Rattle.store.specs.Histories.{is_kept_for}
@@ -140,6 +140,12 @@ abbrev pub ExceedsTables : Arrival → Past → Type 0
 ExceedsTables a p =
     (d : Decision) × (serving : List Ca) × IsAccepted a d serving p × IsTooMuch d a (office_contents p.0 p.1)
 
+-- For any tables: an answer that doesn't accept the request now leaves the database as it was.
+abbrev pub KeepsUnaccepted : Connection → Connection → Result Outcome Fault → Type 0
+KeepsUnaccepted old new (Ok (outcome.Accepted reply)) = Unit {0}
+KeepsUnaccepted old new (Ok other) = new.now ≡ old.now
+KeepsUnaccepted old new (Err f) = Unit {0}
+
 -- Everything that a part does with a received request of which this is known, provided that `Given` holds. For such
 -- tables the causes of a fault are lack of memory, a failure of the database, or more rows or longer ones than tables
 -- can hold.
@@ -148,6 +154,7 @@ pub record Settling (Given : Type 0) (a : Arrival) (Known : Past → Type 0) (ol
   pub settles : HasCleanDisk new → Given → Settles a Known old new r
   pub fails : HasCleanDisk new → FailsFor (IsAfter Known) (ExceedsTables a) old new r
   pub stays : HasCleanDisk new → Stays old new r
+  pub keeps : HasCleanDisk new → KeepsUnaccepted old new r
   pub survives : Survives old new (Waits (IsAfter Known) old)
 
 -- for a connection
@@ -168,6 +175,12 @@ abbrev pub of_statement : Fault → Fault
 of_statement Device = Device
 of_statement Damaged = Device
 of_statement NoMemory = NoMemory
+
+-- for any tables: unless the request is accepted now, an answer has changed nothing
+abbrev pub KeepsUnlessAccepted : Connection → Connection → Result Outcome Fault → Type 0
+KeepsUnlessAccepted old new (Ok (outcome.Accepted reply)) = Unit {0}
+KeepsUnlessAccepted old new (Ok other) = IsAsBefore old new
+KeepsUnlessAccepted old new (Err f) = Unit {0}
 
 -- a fault has its cause, if the connection is closed or its tables represent a history
 abbrev pub IsCaused : Arrival → Connection → Connection → Fault → Type 0

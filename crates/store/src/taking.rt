@@ -2,7 +2,8 @@
 
 ghost use Rattle.std.specs.Prelude.{◌≡◌, length};
 ghost use Rattle.store.specs.Transactions.{Ends, KeepsOnErr, LeavesDue};
-ghost use Rattle.store.specs.Arriving.{FailsAsCaused, IsAfter, IsAnswered, IsAny, contents_with, of_statement};
+ghost use Rattle.store.specs.Arriving.{FailsAsCaused, IsAfter, IsAnswered, IsAny, KeepsUnlessAccepted, contents_with};
+ghost use Rattle.store.specs.Arriving.{of_statement};
 ghost use Rattle.store_sql.specs.Honest.{On, OutlivesBy};
 
 use crate::rows::conclude;
@@ -33,6 +34,9 @@ pub(crate) fn take<S: Alter>(
         conn.old conn.new result }
     ensures cause { On S.Store (FailsAsCaused arrival.now) conn.old conn.new result }
     ensures before { On S.Store KeepsOnErr conn.old conn.new result }
+
+    // A repeated or refused request leaves the database as it was, whatever its tables represent.
+    ensures unaccepted { On S.Store KeepsUnlessAccepted conn.old conn.new result }
 
     // A crash during the call leaves the tables as they were, or with the request, which then extends the history.
     ensures survives { OutlivesBy S.Store (LeavesDue (IsAfter IsAny) (IsAnswered arrival.now)

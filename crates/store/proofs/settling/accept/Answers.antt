@@ -25,6 +25,7 @@ returns g c =
           (sym c.in_ok-reply.ensures) (settles_written a d cas old new c.requires.nonce (part.makes clean));
       fails = λ clean. tt;
       stays = part.stays;
+      keeps = λ clean. tt;
       survives = waits_written a d cas old new part.survives;
     }
 
@@ -45,5 +46,6 @@ returns-in_err-write g c =
           (λ p after why. (d, cas, after.known, limited p a d cas after.history after.known c.requires.lawful why))
           (part.fault clean);
       stays = part.stays;
+      keeps = λ clean. tt;
       survives = waits_written a d cas old new part.survives;
     })

@@ -2,7 +2,7 @@ use Rattle.std.proofs.Common.{arith}
 use Rattle.sqlite.specs.Held.{state}
 use Rattle.sqlite.specs.State.{HasCleanDisk}
 use Rattle.store.specs.Transactions.{Waits}
-use Rattle.store.proofs.Before.{concludes_before}
+use Rattle.store.proofs.Before.{concludes_before, concludes_unaccepted}
 use Rattle.store.proofs.Causes.{stops_for}
 use Rattle.store.proofs.Steps.{ends, left_due}
 use Rattle.store.specs.Arriving.{IsAfter, IsAnswered, IsAny, ExceedsTables, contents_with}
@@ -32,6 +32,8 @@ returns-in-Ok g c =
           end.survives.counts r q (begins (early clean)) (part.settles (late clean) tt) (part.fails (late clean))
           (end.concludes clean) (end.cause clean);
       before = λ clean. concludes_before old first last new r q (begins (early clean)) (part.stays (late clean))
+          (end.concludes clean);
+      unaccepted = λ clean. concludes_unaccepted old first last new r q (begins (early clean)) (part.keeps (late clean))
           (end.concludes clean);
       survives = left_due (IsAfter IsAny) (IsAnswered a) (contents_with a) old first last new r begins
           (λ clean. part.settles clean tt) started
