@@ -8,7 +8,6 @@ use Rattle.cert.specs.Reading.{body_at}
 use Rattle.cert.specs.declared.cert_fault.CertFault.{CertFault}
 use Rattle.cert.specs.declared.fields.CertFields.{CertFields}
 use Rattle.cert.proofs.BodyLaws.{found_from}
-use Rattle.guard.specs.declared.body.TheConstants.{LONGEST_BODY}
 use Rattle.guard.specs.State.{fields_of}
 use Rattle.guard.specs.Laws.{IsBodyOf}
 
@@ -16,7 +15,7 @@ was_read : (r : Result CertFields CertFault) (c : CertFields) → result_ok r �
 was_read (Ok x) c e = cc
 was_read (Err x) c e = absurd cc
 
-by_length : (bytes : List ℕ) (c : CertFields) (long : Bool) → IsBytes bytes → nat_lt LONGEST_BODY (length bytes) ≡ long
+by_length : (bytes : List ℕ) (c : CertFields) (long : Bool) → IsBytes bytes → nat_lt 16384 (length bytes) ≡ long
     → cond long None (result_ok (body_at bytes)) ≡ Some c → IsBodyOf bytes c
 by_length bytes c true fits long e = absurd cc
 by_length bytes c false fits long e =
@@ -24,4 +23,4 @@ by_length bytes c false fits long e =
     record { short = ltb-false _ _ long; fields = found.0; text = found.1 }
 
 pub is_body : (bytes : List ℕ) (c : CertFields) → IsBytes bytes → fields_of bytes ≡ Some c → IsBodyOf bytes c
-is_body bytes c fits e = by_length bytes c (nat_lt LONGEST_BODY (length bytes)) fits refl e
+is_body bytes c fits e = by_length bytes c (nat_lt 16384 (length bytes)) fits refl e

@@ -8,7 +8,6 @@ use Rattle.guard.specs.declared.judging.Answer.TheVariants as answer
 use Rattle.guard.specs.declared.register.RegisterFault.{RegisterFault}
 use Rattle.guard.specs.declared.register.RegisterFault.TheVariants as register
 use Rattle.guard.specs.declared.refusal.Refusal.TheVariants.{NotABody}
-use Rattle.guard.specs.declared.body.TheConstants.{LONGEST_BODY}
 use Rattle.guard.specs.Machine.{State, Question, body_of, fields_of, refusal_of}
 use Rattle.guard.specs.Reading.{IsFault}
 
@@ -30,7 +29,7 @@ IsKept (answer.Refuse r) s body = Unit {0}
 pub record IsKeepable (row : Approved) : Type 0 where
   pub serial : row.serial < 2 ^ 63
   pub moment : row.moment < 2 ^ 63
-  pub body : length row.body ≤ LONGEST_BODY
+  pub body : length row.body ≤ 16384
 
 -- what a fault of a register that keeps a guard implies: such a register is never damaged
 abbrev pub HasCause : RegisterFault → Type 0 → Type 0

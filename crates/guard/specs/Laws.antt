@@ -2,13 +2,12 @@
 use Rattle.std.specs.Prelude.{◌≡◌, ℕ, ◌+◌, ◌≤◌, List, [], ◌∷◌, length, Bool, true, ◌&&◌, nat_le}
 use Rattle.cert.specs.Bodies.{IsCertFields, body_text}
 use Rattle.cert.specs.declared.fields.CertFields.{CertFields}
-use Rattle.guard.specs.declared.body.TheConstants.{LONGEST_BODY}
 use Rattle.guard.specs.declared.refusal.Refusal.{Refusal}
 use Rattle.guard.specs.Refusals.{refusal_number}
 
 -- the bytes are the text of these valid fields, and no longer than an unsigned certificate (body) may be
 pub record IsBodyOf (bytes : List ℕ) (c : CertFields) : Type 0 where
-  pub short : length bytes ≤ LONGEST_BODY
+  pub short : length bytes ≤ 16384
   pub fields : IsCertFields c
   pub text : bytes ≡ body_text c
 

@@ -5,7 +5,6 @@ use Rattle.cert.specs.declared.cert_fault.CertFault.TheVariants as cert
 use Rattle.cert.specs.declared.fields.CertFields.{CertFields}
 use Rattle.guard.specs.declared.body.BodyFault.{BodyFault}
 use Rattle.guard.specs.declared.body.BodyFault.TheVariants as fault
-use Rattle.guard.specs.declared.body.TheConstants.{LONGEST_BODY}
 use Rattle.guard.specs.State.{fields_of}
 
 -- the fields of the body, or a fault if it has none, unless memory was refused
@@ -17,6 +16,6 @@ Gives (Err fault.NoMemory) bytes = Unit {0}
 
 -- what each fault means for the bytes
 abbrev pub IsFault : List ℕ → BodyFault → Type 0
-IsFault bytes fault.TooLong = LONGEST_BODY < length bytes
-IsFault bytes (fault.NotOfTheProfile e) = (length bytes ≤ LONGEST_BODY) × (body_at bytes ≡ Err e) × (e ≢ cert.NoMemory)
+IsFault bytes fault.TooLong = 16384 < length bytes
+IsFault bytes (fault.NotOfTheProfile e) = (length bytes ≤ 16384) × (body_at bytes ≡ Err e) × (e ≢ cert.NoMemory)
 IsFault bytes fault.NoMemory = Unit {0}

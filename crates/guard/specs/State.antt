@@ -8,7 +8,6 @@ use Rattle.message.specs.declared.department.Department.{Department}
 use Rattle.cert.specs.declared.fields.CertFields.{CertFields}
 use Rattle.cert.specs.Reading.{body_at}
 use Rattle.guard.specs.declared.approved.Approved.{Approved}
-use Rattle.guard.specs.declared.body.TheConstants.{LONGEST_BODY}
 use Rattle.guard.specs.declared.scope.Scope.{Scope}
 
 pub record State : Type 0 where
@@ -30,7 +29,7 @@ pub record Question : Type 0 where
 
 -- the fields of an unsigned certificate (body) of the profile that isn't too long
 abbrev pub fields_of : List ℕ → Option CertFields
-fields_of bytes = if nat_lt LONGEST_BODY (length bytes) then None else result_ok (body_at bytes)
+fields_of bytes = if nat_lt 16384 (length bytes) then None else result_ok (body_at bytes)
 
 -- the department with this name
 abbrev pub department_named : List Department → List ℕ → Option Department

@@ -132,10 +132,10 @@ impl Policy {
     /// department with the same name.
     pub fn read(alloc: Global, bytes: &[u8]) -> Result<Policy, PolicyFault>
         // The result is what reading line by line gives.
-        ensures exact { length bytes.now ≤ LONGEST_POLICY → Gives result (policy_at bytes.now) }
+        ensures exact { length bytes.now ≤ 1048576 → Gives result (policy_at bytes.now) }
 
         // The result for a file that is too long is `TooLong`.
-        ensures limit { LONGEST_POLICY < length bytes.now → result ≡ Err PolicyFault.TooLong }
+        ensures limit { 1048576 < length bytes.now → result ≡ Err PolicyFault.TooLong }
     {
         if LONGEST_POLICY < bytes.len() {
             return Err(PolicyFault::TooLong);

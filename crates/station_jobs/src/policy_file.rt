@@ -25,7 +25,7 @@ pub(crate) struct PolicyText {
 
 /// The bytes of a policy's file.
 fn policy_bytes<F: Read + Drop>(alloc: Global, file: F) -> Result<Vec<u8>, StationFault>
-    ensures size { IfOk result (λ v. length v.items ≤ LONGEST_POLICY) }
+    ensures size { IfOk result (λ v. length v.items ≤ 1048576) }
     ensures whole { IfOk result (λ v. IfSome (F.remaining file) (λ bytes. v.items ≡ bytes)) }
     ensures only { IfErr result IsOfAFile }
 {
@@ -34,7 +34,7 @@ fn policy_bytes<F: Read + Drop>(alloc: Global, file: F) -> Result<Vec<u8>, Stati
 
 /// The policy in a text.
 fn policy_of(alloc: Global, text: Vec<u8>) -> Result<PolicyText, StationFault>
-    requires { length text.items ≤ LONGEST_POLICY }
+    requires { length text.items ≤ 1048576 }
     ensures read { IfOk result (λ p. (p.text.items ≡ text.items) × (policy_at text.items ≡ Ok p.policy)) }
     ensures bad { (line : ℕ) → result ≡ Err (StationFault.BadPolicy line) → policy_at text.items ≡ Err line }
     ensures only { IfErr result IsOfAPolicy }
