@@ -116,6 +116,29 @@ options_of_found field Host text ps h e =
     let is = same_Some _ _ none.1 in
     (empty text none.0 ∙ ap options_text is, subst (λ (l : List Pair). is_options field Host l ≡ true) is refl)
 
+-- the names of options that were read ascend
+options_rise : (k : ℕ) (field : OptionField) (previous bytes : List ℕ) (ps : List Pair)
+    → options_within k field previous bytes ≡ Some ps → ascends previous ps ≡ true
+options_rise zero field previous [] ps e = subst (λ (l : List Pair). ascends previous l ≡ true) (same_Some _ _ e) refl
+options_rise (suc k) field previous [] ps e = subst (λ (l : List Pair). ascends previous l ≡ true) (same_Some _ _ e) refl
+options_rise zero field previous (b ∷ bytes) ps e = absurd cc
+options_rise (suc k) field previous (b ∷ bytes) ps e =
+    option_and_then_some (λ o. cond (comes_next field previous o.0) (option_map (λ others. o.0 ∷ others)
+    (options_within k field o.0.name o.1)) None) (pair_at (b ∷ bytes)) ps e (λ o is gives.
+    let passed = cond_is (comes_next field previous o.0) (option_map (λ others. o.0 ∷ others)
+    (options_within k field o.0.name o.1)) ps gives in
+    let parts = and_parts (is_option field o.0) _ passed.0 in
+    let rest = map_is o.0 (options_within k field o.0.name o.1) ps passed.1 in
+    subst (λ (l : List Pair). ascends previous l ≡ true) (sym rest.2)
+    (and_from (comes_before previous o.0.name) _ parts.1 (options_rise k field o.0.name o.1 rest.0 rest.1)))
+
+pub options_of_ascend : (field : OptionField) (kind : Kind) (text : List ℕ) (ps : List Pair)
+    → options_of field kind text ≡ Some ps → is_ascending ps ≡ true
+options_of_ascend field User text ps e = (is_ascending-ascends [] ps (options_rise 6 field [] text ps e)).1
+options_of_ascend field Host text ps e =
+    let none = cond_is (eqb (length text) 0) (Some []) ps e in
+    subst (λ (l : List Pair). is_ascending l ≡ true) (same_Some _ _ none.1) refl
+
 -- valid options are read back from their text
 pub options_of_again : (field : OptionField) (kind : Kind) (ps : List Pair) → is_options field kind ps ≡ true
     → options_of field kind (options_text ps) ≡ Some ps

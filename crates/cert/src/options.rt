@@ -14,7 +14,7 @@ use std::marker::Model;
 use text::{NoMemory, Pair, Pairs};
 use values::{Kind, OptionField, is_known, is_option_value};
 
-/// A field of critical options or of extensions. Contracts see it as its pairs, strictly ascending by name.
+/// A field of critical options or of extensions. Contracts see it as its pairs. Their names ascend strictly.
 #[derive(Drop)]
 pub struct Options {
     pairs: Pairs,
@@ -24,9 +24,14 @@ impl Model for Options {
     ghost use Rattle.std.specs.Prelude.{List};
     ghost use Rattle.text.specs.declared.pair.Pair.{Pair};
 
+    ghost use Rattle.std.specs.Prelude.{IsTrue};
+    ghost use Rattle.cert.specs.Options.{is_ascending};
+
     ghost Value = { List Pair };
 
     ghost view = { λ o. o.pairs };
+
+    ghost invariant = { λ o. IsTrue (is_ascending o.pairs) };
 }
 
 fn has_name(pairs: &[Pair], name: &[u8]) -> bool
@@ -133,8 +138,9 @@ impl Options {
         })
     }
 
-    // The caller has checked that the names ascend.
+    // The options of pairs whose names ascend.
     pub(crate) fn from_pairs(pairs: Pairs) -> Options
+        requires { IsTrue (is_ascending pairs) }
         ensures { result ≡ pairs }
     {
         Options { pairs }
@@ -164,7 +170,8 @@ impl Options {
 
     /// The pairs, strictly ascending by name. A flag's value has no bytes.
     pub fn pairs(&self) -> &[Pair]
-        ensures { result.now ≡ self.now }
+        ensures kept { result.now ≡ self.now }
+        ensures ascending { IsTrue (is_ascending result.now) }
     {
         self.pairs.as_slice()
     }

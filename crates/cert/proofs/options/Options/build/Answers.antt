@@ -31,6 +31,13 @@ loop-pair-preserved c =
     (lists_one_more c.args.field listed ps i c.pair-item.result c.loop-pair-test.true c.pair-item.is
     c.loop-pair.invariant)
 
+pub invariant_of-result : goal.invariant_of-result
+invariant_of-result c =
+    let given = c.args.pairs.now in
+    let is : c.from_vec.result ≡ listing given = c.from_vec.ensures ∙ c.loop-pair.invariant.is_listing
+    ∙ ap listing (take_all _ given c.loop-pair-test.false) in
+    ap is_ascending is ∙ is_ascending-listing given
+
 pub returns-clause-lawful : goal.returns-clause-lawful
 returns-clause-lawful c =
     let ps = c.args.pairs.now in
