@@ -2,3 +2,4 @@ pub mod Extensions
 pub mod Runs
 pub mod Visits
 pub mod Keeping
+pub mod Lines

@@ -1,9 +1,9 @@
 -- Connections in succession.
-use Rattle.std.proofs.Common.{◌≡◌, ◌+◌, ◌⊎◌, inl, inr, ℕ, List, [], ◌∷◌, ◌++◌, length, Option, Result, Ok, Err, refl, sym, subst, ap, ◌∙◌, arith, length-append}
+use Rattle.std.proofs.Common.{◌≡◌, ◌≤◌, ◌+◌, ◌⊎◌, inl, inr, ℕ, List, [], ◌∷◌, ◌++◌, length, Option, Result, Ok, Err, refl, sym, subst, ap, ◌∙◌, arith, length-append}
 use Rattle.std.specs.Prelude.{map, flat_map}
-use Rattle.std.specs.Io.KnownBytes.{Consumes}
-use Rattle.std.proofs.KnownBytes.{Consumes-nil, Consumes-trans}
-use Rattle.std.proofs.lemmas.List.{append-nil}
+use Rattle.std.specs.Io.KnownBytes.{Appends, Consumes}
+use Rattle.std.proofs.KnownBytes.{Appends-nil, Appends-trans, Consumes-nil, Consumes-trans}
+use Rattle.std.proofs.lemmas.List.{append-nil, append_assoc}
 use Rattle.std.proofs.lemmas.List.Concat.{flat_map-append}
 use Rattle.office.specs.declared.opening.Opening.{Opening}
 use Rattle.office.specs.declared.arrival.Arrival.{Arrival}
@@ -13,6 +13,8 @@ use Rattle.web.specs.Runs.{AllDue, HasAnswered}
 use Rattle.server.specs.declared.connection_fault.Fault.{Fault}
 use Rattle.server.specs.Books.{Book, WhereTold}
 use Rattle.server.specs.Connections.{Visit, answered, cut, closed, AreServed, EndsWith, IfGiven, Meets, Tells, TellsAll, Visits, drawn_of, exchange_of, given_of}
+use Rattle.server.specs.Connections.{MeetsTold, line_of, visit_line, visit_lines}
+use Rattle.server.specs.Names.{connection_line}
 
 -- one more visit in the book, at the end
 told_more : (visits : List Visit) (visit : Visit) (old mid new : Option Book) → TellsAll visits old mid
@@ -124,3 +126,54 @@ meets_more n result b0 b1 b2 n0 n1 n2 register s0 s1 s2 m v back stays =
       drawn = drawn_more m.visits v.visit n0 n1 n2 m.drawn v.drawn;
       served = served_more register m.visits v.visit result s0 s1 s2 v.ends m.served v.served back stays;
     }
+
+-- ---- what is printed
+
+-- a visit that ends with a result has the result's line
+same_line : {T : Type 0} (number : ℕ) (visit : Visit) (result : Result T Fault) → EndsWith visit result
+    → line_of number result ≡ visit_line number visit
+same_line number (answered talk) (Ok t) ends = refl
+same_line number (answered talk) (Err fault) ends = absurd ends
+same_line number (cut talk) (Ok t) ends = absurd ends
+same_line number (cut talk) (Err fault) ends = ap (connection_line number) ends
+same_line number (closed silence) (Ok t) ends = absurd ends
+same_line number (closed silence) (Err fault) ends = ap (connection_line number) (sym ends)
+
+-- one more line, at the end
+lines_more : (number : ℕ) (visits : List Visit) (visit : Visit)
+    → visit_lines number visits ++ visit_line (number + length visits) visit ≡ visit_lines number (visits ++ visit ∷ [])
+lines_more number [] visit =
+    let here : number + 0 ≡ number = omega arith in
+    ap (λ n. visit_line n visit) here ∙ sym (append-nil (visit_line number visit))
+lines_more number (v ∷ visits) visit =
+    let there : number + (length visits + 1) ≡ number + 1 + length visits = omega arith in
+    ap (λ n. (visit_line number v ++ visit_lines (number + 1) visits) ++ visit_line n visit) there
+    ∙ append_assoc (visit_line number v) (visit_lines (number + 1) visits) (visit_line (number + 1 + length visits) visit)
+    ∙ ap (λ l. visit_line number v ++ l) (lines_more (number + 1) visits visit)
+
+-- zero connections print nothing
+pub told_none : {S : Type 0} (book : Option Book) (source : Option (List ℕ)) (register : Ghosts S) (s : S) (failed : ℕ)
+    (taken : Option (List ℕ)) → MeetsTold 0 book book source source register s s failed failed taken taken
+told_none book source register s failed taken =
+    record { meets = meets_none book source register s; lines = λ same. Appends-nil taken }
+
+-- one more connection, whose line is printed if the output doesn't fail
+pub told_one_more : {S T : Type 0} (n : ℕ) (result : Result T Fault) (b0 b1 b2 : Option Book)
+    (n0 n1 n2 : Option (List ℕ)) (register : Ghosts S) (s0 s1 s2 : S) (f0 f1 f2 : ℕ) (t0 t1 t2 : Option (List ℕ))
+    → MeetsTold n b0 b1 n0 n1 register s0 s1 f0 f1 t0 t1
+    → Visits result b1 b2 n1 n2 register s1 s2 → (register.is_honest s2 → register.is_honest s1)
+    → (register.is_honest s2 → IfGiven result (register.is_open s1 → register.is_open s2))
+    → f0 ≤ f1 → f1 ≤ f2 → (f2 ≡ f1 → Appends t1 t2 (line_of (n + 1) result))
+    → MeetsTold (n + 1) b0 b2 n0 n2 register s0 s2 f0 f2 t0 t2
+told_one_more n result b0 b1 b2 n0 n1 n2 register s0 s1 s2 f0 f1 f2 t0 t1 t2 m v back stays low high told = record {
+  meets = meets_more n result b0 b1 b2 n0 n1 n2 register s0 s1 s2 m.meets v back stays;
+  lines = λ same.
+      let first : f1 ≡ f0 = omega (arith, same, low, high) in
+      let last : f2 ≡ f1 = omega (arith, same, low, high) in
+      let at : n + 1 ≡ 1 + length m.meets.visits = omega (arith, m.meets.all) in
+      let line : line_of (n + 1) result ≡ visit_line (1 + length m.meets.visits) v.visit =
+      same_line (n + 1) v.visit result v.ends ∙ ap (λ k. visit_line k v.visit) at in
+      subst (Appends t0 t2) (lines_more 1 m.meets.visits v.visit)
+      (Appends-trans t0 t1 t2 (visit_lines 1 m.meets.visits) (visit_line (1 + length m.meets.visits) v.visit)
+      (m.lines first) (subst (Appends t1 t2) line (told last)));
+}

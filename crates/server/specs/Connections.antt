@@ -1,7 +1,7 @@
 -- What connections do to a listener, to a nonce source and to a register.
-use Rattle.std.specs.Prelude.{◌≡◌, ◌≤◌, ℕ, List, [], ◌∷◌, ◌++◌, length, take, map, flat_map}
+use Rattle.std.specs.Prelude.{◌≡◌, ◌≤◌, ◌+◌, ℕ, List, [], ◌∷◌, ◌++◌, length, take, map, flat_map}
 use Rattle.std.specs.Prelude.{All, Option, Some, Result, Ok, Err}
-use Rattle.std.specs.Io.KnownBytes.{Consumes}
+use Rattle.std.specs.Io.KnownBytes.{Appends, Consumes}
 use Rattle.office.specs.declared.opening.Opening.{Opening}
 use Rattle.office.specs.declared.arrival.Arrival.{Arrival}
 use Rattle.office.specs.declared.registry.Registry.{Ghosts}
@@ -17,6 +17,7 @@ use Rattle.web.specs.Requests.{IsOneRequest}
 use Rattle.server.specs.declared.connection_fault.Fault.{Fault}
 use Rattle.server.specs.declared.connection_fault.Fault.TheVariants.{Socket, Clock, Serving}
 use Rattle.server.specs.Books.{Coming, Book, IsMet, WhereTold}
+use Rattle.server.specs.Names.{connection_line}
 
 -- a request that was served, at a valid time and with a whole nonce, and its response
 pub record Talk : Type 0 where
@@ -139,6 +140,30 @@ pub record Meets {S : Type 0} (count : ℕ) (book book' : Option Book) (nonces n
   pub told : TellsAll visits book book'
   pub drawn : Consumes nonces nonces' (flat_map drawn_of visits)
   pub served : AreServed register old new visits
+
+-- ---- what is printed
+
+-- the line for a connection with this result: none if it was answered
+abbrev pub line_of : {A : Type 0} → (number : ℕ) → Result A Fault → List ℕ
+line_of number (Ok a) = []
+line_of number (Err fault) = connection_line number fault
+
+-- the line for a visit
+abbrev pub visit_line : (number : ℕ) → Visit → List ℕ
+visit_line number (answered talk) = []
+visit_line number (cut talk) = connection_line number (Serving Write)
+visit_line number (closed silence) = connection_line number silence.fault
+
+-- the lines for visits in order, which are counted from this number on
+abbrev pub visit_lines : (number : ℕ) → List Visit → List ℕ
+visit_lines number [] = []
+visit_lines number (visit ∷ visits) = visit_line number visit ++ visit_lines (number + 1) visits
+
+-- What `count` connections did. If the second output hasn't failed meanwhile, it has taken exactly their lines.
+pub record MeetsTold {S : Type 0} (count : ℕ) (book book' : Option Book) (nonces nonces' : Option (List ℕ))
+    (register : Ghosts S) (old new : S) (failed failed' : ℕ) (taken taken' : Option (List ℕ)) : Type 0 where
+  pub meets : Meets count book book' nonces nonces' register old new
+  pub lines : failed' ≡ failed → Appends taken taken' (visit_lines 1 meets.visits)
 
 -- ---- what is added to the history
 

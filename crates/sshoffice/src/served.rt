@@ -22,7 +22,7 @@ use std::io;
 use std::io::{ErrorKind, Write};
 use std::net::{Ipv4Addr, SocketAddrV4};
 use store::Store;
-use wire::{FromRead, Source};
+use wire::{FromRead, FromWrite, Source};
 
 /// Serves `connections` connections of a listener over an open office, and returns its connection with the status: 0,
 /// or 1 if there was no memory to begin with.
@@ -47,7 +47,8 @@ pub fn serve_over<R: AllocGlobal, S: Alter, L: Listener, N: Source, O: Write, E:
     ensures honest { StaysClean S.Store store.conn result.1 }
     ensures quiet { out.new ≡ out.old }
 {
-    let (status, office) = serve_keeping(rt, listener, store, nonces, connections, out, err);
+    let mut told = FromWrite::new(err);
+    let (status, office) = serve_keeping(rt, listener, store, nonces, connections, out, &mut told);
     (status, office.into_connection())
 }
 

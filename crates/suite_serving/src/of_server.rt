@@ -4,7 +4,7 @@ use memory_store::PlainStore;
 use office::Opening;
 use server::{ScriptedConnection, ScriptedListener, serve_keeping, serve_on};
 use std::test::Fail;
-use wire::{Ending, ScriptedNonces};
+use wire::{Ending, ScriptedNonces, VecSink};
 
 /// The department message of the in-memory office (trial office).
 const DEPARTMENT: &[u8] =
@@ -69,7 +69,7 @@ fn connections_in_memory_are_met_in_turn(rt: HostRuntime) -> Result<(), Fail> {
     let mut office = new_office(&rt)?;
     let mut nonces = ScriptedNonces::new(0x33, 96, Ending::Ends);
     let mut out = Vec::new(rt.alloc());
-    let mut err = Vec::new(rt.alloc());
+    let mut err = VecSink::new(Vec::new(rt.alloc()));
     let status = serve_on(
         &rt,
         &mut listener,
@@ -106,7 +106,7 @@ fn what_is_pending_is_asked_again(rt: HostRuntime) -> Result<(), Fail> {
     let mut listener = ScriptedListener::new(rt.alloc(), &all)?;
     let mut nonces = ScriptedNonces::new(0x33, 224, Ending::Ends);
     let mut out = Vec::new(rt.alloc());
-    let mut err = Vec::new(rt.alloc());
+    let mut err = VecSink::new(Vec::new(rt.alloc()));
     let (status, office) = serve_keeping(
         &rt,
         &mut listener,

@@ -11,4 +11,4 @@ returns-clause-met g c = λ done.
     (g.N.Source.remaining c.serve_keeping-status.new.nonces) (state g.S.Store c.args.store.conn) (state g.S.Store conn))
     (sym c.into_connection.ensures)
     (met_over c.args.connections _ _ _ _ _ _ _ (state g.S.Store c.args.store.conn)
-    (state g.S.Store c.serve_keeping-status.result.1.conn) (λ visits x. x) (c.serve_keeping-status.ensures.met done))
+    (state g.S.Store c.serve_keeping-status.result.1.conn) (λ visits x. x) (c.serve_keeping-status.ensures.met done).meets)
