@@ -23,7 +23,6 @@ pub struct Options {
 impl Model for Options {
     ghost use Rattle.std.specs.Prelude.{List};
     ghost use Rattle.text.specs.declared.pair.Pair.{Pair};
-
     ghost use Rattle.std.specs.Prelude.{IsTrue};
     ghost use Rattle.cert.specs.Options.{is_ascending};
 
