@@ -10,7 +10,7 @@ use Rattle.waiting.specs.Knowing.{MeansKnown}
 use Rattle.waiting.proofs.Covering.{knows_nothing}
 use Rattle.waiting.proofs.Kept.{none_kept}
 use Rattle.server.specs.Books.{Book}
-use Rattle.server.specs.Connections.{Extends, Meets}
+use Rattle.server.specs.Connections.{Extends, Meets, MeetsTold}
 
 -- `Extends` still holds for a stronger meaning before and for a weaker one after
 pub extends_as : (most : ℕ) (before before' after after' : Opening → List Arrival → Type 0)
@@ -44,4 +44,17 @@ met_as n book book' from from' r q a b c d first last honest opened x = record {
   served = λ h o l m.
       let s = x.served (honest h) o l (first o l m) in
       (s.0, s.1, last o s.0 s.2, λ answered. let k = s.3 answered in (last o s.0 k.0, opened k.1));
+}
+
+-- the same of connections whose lines were printed
+pub told_as : {S T : Type 0} (n : ℕ) (book book' : Option Book) (nonces nonces' : Option (List ℕ)) (r : Ghosts T)
+    (q : Ghosts S) (a b : T) (c d : S) (failed failed' : ℕ) (taken taken' : Option (List ℕ))
+    → ((o : Opening) (l : List Arrival) → q.means c o l → r.means a o l)
+    → ((o : Opening) (l : List Arrival) → r.means b o l → q.means d o l) → (q.is_honest d → r.is_honest b)
+    → (r.is_open b → q.is_open d) → MeetsTold n book book' nonces nonces' r a b failed failed' taken taken'
+    → MeetsTold n book book' nonces nonces' q c d failed failed' taken taken'
+unfolding met_as
+told_as n book book' from from' r q a b c d failed failed' taken taken' first last honest opened x = record {
+  meets = met_as n book book' from from' r q a b c d first last honest opened x.meets;
+  lines = x.lines;
 }

@@ -146,7 +146,7 @@ lines_more number [] visit =
     let here : number + 0 ≡ number = omega arith in
     ap (λ n. visit_line n visit) here ∙ sym (append-nil (visit_line number visit))
 lines_more number (v ∷ visits) visit =
-    let there : number + (length visits + 1) ≡ number + 1 + length visits = omega arith in
+    let there : number + length (v ∷ visits) ≡ number + 1 + length visits = omega arith in
     ap (λ n. (visit_line number v ++ visit_lines (number + 1) visits) ++ visit_line n visit) there
     ∙ append_assoc (visit_line number v) (visit_lines (number + 1) visits) (visit_line (number + 1 + length visits) visit)
     ∙ ap (λ l. visit_line number v ++ l) (lines_more (number + 1) visits visit)
@@ -154,6 +154,7 @@ lines_more number (v ∷ visits) visit =
 -- zero connections print nothing
 pub told_none : {S : Type 0} (book : Option Book) (source : Option (List ℕ)) (register : Ghosts S) (s : S) (failed : ℕ)
     (taken : Option (List ℕ)) → MeetsTold 0 book book source source register s s failed failed taken taken
+unfolding meets_none
 told_none book source register s failed taken =
     record { meets = meets_none book source register s; lines = λ same. Appends-nil taken }
 
@@ -165,6 +166,7 @@ pub told_one_more : {S T : Type 0} (n : ℕ) (result : Result T Fault) (b0 b1 b2
     → (register.is_honest s2 → IfGiven result (register.is_open s1 → register.is_open s2))
     → f0 ≤ f1 → f1 ≤ f2 → (f2 ≡ f1 → Appends t1 t2 (line_of (n + 1) result))
     → MeetsTold (n + 1) b0 b2 n0 n2 register s0 s2 f0 f2 t0 t2
+unfolding meets_more
 told_one_more n result b0 b1 b2 n0 n1 n2 register s0 s1 s2 f0 f1 f2 t0 t1 t2 m v back stays low high told = record {
   meets = meets_more n result b0 b1 b2 n0 n1 n2 register s0 s1 s2 m.meets v back stays;
   lines = λ same.

@@ -1,7 +1,7 @@
 use Rattle.std.proofs.Common.{subst, sym}
 use Rattle.waiting.specs.Knowing.{MeansKnown}
 use Rattle.server.specs.Connections.{Extends, MeetsTold}
-use Rattle.server.proofs.Keeping.{extends_as, known_at_first, met_as}
+use Rattle.server.proofs.Keeping.{extends_as, known_at_first, told_as}
 use Rattle.server.proofs.serve.serve_keeping.Goals as goal
 
 pub returns-clause-met : goal.returns-clause-met
@@ -10,18 +10,14 @@ returns-clause-met g c done =
     let means = g.S.Registry.means in
     let failed = g.E.Sink.failed in
     let taken = g.E.Sink.taken in
-    let told = c.serve_on-status.ensures.met done in
     subst (λ (s : g.row.S.Denot). MeetsTold c.args.connections (g.L.Listener.book c.args.listener.now)
     (g.L.Listener.book c.serve_on-status.new.listener) (g.N.Source.remaining c.args.nonces.now)
     (g.N.Source.remaining c.serve_on-status.new.nonces) g.S.Registry c.args.store s (failed c.args.err.now)
     (failed c.serve_on-status.new.err) (taken c.args.err.now) (taken c.serve_on-status.new.err))
     (sym c.into_register.ensures)
-    (record {
-      meets = met_as c.args.connections _ _ _ _ _ g.S.Registry _ _ c.args.store c.serve_on-status.new.store.register
-          (known_at_first means c.args.store _ _ _ _ first.register first.seen first.rows first.revoked)
-          (λ o l m. m.register_means) (λ h. h) (λ is. is) told.meets;
-      lines = told.lines;
-    })
+    (told_as c.args.connections _ _ _ _ _ g.S.Registry _ _ c.args.store c.serve_on-status.new.store.register _ _ _ _
+    (known_at_first means c.args.store _ _ _ _ first.register first.seen first.rows first.revoked) (λ o l m. m.register_means)
+    (λ h. h) (λ is. is) (c.serve_on-status.ensures.met done))
 
 pub returns-clause-served : goal.returns-clause-served
 returns-clause-served g c =

@@ -1,5 +1,5 @@
 use Rattle.std.proofs.Common.{◌≡◌, ◌≤◌, ◌+◌, ℕ, arith, subst}
-use Rattle.server.specs.Connections.{Extends}
+use Rattle.server.specs.Connections.{Extends, MeetsTold}
 use Rattle.server.proofs.Extensions.{meets_extends}
 use Rattle.server.proofs.Runs.{told_none, told_one_more}
 use Rattle.server.proofs.serve.serve_on.Goals as goal
@@ -31,6 +31,18 @@ loop-served-preserved g c =
       least = (omega (arith, at.invariant.least, told.ensures.least));
       most = (omega (arith, at.invariant.most, told.ensures.most));
     }
+
+pub returns-clause-met : goal.returns-clause-met
+returns-clause-met g c done =
+    let at = c.loop-served in
+    let book = g.L.Listener.book in
+    let remaining = g.N.Source.remaining in
+    let failures = g.E.Sink.failed in
+    let taken = g.E.Sink.taken in
+    let all : at.served ≡ c.args.connections = omega (arith, c.loop-served-test.false, at.auto.served-end) in
+    subst (λ (n : ℕ). MeetsTold n (book c.args.listener.now) (book at.listener) (remaining c.args.nonces.now)
+    (remaining at.nonces) g.S.Registry c.args.store.now at.store (failures c.args.err.now) (failures at.err)
+    (taken c.args.err.now) (taken at.err)) all at.invariant.meets
 
 pub returns-clause-served : goal.returns-clause-served
 returns-clause-served g c h =
