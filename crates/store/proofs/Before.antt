@@ -1,5 +1,5 @@
 -- Calls that leave a database as it was, whatever its tables represent.
-use Rattle.std.proofs.Common.{◌≡◌, inl, inr, IsTrue, refl, subst, sym, ◌∙◌}
+use Rattle.std.proofs.Common.{◌≡◌, inl, inr, IsTrue, false, refl, subst, sym, ◌∙◌}
 use Rattle.std.specs.Prelude.{Result, Ok, Err, OnErr}
 use Rattle.sqlite.specs.State.{Shows, State}
 use Rattle.office.specs.declared.arrival.Outcome.{Outcome}
