@@ -1,16 +1,15 @@
-//! What only calls can show: that a connection closes cleanly if memory and the disk suffice, and that some failures of
-//! the disk have it abandoned, or leave its log uncopied.
+//! What only calls can show: that a connection closes cleanly if memory and the disk suffice.
 
 use crate::{EndFault, end_at};
 use sqlite::{Connection, FileStore, Files, Options};
 use sqlite_disk::{Disk, Fuse, Memory};
 use std::alloc::Global;
 
-/// Files in memory, of which each takes this many calls and fails each one after them.
-fn files_with(alloc: Global, log_calls: u64, db_calls: u64) -> Files<Fuse<Memory>> {
+/// Files in memory, whose log takes this many calls and fails each one after them.
+fn files_with(alloc: Global, log_calls: u64) -> Files<Fuse<Memory>> {
     Files {
         log: Fuse::new(Memory::new(alloc), log_calls),
-        db: Fuse::new(Memory::new(alloc), db_calls),
+        db: Fuse::new(Memory::new(alloc), u64::MAX),
     }
 }
 
@@ -52,9 +51,9 @@ fn ended_by(how: Result<(), EndFault>) -> Ended {
     }
 }
 
-/// How a run that creates a table ends in files that take this many calls, and whether the files then have the table.
-fn run_with(alloc: Global, log_calls: u64, db_calls: u64) -> (Ended, bool) {
-    match opened(alloc, files_with(alloc, log_calls, db_calls)) {
+/// How a run that creates a table ends if the log takes this many calls, and whether the files then have the table.
+fn run_with(alloc: Global, log_calls: u64) -> (Ended, bool) {
+    match opened(alloc, files_with(alloc, log_calls)) {
         Some(conn) => {
             let mut conn = conn;
             let _ = conn.execute("CREATE TABLE note (text TEXT)", &[]);
@@ -67,38 +66,5 @@ fn run_with(alloc: Global, log_calls: u64, db_calls: u64) -> (Ended, bool) {
 
 #[test]
 fn an_open_connection_is_closed(rt: HostRuntime) {
-    assert_eq!(rt;
-        run_with(rt.alloc(), u64::MAX, u64::MAX),
-        (Ended::Closed, true)
-    );
-}
-
-/// Whether a run ends in this way with a log that fails after some number of calls.
-fn ends_by_its_log(alloc: Global, wanted: Ended) -> bool {
-    for calls in 0..64 {
-        if run_with(alloc, calls, u64::MAX).0 == wanted {
-            return true;
-        }
-    }
-    false
-}
-
-/// Whether a run ends in this way with a database file that fails after some number of calls.
-fn ends_by_its_file(alloc: Global, wanted: Ended) -> bool {
-    for calls in 0..64 {
-        if run_with(alloc, u64::MAX, calls).0 == wanted {
-            return true;
-        }
-    }
-    false
-}
-
-#[test]
-fn a_connection_that_a_failed_log_has_shut_is_given_up(rt: HostRuntime) {
-    assert!(rt; ends_by_its_log(rt.alloc(), Ended::GivenUp));
-}
-
-#[test]
-fn a_log_that_a_failed_file_does_not_take_is_told_uncopied(rt: HostRuntime) {
-    assert!(rt; ends_by_its_file(rt.alloc(), Ended::Uncopied));
+    assert_eq!(rt; run_with(rt.alloc(), u64::MAX), (Ended::Closed, true));
 }
