@@ -1,4 +1,4 @@
-//! Tests of `wire`, `lines`, `cert` and `krl` for behavior that only function calls can show.
+//! Tests of `wire`, `lines`, `cert`, `krl` and `station_jobs` for behavior that only function calls can show.
 //!
 //! They use only public functions: readers and writers that end and fail, and the names of faults that no command
 //! prints. Expected values come from independent sources. What the built programs can show about texts, unsigned
@@ -12,5 +12,7 @@ mod of_cert;
 mod of_krl;
 #[cfg(test)]
 mod of_lines;
+#[cfg(test)]
+mod of_output;
 #[cfg(test)]
 mod of_wire;
