@@ -9,6 +9,7 @@ import random
 import re
 import shutil
 import signal
+import socket
 import subprocess
 import time
 
@@ -102,11 +103,11 @@ def signature_of(key, text):
 
 class FalseOffice(Web):
     """A server that gives these bodies by their serials, and says of them what is pending: without rows, the serial of
-    each and its digest. It keeps what is delivered."""
+    each and its digest. It keeps what is delivered. For the body of a serial in `broken` it gives these bytes."""
 
-    def __init__(self, bodies, rows=None):
+    def __init__(self, bodies, rows=None, broken=()):
         super().__init__()
-        self.bodies, self.delivered = bodies, []
+        self.bodies, self.broken, self.delivered = bodies, dict(broken), []
         rows = [(serial, digest_of(it)) for serial, it in bodies.items()] if rows is None else rows
         self.rows = "".join(f"{serial} {digest}\n" for serial, digest in rows)
 
@@ -120,6 +121,8 @@ class FalseOffice(Web):
             peer.sendall(response(self.delivered[-1].splitlines()[0].replace("deliver", "signed").encode() + b"\n"))
         elif target == "/v1/pending":
             peer.sendall(response(self.rows.encode()))
+        elif found and int(found[1]) in self.broken:
+            peer.sendall(self.broken[int(found[1])])
         elif found and int(found[1]) in self.bodies:
             peer.sendall(response(self.bodies[int(found[1])]))
         else:
@@ -135,9 +138,9 @@ def alone(sshstation, make_office):
     return guard
 
 
-def shown(guard, bodies, rows=None, **how):
+def shown(guard, bodies, rows=None, broken=(), **how):
     """What a station signs of the bodies of a false office, and what it says."""
-    with FalseOffice(bodies, rows) as false:
+    with FalseOffice(bodies, rows, broken) as false:
         how = {"ahead": 3600} | how
         status, out, errors = Station(guard, false.url, guard.key, **how).once()
         return status, out, errors, false.delivered
@@ -255,6 +258,10 @@ def test_what_is_no_list_of_pending_certificates_is_not_followed(alone, rows):
         assert 1 == len(web.requests)
 
 
+# An answer with a chunk of fewer than no bytes, at which Python's http.client raises a ValueError.
+NEGATIVE_CHUNK = b"HTTP/1.1 200 OK\r\ntransfer-encoding: chunked\r\n\r\n-5\r\nabc"
+
+
 @pytest.mark.parametrize("answer, why", [
     (response(b"", "302 Found\r\nlocation: http://127.0.0.1:1/"), "302"),
     (response(b"", "302 Found\r\nlocation: http://["), "302"),
@@ -263,9 +270,10 @@ def test_what_is_no_list_of_pending_certificates_is_not_followed(alone, rows):
     (b"no answer of HTTP\r\n\r\n", None),
     (b"HTTP/1.1 200 OK\r\ntransfer-encoding: chunked\r\n\r\nfff\r\n1 ", None),
     (b"HTTP/1.1 200 OK\r\ntransfer-encoding: chunked\r\n\r\nx\r\n", None),
+    (NEGATIVE_CHUNK, None),
     (b"", None),
 ], ids=["a redirect", "a redirect to no address", "half an answer", "letters that move the cursor", "another protocol",
-        "half a chunk", "no chunk", "nothing"])
+        "half a chunk", "no chunk", "a negative chunk", "nothing"])
 def test_an_answer_that_is_none_is_said(alone, answer, why):
     with Web(answer) as web:
         status, out, errors = Station(alone, web.url, alone.key).once()
@@ -327,25 +335,65 @@ def test_an_office_that_has_many_reasons_is_not_quoted_without_end(alone):
                 ] == errors[19:]
 
 
+class Dripping(Web):
+    """A server that gives so many bytes of its answer at once, and then one a second, so that no single wait is
+    long."""
+
+    def __init__(self, at_once=0):
+        super().__init__(response(64 * (b"1 " + 64 * b"a" + b"\n")))
+        self.at_once = at_once
+
+    def finish_request(self, peer, address):
+        self.requests.append(whole_request(peer))
+        with contextlib.suppress(OSError):
+            peer.sendall(self.answer[:self.at_once])
+            for it in self.answer[self.at_once:]:
+                peer.sendall(bytes([it]))
+                time.sleep(1)
+
+
 @pytest.mark.slow
 @pytest.mark.parametrize("at_once", [0, 200], ids=["from its head on", "from its body on"])
 def test_an_answer_that_drips_is_given_up(alone, at_once):
-    """A letter a second, so that no single wait is long."""
-    class Dripping(Web):
-        def finish_request(self, peer, address):
-            whole_request(peer)
-            answer = response(64 * (b"1 " + 64 * b"a" + b"\n"))
-            with contextlib.suppress(OSError):
-                peer.sendall(answer[:at_once])
-                for it in answer[at_once:]:
-                    peer.sendall(bytes([it]))
-                    time.sleep(1)
-
-    with Dripping() as web:
+    with Dripping(at_once) as web:
         begun = time.monotonic()
         status, out, errors = Station(alone, web.url, alone.key).once()
         assert (1, [], 1) == (status, out, len(errors)) and "not within 20 seconds" in errors[0]
         assert 19 < time.monotonic() - begun < 60
+
+
+# A name with two addresses, for a program of Python.
+TWO_ADDRESSES = """\
+import socket
+socket.getaddrinfo = lambda host, port, *_: [
+    (socket.AF_INET, socket.SOCK_STREAM, 0, "", (it, port)) for it in ("127.0.0.2", "127.0.0.1")]
+"""
+
+
+@contextlib.contextmanager
+def silent(address):
+    """A listener that takes no more connections, and doesn't say so."""
+    with contextlib.ExitStack() as kept, socket.socket() as listener:
+        listener.bind(address)
+        listener.listen(0)
+        for peer in [kept.enter_context(socket.socket()) for _ in range(4)]:
+            peer.setblocking(False)
+            with contextlib.suppress(BlockingIOError):
+                peer.connect(address)
+        yield
+
+
+@pytest.mark.slow
+def test_the_time_of_a_request_is_that_of_all_addresses(alone, room):
+    """The first address doesn't answer, so the time is over before the second one begins to drip. The library goes on
+    to the next address after each OSError."""
+    (room / "sitecustomize.py").write_text(TWO_ADDRESSES)
+    with Dripping() as web, silent(("127.0.0.2", web.port)):
+        begun = time.monotonic()
+        station = Station(alone, f"http://front.test:{web.port}", alone.key)
+        said = f"station: {station.url} doesn't answer: not within 20 seconds"
+        assert (1, [], [said]) == station.once(PYTHONPATH=str(room))
+        assert 19 < time.monotonic() - begun < 60 and [] == web.requests
 
 
 def test_the_url_is_taken_as_it_is(alone):
@@ -360,12 +408,15 @@ def test_a_proxy_of_the_environment_is_not_asked(alone):
         assert ([], 1) == (proxy.requests, len(web.requests))
 
 
-def test_a_body_that_cannot_be_had_starves_no_other(alone):
+@pytest.mark.parametrize("broken, why", [
+    ({}, "404 refused 17 UnknownSerial"), ({2: NEGATIVE_CHUNK}, ".+"), ({2: b""}, ".+"),
+], ids=["none", "a negative chunk", "nothing"])
+def test_a_body_that_cannot_be_had_starves_no_other(alone, broken, why):
     bodies = {serial: body(serial, ca=alone.blob) for serial in (1, 3)}
     rows = [(1, digest_of(bodies[1])), (2, NOBODY), (3, digest_of(bodies[3]))]
-    said = "station: not signed: 1, 404 refused 17 UnknownSerial: 2"
-    status, out, errors, _ = shown(alone, bodies, rows)
-    assert (1, ["signed 1", "signed 3"], [said]) == (status, out, errors)
+    status, out, errors, _ = shown(alone, bodies, rows, broken)
+    assert (1, ["signed 1", "signed 3"], 1) == (status, out, len(errors))
+    assert re.fullmatch(f"station: not signed: 1, {why}: 2", errors[0])
 
 
 def test_a_body_of_another_ca_is_left_alone(alone, room):
