@@ -3,6 +3,7 @@ rollover, and a guard that is killed. What is signed is tried with ssh-keygen an
 import base64
 import contextlib
 import getpass
+import math
 import os
 import pathlib
 import random
@@ -335,6 +336,39 @@ def test_an_office_that_has_many_reasons_is_not_quoted_without_end(alone):
                 ] == errors[19:]
 
 
+def test_what_an_office_makes_up_takes_no_place_of_the_guards_reasons(alone):
+    """Twenty texts and twenty CAs are shown, and what the guard refuses behind them is, too."""
+    texts = {serial: response(b"reason %d" % serial, "500 Broken") for serial in range(1, 31)}
+    cas = {serial: body(serial, ca=key_blob(serial)) for serial in range(31, 61)}
+    bodies = {serial: b"" for serial in texts} | cas | {61: body(61, ca=alone.blob, **ROOT), 62: b""}
+    status, out, errors, _ = shown(alone, bodies, broken=texts)
+    assert (1, [], 20 + 1 + 20 + 1 + 2) == (status, out, len(errors))
+    assert "station: not signed: 10, for other reasons: 21-30" == errors[20]
+    assert "station: not signed: 10, refused as OtherCa, of other CAs: 51-60" == errors[41]
+    assert ["station: not signed: 1, refused as NotPermitted: 61",
+            "station: not signed: 1, refused as NotABody Truncated: 62"] == errors[42:]
+
+
+@pytest.mark.slow
+def test_a_long_round_says_what_was_refused(alone, programs):
+    """Each body behind one that is refused drips, for 20 seconds."""
+    class Slow(FalseOffice):
+        def finish_request(self, peer, address):
+            if not re.match(rb"GET /v1/certs/[2-9]/", came := whole_request(peer)):
+                return peer.sendall(response((self.rows if b"/pending " in came else "").encode())
+                                    if b"/1/" not in came else response(self.bodies[1]))
+            with contextlib.suppress(OSError):
+                for it in response(bytes(100)):
+                    peer.sendall(bytes([it]))
+                    time.sleep(1)
+
+    with Slow({1: body(ca=alone.blob, **ROOT)} | {serial: b"" for serial in range(2, 10)}) as web:
+        begun = time.monotonic()
+        process = Station(alone, web.url, alone.key).begin(programs)
+        assert b"station: not signed: 1, refused as NotPermitted: 1\n" == process.stderr.readline()
+        assert time.monotonic() - begun < 60
+
+
 class Dripping(Web):
     """A server that gives so many bytes of its answer at once, and then one a second, so that no single wait is
     long."""
@@ -417,6 +451,57 @@ def test_a_body_that_cannot_be_had_starves_no_other(alone, broken, why):
     status, out, errors, _ = shown(alone, bodies, rows, broken)
     assert (1, ["signed 1", "signed 3"], 1) == (status, out, len(errors))
     assert re.fullmatch(f"station: not signed: 1, {why}: 2", errors[0])
+
+
+def changed_station(room, station, old, new):
+    """Has a station run a copy of the script, with this change."""
+    text = (EXAMPLES / "station").read_text()
+    assert 1 == text.count(old)
+    copy = room / "changed-station"
+    copy.write_text(text.replace(old, new))
+    copy.chmod(0o755)
+    station.words[0] = copy
+
+
+def test_the_first_of_more_than_fit_are_signed(alone, room):
+    """A row has 67 bytes, so 200 bytes are two rows and a piece of the third."""
+    with FalseOffice({serial: body(serial, ca=alone.blob) for serial in (1, 2, 3)}) as web:
+        station = Station(alone, web.url, alone.key, ahead=3600)
+        changed_station(room, station, "LONGEST_PENDING, LONGEST_BODY, LONGEST_REPLY, LONGEST_LIST = 1 << 26,",
+                        "LONGEST_PENDING, LONGEST_BODY, LONGEST_REPLY, LONGEST_LIST = 200,")
+        said = "station: of what is pending only the first 200 bytes are looked at"
+        assert (1, ["signed 1", "signed 2"], [said]) == station.once()
+
+
+def test_what_was_refused_holds_up_nothing_new(alone, programs, room):
+    """A station that keeps no bodies fetches each that it tries to sign: the requests show which, and in which order.
+    What was refused comes after what is new, and after pauses of 1, 2, 4 .. seconds, unless the policy has changed."""
+    bodies = {serial: body(serial, ca=alone.blob, **ROOT if serial < 3 else {}) for serial in (1, 2, 3)}
+    with FalseOffice(bodies, [(serial, digest_of(bodies[serial])) for serial in (1, 2)]) as web:
+        station = Station(alone, web.url, alone.key, ahead=3600)
+        changed_station(room, station, "MOST_KEPT = 1 << 24", "MOST_KEPT = 0")
+
+        def asked():
+            return [it.split()[1].decode().removeprefix("/v1/") for it in web.requests]
+
+        def rounds(more):
+            until(lambda count=asked().count("pending"): asked().count("pending") >= count + more, seconds=90)
+
+        begun = time.monotonic()
+        process = station.begin(programs)
+        rounds(8)
+        tries, passed = asked().count("certs/1/body"), time.monotonic() - begun
+        assert 2 <= tries <= 1 + math.log2(1 + passed)
+        web.rows += f"3 {digest_of(bodies[3])}\n"
+        until(lambda: web.delivered, seconds=60)
+        assert "pending" == asked()[asked().index("certs/3/body") - 1]
+        tries = asked().count("certs/1/body")
+        alone.permit(WEB)
+        rounds(3)
+        assert asked().count("certs/1/body") > tries
+        status, out, errors = stopped(process)
+        assert (0, {"signed 3"}) == (status, {*out})
+        assert ["station: not signed: 2, refused as NotPermitted: 1-2"] == errors
 
 
 def test_a_body_of_another_ca_is_left_alone(alone, room):
