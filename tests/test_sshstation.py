@@ -336,9 +336,9 @@ def test_a_guard_that_is_open_is_not_opened_again(guard, room, programs):
 class Open:
     """A `judge` that reads paths, and answers each."""
 
-    def __init__(self, guard, programs, *words):
-        self.process = programs.begin([guard.program, "judge", "--db", "guard.db", "--policy", "policy", *words, "-"],
-                                      stdin=subprocess.PIPE, stdout=subprocess.PIPE, stderr=subprocess.PIPE)
+    def __init__(self, guard, programs, **how):
+        self.process = programs.begin([guard.program, "judge", "--db", "guard.db", "--policy", "policy", "-"],
+                                      stdin=subprocess.PIPE, stdout=subprocess.PIPE, stderr=subprocess.PIPE, **how)
 
     def ask(self, path):
         self.process.stdin.write(os.fsencode(f"{path}\n"))
@@ -512,3 +512,22 @@ def test_a_clock_past_the_latest_moment_is_a_fault(guard, room, moment, wanted):
     strange = preloaded("strange_system.c", room)
     assert wanted == guard.judge("a", env=os.environ | {"LD_PRELOAD": str(strange), "MOMENT": str(moment)})
     assert [] == guard.bodies()
+
+
+def test_each_body_is_judged_at_the_time_at_which_its_path_is_read(guard, room, programs):
+    """Proved is only that each time is one of the clock: a guard that runs for months reads it again for each body."""
+    early, late = {"after": 1000, "before": 2000}, {"after": 9000, "before": 9500}
+    data = {"a": body(1, **early), "b": body(2, **early), "c": body(3, **late)}
+    put(room, moment=b"1500", **data)
+    strange = preloaded("strange_system.c", room)
+    opened = Open(guard, programs, env=os.environ | {"LD_PRELOAD": str(strange), "MOMENT_FILE": str(room / "moment")})
+    assert sign(1, data["a"]) == opened.ask("a")
+    assert "refuse TooFarAhead\n" == opened.ask("c")
+    put(room, moment=b"2000")
+    assert "refuse AlreadyEnded\n" == opened.ask("b")
+    put(room, moment=b"5399")
+    assert "refuse TooFarAhead\n" == opened.ask("c")
+    put(room, moment=b"5400")
+    assert sign(3, data["c"]) == opened.ask("c")
+    assert (0, "", "") == opened.end()
+    assert [("1", "1500"), ("3", "5400")] == [(serial, moment) for serial, _, moment, _ in guard.bodies()]

@@ -2,6 +2,7 @@
 
      EARLY_CLOCK      the time is before 1970
      MOMENT=N         the time is N seconds after the beginning of 1970, and it can't be told where N is `none`
+     MOMENT_FILE=FILE the same, with the number that the file has whenever the time is read
      TICK=N           the clock of waits goes on by N milliseconds whenever it is read, and it fails where N is `none`
      HURRIED=N        a socket waits for the Nth part of the time that was set
      WAITS=FILE       each time that is set is added to this file: `read` or `write`, and its microseconds
@@ -32,7 +33,13 @@ int clock_gettime(clockid_t clock, struct timespec *now) {
     int status = syscall(SYS_clock_gettime, clock, now);
     if (status != 0) return status;
     if (clock == CLOCK_REALTIME) {
-        const char *moment = getenv("MOMENT");
+        const char *moment = getenv("MOMENT"), *path = getenv("MOMENT_FILE");
+        char text[32];
+        FILE *file = path ? fopen(path, "r") : NULL;
+        if (file) {
+            if (fgets(text, sizeof text, file)) moment = text;
+            fclose(file);
+        }
         if (moment && !strcmp(moment, "none")) return fail(EINVAL);
         if (moment) *now = (struct timespec){strtoll(moment, NULL, 10), 0};
         if (getenv("EARLY_CLOCK")) now->tv_sec = -1;
