@@ -579,8 +579,8 @@ def keeping(room, monkeypatch):
     (room / "first.policy").touch()
     (room / "first.db").touch()
 
-    def do():
-        given = argparse.Namespace(yes=True, name="first", policy=None, principals=None, host=[], first="1")
+    def do(first=None):
+        given = argparse.Namespace(yes=True, name="first", policy=None, principals=None, host=[], first=first)
         steps = station.setting_up.Steps(given, "vethlumi-station-setup")
         station.key_steps(given, steps, lambda kind: room / f"first.{kind}")
         steps.carry_out()
@@ -613,6 +613,20 @@ def test_a_station_has_its_key_among_those_of_all_cas(room, keeping, monkeypatch
         monkeypatch.setattr(station, "put", station.setting_up.put)
         do()
         assert (line, f"another\n{line}") == ((room / "first.pub").read_text(), (room / "cas.pub").read_text()), written
+
+
+def test_a_lost_guard_is_not_made_again_unless_somebody_names_its_first_serial(room, keeping, monkeypatch):
+    """A new one would approve second certificates. One that was half made is made again."""
+    station, do = keeping
+    made = []
+    monkeypatch.setattr(station.setting_up, "put_database", lambda user, path, make: made.append(path))
+    assert (1, 0, []) == (do(), do(), made)
+    (room / "first.db").unlink()
+    with pytest.raises(station.Fault, match="its guard's file .*/first.db isn't"):
+        do()
+    assert (1, [room / "first.db"]) == (do("8"), made)
+    (room / "first.db.new").touch()
+    assert (1, [room / "first.db"] * 2) == (do(), made)
 
 
 def test_a_station_may_be_connected_in_the_run_that_makes_its_key(room, keeping, monkeypatch):

@@ -16,8 +16,8 @@ import time
 
 import pytest
 
-from asking import (LATEST, blob_of, body, department, digest_of, issue, key_blob, lasting, revoke_keyid, revoke_range,
-                    rollover, string)
+from asking import (LAST_SERIAL, LATEST, blob_of, body, department, digest_of, issue, key_blob, lasting, revoke_keyid,
+                    revoke_range, rollover, string)
 from fetching import Web, response
 from recording import whole_request
 from running import EXAMPLES, free_port, is_listening, run, until
@@ -585,6 +585,8 @@ def test_help(room):
     (["--agent", "none"], "can't read none: No such file or directory"),
     (["--agent", "no-key"], "no-key has another line than those of Ed25519 public keys"),
     (["--pkcs11", "m", "--id", "01", "--pin-file", "none"], "can't read none: No such file or directory"),
+    (["--pkcs11", "m", "--id", "01", "--pin-file", "no-pin"], "the first line of no-pin is no PIN"),
+    (["--key", "no-key", "--other-ca", "no-blob"], "no-blob has another line than those of Ed25519 public keys"),
     (["--key", "no-key", "--cacert", "none"], "can't read none"),
     (["--key", "no-key", "--other-ca", "no-key"], "no-key has another line than those of Ed25519 public keys"),
     (["--key", "no-key", "--lists", "lists.db", "--list-ca", "no-key"],
@@ -592,6 +594,8 @@ def test_help(room):
 ], ids=lambda it: " ".join(it) if isinstance(it, list) else "")
 def test_a_file_that_cannot_be_read_is_named(alone, room, key, why):
     (room / "no-key").write_text("no key\n")
+    (room / "no-pin").write_bytes(b"\xff\0\n")
+    (room / "no-blob").write_text(f"ssh-ed25519 {'A' * 68}\n")
     environment = {"SSH_AUTH_SOCK": "nobody"}
     assert (1, [], [f"station: {why}"]) == Station(alone, "http://127.0.0.1:1", key).once(**environment)
 
@@ -616,6 +620,19 @@ def test_a_guard_that_cannot_judge_ends_the_station(alone, spoil, why):
     with Web(response(b"")) as web:
         status, out, errors = Station(alone, web.url, alone.key).once()
     assert (1, [], f"sshstation: {why}") == (status, out, errors[0])
+
+
+def test_a_guard_that_hangs_ends_the_station(alone, programs, room):
+    with FalseOffice({1: body(ca=alone.blob)}, []) as web:
+        station = Station(alone, web.url, alone.key)
+        changed_station(room, station, "LONGEST_JUDGING = 600", "LONGEST_JUDGING = 2")
+        process = station.begin(programs)
+        until(lambda: web.requests, seconds=60)
+        [guard] = children(process.pid)
+        os.kill(guard, signal.SIGSTOP)
+        web.rows = f"1 {digest_of(web.bodies[1])}\n"
+        assert 1 == process.wait(60)
+        assert b"station: the guard doesn't answer: not within 2 seconds\n" == process.stderr.read()
 
 
 # ---- a station that goes on
@@ -735,6 +752,19 @@ def test_an_old_backup_gets_no_second_body_signed(asked, sshd, room, program, ss
         (room / "krl").write_bytes(served.get("/v1/krl").body)
     assert 1 == run(["ssh-keygen", "-Q", "-f", "krl", "second-cert.pub"]).returncode
     assert ["1", "2", "3", "4"] == [it[0] for it in asked.guard.bodies()]
+
+
+def test_serials_that_are_used_up_before_the_office_assigns_them(asked):
+    """A false office brings permitted bodies under them. The office's own come later, and are never signed."""
+    asked.guard.key = ["--key", asked.office.ca_key]
+    bodies = {serial: body(serial, ca=asked.blob) for serial in (2, 3, LAST_SERIAL)}
+    assert (0, [f"signed {it}" for it in bodies], []) == shown(asked.guard, bodies)[:3]
+    new_key("alice")
+    assert [1, 2, 3, 4] == [issued(asked, "alice") for _ in range(4)]
+    said = ["station: not signed: 2, refused as SerialTaken: 2-3"]
+    assert (1, ["signed 1", "signed 4"], said) == asked.station.once()
+    retired = asked.guard.run("retire", "--db", asked.guard.db, "--last", 4)
+    assert (1, b"", b"sshstation: SerialApproved\n") == retired
 
 
 def test_the_guard_knows_what_is_out_when_the_office_is_lost(asked):
