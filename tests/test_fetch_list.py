@@ -299,6 +299,14 @@ def test_a_signer_is_named_for_lists(web, room, how):
     assert (1, True) == (status, why.startswith("refused as NotSigned: ")), why
 
 
+@pytest.mark.parametrize("name, why", [("none", "No such file or directory"), (".", "Is a directory")])
+def test_signers_that_cannot_be_read_are_said(web, signer, room, name, why):
+    """That is no sign of a false list."""
+    answered(web, signer.published(LIST))
+    assert (1, f"can't read {name}: {why}; list is as it was") \
+        == said_by(script("fetch-list", "--signers", name, web.url, "list"))
+
+
 def test_an_older_statement_is_not_taken(fetch, room):
     now = int(time.time())
     assert (0, "") == fetch(fetch.signer.published(LIST, moment=now - 100))
@@ -415,6 +423,42 @@ def test_metrics_that_cannot_be_written_are_said(fetch, room):
     assert (1, "can't write none/metrics: No such file or directory") \
         == fetch(fetch.signer.published(LIST), "list", "--metrics", "none/metrics")
     assert LIST == (room / "list").read_bytes()
+
+
+def test_a_statement_that_is_left_says_nothing_without_a_station(fetch, believe, room):
+    """Of a list that a station stated an hour ago, and that is fetched without one now."""
+    old = int(time.time()) - 3700
+    assert 3 == fetch(fetch.signer.published(LIST, moment=old), "list", "--metrics", "metrics")[0]
+    assert (0, "") == believe(LIST, "list", "--metrics", "metrics")
+    assert (0, old) == (metrics()["office_list_fresh"], metrics()["office_list_stated_timestamp_seconds"])
+
+
+@pytest.mark.parametrize("folder", ["", "folder/"])
+def test_metrics_that_a_killed_run_has_left_are_removed(fetch, room, folder):
+    """What another run may be writing now, and what isn't named so, stays."""
+    (room / "folder").mkdir()
+    left, young, other = (f"{folder}metrics.{it}" for it in ("new.left", "new.young", "old"))
+    for it in (left, young, other):
+        (room / it).write_text("office_list_version 3\n")
+    for it in (left, other):
+        os.utime(room / it, (1000, 1000))
+    assert (0, "") == fetch(fetch.signer.published(LIST), "list", "--metrics", f"{folder}metrics")
+    assert [False, True, True] == [(room / it).exists() for it in (left, young, other)]
+    assert "office_list_version 3\n" in (room / folder / "metrics").read_text()
+
+
+@pytest.mark.root
+def test_metrics_on_a_full_disk_are_those_of_before(fetch, room):
+    with small_disk(room / "disk") as fill:
+        words = ["list", "--metrics", "disk/metrics"]
+        assert (0, "") == fetch(fetch.signer.published(LIST), *words)
+        before = (room / "disk/metrics").read_bytes()
+        fill(0)
+        status, why = fetch(fetch.signer.published(NEWER), *words)
+        assert (1, "can't write disk/metrics: No space left on device") == (status, why)
+        assert before == (room / "disk/metrics").read_bytes()
+        assert {"filling", "metrics"} == {*shown("disk")}
+        assert NEWER == (room / "list").read_bytes()
 
 
 # ---- without a station
@@ -618,7 +662,7 @@ def test_a_kill_at_any_moment_leaves_the_old_or_the_new(either, web, room):
     """Neither is lost, and each statement that is found beside it is of one of them."""
     old = either.of(LIST)
     web.answer = response(old)
-    words = [EXAMPLES / "fetch-list", *either.words, web.url, "list"]
+    words = [EXAMPLES / "fetch-list", *either.words, "--metrics", "metrics", web.url, "list"]
     assert 0 == run(words).returncode
     web.answer = response(either.of(NEWER))
     for number in range(20):
@@ -628,9 +672,29 @@ def test_a_kill_at_any_moment_leaves_the_old_or_the_new(either, web, room):
             os.killpg(process.pid, signal.SIGKILL)
         process.wait()
         assert (room / "list").read_bytes() in (LIST, NEWER)
+        assert metrics()["office_list_version"] in (3, 4)
+    # What is left of metrics is removed if it is older than a minute.
+    for it in room.glob("metrics.*"):
+        os.utime(it, (1000, 1000))
     assert (0, "", []) == script("fetch-list", *words[1:])
     assert NEWER == (room / "list").read_bytes()
+    assert ["metrics"] == [it for it in shown() if it.startswith("metrics")]
     assert either.kept == sorted(it for it in shown() if it.startswith("list"))
+
+
+def test_a_kill_between_the_list_and_its_statement(fetch, room):
+    """The list is the new one then, and the statement that of the one before: no older list comes back, nothing is
+    said to be fresh, and the next statement makes it whole."""
+    signer, now = fetch.signer, int(time.time())
+    assert (0, "") == fetch(signer.published(LIST, moment=now - 9))
+    (room / "list").write_bytes(NEWER)
+    said = "refused as OlderVersion: version 3 came, and 4 is in place; list is as it was"
+    assert (1, said) == fetch(signer.published(LIST, moment=now), "list", "--metrics", "metrics")
+    assert (NEWER, 4, 0) == ((room / "list").read_bytes(), metrics()["office_list_version"],
+                             metrics()["office_list_fresh"])
+    assert fetch(signer.published(NEWER, moment=now - 10))[1].startswith("refused as OlderStatement: ")
+    assert (0, "") == fetch(signer.published(NEWER, moment=now), "list", "--metrics", "metrics")
+    assert (NEWER, 1) == ((room / "list").read_bytes(), metrics()["office_list_fresh"])
 
 
 def test_a_program_that_is_missing_is_named(either, web, room):
@@ -648,6 +712,7 @@ BAD_WORDS = [
     (["--signers", "s", "--ca", "c", "http://a", "list"], "--unsigned needs --ca, and --signers doesn't"),
     (["--signers", "s", "file:///etc/passwd", "list"], "no URL: file:///etc/passwd"),
     (["--signers", "s", "--fresh", "0", "http://a", "list"], "--fresh is at least 1"),
+    (["--signers", "s", "--metrics", "./list", "http://a", "list"], "--metrics and LIST are one file"),
     (["--no-such-word", "http://a", "list"], "unrecognized arguments: --no-such-word"),
 ]
 
