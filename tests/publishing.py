@@ -35,6 +35,13 @@ def krl(version, revoked=(), ca=CA, *, key_ids=(), ranges=(), more=b"", date=100
     return head + some + more
 
 
+def bitmaps(version, ca=CA, count=1000):
+    """A list of 2 MB for which ssh-keygen needs 520 MB: serials that are no neighbours, 8192 in each bitmap."""
+    parts = b"".join(b"\x22" + string((1 + 16384 * it).to_bytes(8, "big") + string(b"\0" + 2047 * b"\xaa" + b"\xab"))
+                     for it in range(count))
+    return krl(version, more=b"\1" + string(string(ca) + string(b"") + parts))
+
+
 LIST, NEWER = krl(3, [1, 2, 9]), krl(4, [1, 2, 9, 11])
 
 

@@ -14,7 +14,8 @@ import time
 import pytest
 
 from fetching import Web, response, script, shown, small_disk
-from publishing import CA, HIGHEST, LIST, NEWER, OTHER_CA, Signer, is_signed, key_line, krl, section, statement
+from publishing import (CA, HIGHEST, LIST, NEWER, OTHER_CA, Signer, bitmaps, is_signed, key_line, krl, section,
+                        statement)
 from running import EXAMPLES, free_port, run
 
 UNSIGNED = ["--unsigned", "--ca", "ca.pub"]
@@ -158,6 +159,16 @@ def test_a_list_that_is_not_read_for_lack_of_memory_stays(either, room, end):
     assert LIST == (room / "list").read_bytes()
 
 
+@pytest.mark.slow
+@pytest.mark.alone
+def test_a_list_that_takes_too_much_memory_to_read_is_left_out(believe, room):
+    """The unit's limit would end fetch-list with ssh-keygen, and nothing would be said."""
+    (room / "list").write_bytes(LIST)
+    said = "ssh-keygen was killed, or has too little memory, and has read no list; list is as it was"
+    assert (1, said) == believe(bitmaps(4), "list", "--metrics", "metrics")
+    assert (LIST, 0) == ((room / "list").read_bytes(), metrics()["office_list_taken"])
+
+
 def test_no_two_lists_of_one_version(either, room):
     (room / "list").write_bytes(LIST)
     for other in (krl(3, [1, 2, 9, 11]), krl(3, [1, 2, 9], date=1001), krl(3)):
@@ -203,7 +214,7 @@ def test_if_no_list_comes_the_one_in_place_stays(request, web, room, answer, why
 @pytest.mark.slow
 @pytest.mark.timeout(300)
 def test_an_endless_body_ends(either, web, room):
-    """Of what OpenSSH would read as a list, 128 MiB, no more is kept, and nothing afterwards; or the time is over."""
+    """Of the longest list, 32 MiB, no more is kept, and nothing afterwards; or the time is over."""
     with tempfile.TemporaryDirectory(dir="/dev/shm") as folder:
         file = pathlib.Path(folder) / "list"
         file.write_bytes(LIST)

@@ -14,7 +14,7 @@ import pytest
 
 from asking import department
 from fetching import Web, response, script, small_disk
-from publishing import HIGHEST, OTHER_CA, Signer, is_signed, key_line, krl, parted, statement
+from publishing import HIGHEST, OTHER_CA, Signer, bitmaps, is_signed, key_line, krl, parted, statement
 from recording import getting, statuses, whole_request
 from running import EXAMPLES, free_port, is_listening, run, until
 from stations import Lists, Station, new_guard, stopped
@@ -32,6 +32,7 @@ class FalseOffice(Web):
     def finish_request(self, peer, address):
         came = whole_request(peer)
         self.requests.append(came)
+        peer.settimeout(60)
         if came:
             peer.sendall(response({b"/v1/krl": self.list, b"/v1/pending": b""}.get(came.split(b" ")[1], b"")))
 
@@ -255,6 +256,26 @@ def test_no_list_of_a_false_office_is_published(site, programs):
     assert 0 == stopped(process)[0]
 
 
+@pytest.mark.slow
+@pytest.mark.alone
+def test_a_list_that_takes_too_much_memory_to_read_is_not_published(site):
+    """The unit's limit would end the station, or its guard, in the place of ssh-keygen."""
+    site.gives(bitmaps(4, site.blob))
+    said = ["station: the list isn't published: ssh-keygen was killed, or needs too much memory for it"]
+    assert (1, [], said) == site.station().once()
+    assert site.old == parted(site.file.read_bytes())[2]
+
+
+@pytest.mark.slow
+def test_a_list_that_takes_too_long_to_read_is_not_published(site):
+    station = site.station()
+    slow = station.folder / "ssh-keygen"
+    slow.write_text("#!/bin/sh\nexec sleep 1000\n")
+    slow.chmod(0o755)
+    said = ["station: the list isn't published: ssh-keygen reads it for more than 60 seconds"]
+    assert (1, [], said) == station.once()
+
+
 def test_a_guard_that_was_not_begun_publishes_nothing(make_site):
     site = make_site()
     said = ["station: the list isn't published: refused as NotBegun"]
@@ -396,8 +417,8 @@ TRIED = [
     ("another page", "station", putting(b"false", target="/v1/krl"), 405, "a page is read by GET"),
     ("the CAs' keys", "station", putting(b"false", target="/ca-keys"), 405, "a page is read by GET"),
     ("a part of a file", "station", putting(b"false", b"Content-Range: bytes 0-4/100"), 501, None),
-    ("more than a list", "station", putting(b"false", b"Content-Length: 134225921"), 413, None),
-    ("more than a list, by nobody", None, putting(b"false", b"Content-Length: 134225921"), 413, None),
+    ("more than a list", "station", putting(b"false", b"Content-Length: 33562625"), 413, None),
+    ("more than a list, by nobody", None, putting(b"false", b"Content-Length: 33562625"), 413, None),
     ("no length", "station", putting(b"false", b"Content-Length: -1"), 400, None),
 ]
 
@@ -427,6 +448,17 @@ def test_the_station_may_publish(site, body, lines):
     # A part of it is no list, so none is given.
     part = site.front.session().get(f"{site.front.url}/published", headers={"Range": "bytes=1-1"})
     assert (200, b"new") == (part.status_code, part.content)
+
+
+def test_the_longest_file_may_be_published(site):
+    """As docs/FORMATS.md has it: 8192 bytes, and a list. The station takes no longer list from the office, and a server
+    none from the front: see also its own tests."""
+    longest = 33554432
+    assert 204 == site.front.ask(putting(bytes(longest + 8192)), "station").status
+    assert longest + 8192 == site.file.stat().st_size
+    site.gives(bytes(longest + 1))
+    said = [f"station: the list isn't published: an answer of more than {longest} bytes"]
+    assert (1, [], said) == site.station().once()
 
 
 def test_one_file_at_a_time(site):
