@@ -1,11 +1,12 @@
 // Asks the offices until one of them answers. An accepted message is answered again as it was, so it may be sent as often
 // as it takes, to whichever office serves.
 
-const LONGEST_WAIT = 50000;
-const PAUSE = 250;
+// In milliseconds. The front waits for longer. Most takeovers end within the first seconds, in which the pauses are short.
+const LONGEST_WAIT = 120000;
+const FIRST = 10000;
 
 async function ask(r) {
-    const end = Date.now() + LONGEST_WAIT;
+    const begun = Date.now();
     for (;;) {
         const answer = await r.subrequest('/once' + r.uri, {method: r.method});
         if (answer.status < 500) {
@@ -13,11 +14,12 @@ async function ask(r) {
             r.return(answer.status, answer.responseBuffer);
             return;
         }
-        if (Date.now() > end) {
+        const waited = Date.now() - begun;
+        if (waited > LONGEST_WAIT) {
             r.return(502);
             return;
         }
-        await new Promise((done) => setTimeout(done, PAUSE));
+        await new Promise((done) => setTimeout(done, waited < FIRST ? 250 : 1000));
     }
 }
 
