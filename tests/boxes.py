@@ -1,7 +1,8 @@
 #!/usr/bin/python3
 """Boxes: machines of Debian 12, each with a systemd of its own, for tests of units and of pages.
 
-    tests/boxes.py prepare    makes the folder that every box starts from, unless it is there. This takes some minutes
+    tests/boxes.py prepare    makes the folder that every box starts from, and then that of boxes with a volume, unless
+                              they are there. This takes some minutes
     tests/boxes.py folder     prints where the first is: $OFFICE_BOXES, or /var/cache/sshoffice-boxes
 
 The boxes of a `Rack` have a network of their own. They run in namespaces that end with the process that made the rack,
@@ -444,6 +445,7 @@ def main():
         case ["prepare"]:
             try:
                 print(prepare())
+                print(prepare(*OF_VOLUME))
             except CannotBoot as reason:
                 print(f"boxes: {reason}", file=sys.stderr)
                 return 1

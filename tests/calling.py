@@ -27,7 +27,7 @@ from asking import deliver, issue, lasting, renew, revoke_serial
 
 HOST, PORT = "office.example.org", 8443
 # Seconds until a connection is made, and until an answer comes: longer than a front waits.
-CONNECTING, ANSWERING = 3, 100
+CONNECTING, ANSWERING = 3, 200
 # How many ask at once, the seconds between an answer and the next message, and those after which one says what it
 # waits for.
 CALLERS, PAUSE, LONG = 4, 0.1, 30

@@ -31,6 +31,10 @@ def pytest_addoption(parser):
     group.addoption("--steps", type=int, default=1000, help="how many random exchanges test_registers asks (1000)")
     group.addoption("--rounds", type=int, default=0,
                     help="how many faults test_three_machines has happen (0: left out)")
+    group.addoption("--minutes", type=int, default=0,
+                    help="after how many minutes none of these faults begins any more (0: all of them do)")
+    group.addoption("--patience", type=int, default=1,
+                    help="how many times as long as promised a takeover may take, beside other work (1)")
     group.addoption("--judgements", type=int, default=100_000,
                     help="how many random bodies test_guard has judged (100000)")
     group.addoption("--pieces", type=int, default=1000, help="how many random requests test_pieces sends (1000)")
@@ -64,9 +68,12 @@ def pytest_unconfigure(config):
     print(f"{len(passed)} passed, {failed} failed", flush=True)
 
 
-def pytest_collection_modifyitems(items):
+def pytest_collection_modifyitems(config, items):
     """Marks tests by what they use, gives slow ones more time, and leaves out what only root can run."""
     for item in items:
+        if item.get_closest_marker("volume"):
+            minutes = config.getoption("--minutes") or 2 * config.getoption("--rounds")
+            item.add_marker(pytest.mark.timeout(60 * (15 + minutes)))
         if not BUILT & {*getattr(item, "fixturenames", ())}:
             item.add_marker("early")
         if item.get_closest_marker("slow") and not item.get_closest_marker("timeout"):
