@@ -355,7 +355,7 @@ class Box:
     def words(self, *words):
         return ["nsenter", "-t", str(self.init), "-a", "--", *words]
 
-    def run(self, command, check=True, timeout=60):
+    def run(self, command, check=True, timeout=180):
         """Runs a command of bash as root. Its standard output and faults are one text."""
         done = subprocess.run(self.words("bash", "-euo", "pipefail", "-c", f"cd; {command}"), stdin=subprocess.DEVNULL,
                               stdout=subprocess.PIPE, stderr=subprocess.STDOUT, text=True, errors="replace",

@@ -122,7 +122,7 @@ class Site(boxes.Rack):
             it.run("sed -i 's/rate=20r/rate=2000r/' /etc/vethlumi/front/nginx.conf; systemctl reload office-front")
             it.run(f"sed -i 's#access_log off;#access_log {LOG} way; log_subrequest on;#' /etc/vethlumi/way/way.conf; "
                    "systemctl restart office-way")
-        until(self.serving, seconds=60)
+        until(self.serving, seconds=180)
 
     def pair(self):
         return [self.boxes[it] for it in ("one", "two")]
@@ -472,7 +472,7 @@ def drawn(draw, rounds):
 
 def begin_fault(site, name):
     """Has something fail, and returns what brings it back, after how many seconds, and when it failed."""
-    serving = until(site.serving, seconds=60)
+    serving = until(site.serving, seconds=180)
     backs, wait, moment = [], 0, time.time()
     for it in name.split(", "):
         act, of_server, seconds = FAULTS[it]
@@ -579,7 +579,7 @@ class Rounds:
     def on(self, site):
         calling, name = Calling(site), "before the first fault"
         try:
-            until(lambda: calling.since(0), seconds=60)
+            until(lambda: calling.since(0), seconds=180)
             while following := self.next():
                 name = following
                 took = one_round(site, calling, name, self.patience)
@@ -635,7 +635,7 @@ def test_faults_at_random(sites, request):
 def test_each_setting_is_looked_at(site, wrong, said, right):
     """An office whose volume lacks a setting is ended, and none starts, until the setting is back."""
     until_well(site, site.is_well)
-    box = site.serving()
+    box = until(site.serving, seconds=60)
     box.run(wrong)
     found = box.run("office-volume check", check=False)
     assert 1 == found.returncode and said in found.stdout
@@ -650,7 +650,7 @@ def asked(site):
     """Callers that ask meanwhile. At the end nothing may be wrong with what was answered."""
     calling = Calling(site)
     try:
-        until(lambda: calling.since(0), seconds=60)
+        until(lambda: calling.since(0), seconds=180)
         yield calling
         until_well(site, site.is_well)
         calling.tell("rest")
@@ -698,7 +698,7 @@ def test_the_two_offices_are_parted(site):
         waiting = site.other(serving)
         waiting.run("systemctl stop office-front")
         moment = time.time()
-        until(lambda: len(calling.since(moment + 10)) > 20, seconds=90)
+        until(lambda: len(calling.since(moment + 10)) > 20, seconds=180)
         assert [serving] == site.listening()
         back()
         site.backs.append(time.time())

@@ -1,10 +1,13 @@
 """What tools/toolchain.py takes from the toolchain's command `rt` is there. A toolchain that lacks some of it, or wants
 other arguments, is named at once, and nothing is tried with it."""
+import importlib.machinery
+import importlib.util
 import json
 import os
 import re
 import shutil
 import sys
+import threading
 
 import pytest
 
@@ -87,3 +90,30 @@ def test_nothing_is_tried_with_another_toolchain(room, change, complaint):
     path = f"{room}{os.pathsep}{os.environ['PATH']}"
     done = run([TOP / "tools/wrong-bodies", "none"], env=os.environ | {"PATH": path})
     assert (2, True) == (done.returncode, done.stderr.decode().startswith(f"wrong-bodies: {complaint}"))
+
+
+def test_a_trial_leaves_the_memory_that_other_work_is_about_to_take(room, monkeypatch):
+    """A check of wrong bodies that takes 4 bytes begins beside another one if as many more stay free as a file says."""
+    monkeypatch.syspath_prepend(TOP / "tools")
+    loader = importlib.machinery.SourceFileLoader("wrong_bodies", str(TOP / "tools/wrong-bodies"))
+    script = importlib.util.module_from_spec(importlib.util.spec_from_loader(loader.name, loader))
+    monkeypatch.setattr(sys, "dont_write_bytecode", True)
+    loader.exec_module(script)
+
+    class Toolchain:
+        need, free = staticmethod(lambda crate: 8), staticmethod(lambda: 10)
+
+    memory, begun = script.Room(Toolchain, room / "left"), threading.Event()
+
+    def check():
+        with memory.for_one(None):
+            begun.set()
+
+    (room / "left").write_text("7")
+    with memory.for_one(None):
+        threading.Thread(target=check, daemon=True).start()
+        assert not begun.wait(1)
+        (room / "left").write_text("6")
+        with memory.turn:
+            memory.turn.notify_all()
+        assert begun.wait(10)
