@@ -212,6 +212,14 @@ def test_it_is_published_again_and_again(site, programs):
 
 # ---- what a false office gives the station
 
+# Lists that the guard would approve after the one of version 3, although no server takes them: the station's refusal,
+# and what the guard says of the next list of the office if it was asked nevertheless.
+UNREADABLE = [
+    ("serial 0", lambda site: site.krl(4, [9], ranges=[(0, 2)]), "NotAList", "Forgets"),
+    ("a zero byte inside a key id", lambda site: site.krl(4, [1, 2, 9], key_ids=["web/a\0b"]), "NotAList", "Forgets"),
+    ("a version that no office gives", lambda site: site.krl(2 ** 63, ranges=[(1, 2 ** 63)]), "BadVersion",
+     "OlderVersion"),
+]
 # Lists of a false office while the true one has version 3 with the serials 1, 2 and 9; and the refusal.
 FALSE_LISTS = [
     ("an empty one of this version", lambda site: site.krl(3), "OtherBytes"),
@@ -226,9 +234,8 @@ FALSE_LISTS = [
     ("half a list", lambda site: site.old[:60], "NotAList"),
     ("another page", lambda site: b"<html>sign in to the network</html>\n", "NotAList"),
     ("nothing", lambda site: b"", "NotAList"),
-    # The guard would approve these, but no server can read them.
-    ("serial 0", lambda site: site.krl(4, [0, 1, 2, 9]), "NotAList"),
     ("sections without an end", lambda site: site.krl(4, [1, 2, 9]) + b"\1\xff\xff\xff\xff\0\0\0\0", "NotAList"),
+    *[(what, made, name) for what, made, name, _ in UNREADABLE],
 ]
 
 
@@ -254,6 +261,30 @@ def test_no_list_of_a_false_office_is_published(site, programs):
     site.office.list = site.krl(4, [1, 2, 5, 9])
     until(lambda: parted(site.file.read_bytes())[2] == site.office.list, seconds=60)
     assert 0 == stopped(process)[0]
+
+
+@pytest.mark.parametrize("made, name, later", [it[1:] for it in UNREADABLE], ids=[it[0] for it in UNREADABLE])
+def test_a_list_that_no_server_takes_was_approved_without_the_station(site, room, made, name, later):
+    """Servers keep theirs, also where it is stated. A new file for lists that begins with a server's list ends it, and
+    no server needs force."""
+    (room / "false").write_bytes(made(site))
+    assert site.lists.state("false").startswith("list "), "the guard alone approves it"
+    hand = Signer("hand")
+    site.allowed.write_text(site.allowed.read_text() + hand.allowed.read_text())
+    site.file.write_bytes(hand.published(made(site)))
+    status, why = site.fetch()
+    assert (1, True) == (status, why[0].startswith(f"refused as {name}: ")), why
+    assert site.old == site.got()
+    site.gives(site.krl(5, [1, 2, 5, 9, 11]))
+    assert (1, [], [f"station: the list isn't published: refused as {later}"]) == site.station().once()
+    site.lists.db.rename("replaced.db")
+    site.lists = Lists(site.lists.program, site.lists.db, site.ca)
+    (room / "false").write_bytes(site.krl(5, [1, 9]))
+    assert site.lists.state("list", "--begin").startswith("list ")
+    assert "refuse Forgets" == site.lists.state("false"), "it knows what servers have"
+    assert (0, ["published 5"], []) == site.station().once()
+    assert (0, []) == site.fetch()
+    assert site.office.list == site.got()
 
 
 @pytest.mark.slow
