@@ -428,9 +428,10 @@ def putting(body, *lines, target="/published", method="PUT"):
 
 
 def folder_of(front):
-    """The files below the front's state but its log, with their bytes."""
+    """The files below the front's state but its log, with their bytes, and but the pages that it keeps, which it removes
+    some time after they were last asked for."""
     return {str(it.relative_to(front.state)): it.read_bytes() for it in front.state.rglob("*")
-            if it.is_file() and it.suffix not in (".log", ".pid", ".faults")}
+            if it.is_file() and it.suffix not in (".log", ".pid", ".faults") and it.parent.name != "cache"}
 
 
 NO_RIGHT, NO_METHOD = (403, "only the station may publish"), (405, "what is published is read by GET")
