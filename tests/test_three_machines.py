@@ -669,7 +669,7 @@ def leave(site, box):
 
 
 @pytest.mark.parametrize("become_new", [Site.renew, leave])
-def test_a_machine_is_replaced(site, become_new):
+def test_a_machine_is_replaced(site, become_new, request):
     """The page's commands bring a new machine into the volume, or one that has left it, while callers ask."""
     until_well(site, site.is_well)
     until_well(site, site.is_healed)
@@ -682,10 +682,10 @@ def test_a_machine_is_replaced(site, become_new):
         site.boxes["admin"].pull_the_plug()
         until_well(site, site.is_healed)
         site.compare_copies()
-        assert not errors(calling.since(0), 1)
+    assert not errors(calling.since(0), request.config.getoption("--patience"))
 
 
-def test_the_two_offices_are_parted(site):
+def test_the_two_offices_are_parted(site, request):
     """The office goes on, on one of the two machines. Callers who come to the front of the other one wait, until it is
     stopped, as the page says."""
     until_well(site, site.is_well)
@@ -703,4 +703,4 @@ def test_the_two_offices_are_parted(site):
         back()
         site.backs.append(time.time())
         waiting.run("systemctl start office-front")
-    assert not errors(calling.since(0), 1)
+    assert not errors(calling.since(0), request.config.getoption("--patience"))
