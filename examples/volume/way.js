@@ -1,7 +1,7 @@
 // Asks the offices until one of them answers. An accepted message is answered again as it was, so it may be sent as often
 // as it takes, to whichever office serves.
 
-// In milliseconds. The front waits for longer. Most takeovers end within the first seconds, in which the pauses are short.
+// In milliseconds. The front waits for longer. Most takeovers end within the first seconds, in which pauses are short.
 const LONGEST_WAIT = 120000;
 const FIRST = 10000;
 
