@@ -36,8 +36,8 @@ from running import TOP, left_out, until
 pytestmark = [pytest.mark.boxes, pytest.mark.root, pytest.mark.slow, pytest.mark.alone, pytest.mark.volume]
 VOLUME = ["one", "two", "three"]
 MACHINES = [*VOLUME, "admin", "station"]
-# Sets of machines that have their faults side by side, since a round mostly waits. Each takes 6 GB of memory. Linux gives
-# root 128 instances of inotify, of which a box takes seven: so at most two sets are made at once, with five boxes each.
+# Sets of machines that have their faults side by side, since a round mostly waits. Each takes 6 GB of memory. Linux
+# gives root 128 instances of inotify, of which a box takes seven: so at most two sets are made at once, with five boxes each.
 # Later each has three.
 SITES, AT_ONCE = 1, 2
 MEMORY_OF_SITE = 6_000_000_000
@@ -47,7 +47,8 @@ LOG = "/run/office-way/way.log"
 LINE = re.compile(r'(\d+\.\d+) 200 "(\w+) [^"]*" "(?:[^"]*, )?' + DOOR + r'" "(?:[^"]*, )?(\d+\.\d+)"')
 LISTENING = re.compile(r"^(\d+\.\d+) \S+ office-waiting\[\d+\]: listening 8022$", re.M)
 # For how many seconds an office may still answer what it is asked, after the other one began to serve, or after it came
-# back from where it couldn't be reached. A page comes from memory, until the old office is ended.
+# back from where it couldn't be reached. A page comes from memory, until the old office is ended. With `--patience N`
+# that may take N times as long.
 OVERLAP = {"POST": 0, "GET": 25}
 # The journal has the line of a server that began to listen a moment later, on a busy machine some seconds.
 LAG = 10
@@ -62,7 +63,7 @@ class Site(boxes.Rack):
     def __init__(self, room, base, program, disk=None):
         super().__init__(room, base)
         self.program, self.disk, self.shells = program, disk, {}
-        self.answers, self.reigns, self.read, self.backs = set(), [], {}, []
+        self.answers, self.reigns, self.read, self.backs, self.patience = set(), [], {}, [], 1
         # The callers are on the same network.
         assert not self.enter("ip", "address", "add", "10.80.0.1/24", "dev", "rack").wait()
 
@@ -169,9 +170,10 @@ class Site(boxes.Rack):
         """Answers of a machine to what it was asked after the other one had begun to serve."""
         found, begun = [], [it.begun for it in self.reigns]
         for it in self.answers:
-            if it.method == "GET" and any(0 < it.answered - back < OVERLAP["GET"] for back in self.backs):
+            overlap = self.patience * OVERLAP[it.method]
+            if it.method == "GET" and any(0 < it.answered - back < overlap for back in self.backs):
                 continue
-            first = bisect.bisect_left(begun, it.asked - OVERLAP[it.method])
+            first = bisect.bisect_left(begun, it.asked - overlap)
             last = bisect.bisect_right(begun, it.answered + LAG)
             if it.machine not in {reign.machine for reign in self.reigns[max(0, first - 1):last]}:
                 found.append(it)
@@ -577,7 +579,7 @@ class Rounds:
             return self.waiting.get_nowait()
 
     def on(self, site):
-        calling, name = Calling(site), "before the first fault"
+        calling, name, site.patience = Calling(site), "before the first fault", self.patience
         try:
             until(lambda: calling.since(0), seconds=180)
             while following := self.next():
