@@ -37,8 +37,8 @@ pytestmark = [pytest.mark.boxes, pytest.mark.root, pytest.mark.slow, pytest.mark
 VOLUME = ["one", "two", "three"]
 MACHINES = [*VOLUME, "admin", "station"]
 # Sets of machines that have their faults side by side, since a round mostly waits. Each takes 6 GB of memory. Linux
-# gives root 128 instances of inotify, of which a box takes seven: so at most two sets are made at once, with five boxes each.
-# Later each has three.
+# gives root 128 instances of inotify, of which a box takes seven: so at most two sets are made at once, with five boxes
+# each. Later each has three.
 SITES, AT_ONCE = 1, 2
 MEMORY_OF_SITE = 6_000_000_000
 DOOR = "unix:/run/office-door.sock"
