@@ -1,3 +1,4 @@
 pub mod Opened
 pub mod Left
+pub mod Steps
 pub mod Lives

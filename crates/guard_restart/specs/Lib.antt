@@ -1,3 +1,4 @@
 pub mod Images
+pub mod Steps
 pub mod Lives
 pub mod Runs

@@ -1,5 +1,5 @@
 -- The whole lifetime of a guard's two files: runs of a program in sequence, from no file on.
-use Rattle.std.specs.Prelude.{◌≡◌, ◌++◌, ◌∷◌, [], ℕ, List, All, length, take, Option, Some, None}
+use Rattle.std.specs.Prelude.{◌≡◌, ◌++◌, ◌∷◌, [], ℕ, List, All, fold, length, take, Option, Some, None}
 use Rattle.std.specs.List.{flat_map}
 use Rattle.std.specs.Io.KnownBytes.{Appends}
 use Rattle.sqlite_wal.specs.Recovery.{Image}
@@ -7,9 +7,9 @@ use Rattle.lines.specs.Digests.{digest_text}
 use Rattle.guard.specs.declared.judging.Answer.{Answer}
 use Rattle.guard.specs.declared.judging.Answer.TheVariants as answer
 use Rattle.guard.specs.AnswerLines.{answer_line}
-use Rattle.guard.specs.History.{IsStill}
-use Rattle.guard.specs.State.{State, body_of}
+use Rattle.guard.specs.State.{body_of}
 use Rattle.guard_restart.specs.Images.{Holds, Standing}
+use Rattle.guard_restart.specs.Steps.{Step, guard_after, next_guard}
 
 -- ---- a run
 
@@ -19,9 +19,11 @@ pub data Said : Type 0 where
   judging : (held holds : Option (List ℕ)) → Said
   none : Said
 
--- One run: what the files held when it opened them, what it printed, and what was left in them, perhaps by a crash.
+-- One run: what the files held when it opened them, the steps of their guard, what the run printed, and what was left
+-- in the files, perhaps by a crash.
 pub record Run : Type 0 where
   pub found : Image
+  pub steps : List Step
   pub said : Said
   pub left : Image
 
@@ -56,25 +58,24 @@ AreBacked p answers = All (λ (a : Answered). IsBacked p a.0 a.1) answers
 abbrev pub Backs : Standing → Said → Type 0
 Backs p said = (answers : List Answered) × AreSaid answers said × AreBacked p answers
 
--- ---- the state of the files
+-- ---- the guard in the files
 
--- Each approved body stays, and so does the guard. A new guard has approved nothing yet.
-abbrev pub Stays : Standing → Standing → Type 0
-Stays None None = Unit {0}
-Stays None (Some t) = t.approved ≡ []
-Stays (Some s) None = ⊥
-Stays (Some s) (Some t) = IsStill s t
+-- the guard after a run
+abbrev pub after_run : Standing → Run → Standing
+after_run before run = fold next_guard before run.steps
 
--- A run of a program that keeps a guard, by its contract: whichever guard the files held, each body stays, and what the
--- run printed is true of the files that are left.
-abbrev pub IsRun : Run → Type 0
-IsRun run = (before : Standing) → Holds run.found before
-    → ∥ ((after : Standing) × Stays before after × Backs after run.said × Holds run.left after) ∥₁
+-- A run of a program that keeps a guard, by its contract, over files that hold this guard or none: they are left with
+-- the guard after the run's steps, and what the run printed is true of it.
+pub record IsRun (before : Standing) (run : Run) : Type 0 where
+  pub found : Holds run.found before
+  pub left : Holds run.left (after_run before run)
+  pub backs : Backs (after_run before run) run.said
 
 -- runs of the program, each of which found what the previous one had left
-abbrev pub Follow : Image → List Run → Image → Type 0
-Follow first [] last = last ≡ first
-Follow first (run ∷ runs) last = IsRun run × (run.found ≡ first) × Follow run.left runs last
+abbrev pub Follow : Image → Standing → List Run → Image → Type 0
+Follow first before [] last = last ≡ first
+Follow first before (run ∷ runs) last =
+    (run.found ≡ first) × IsRun before run × Follow run.left (after_run before run) runs last
 
 -- ---- a lifetime
 
@@ -82,22 +83,38 @@ Follow first (run ∷ runs) last = IsRun run × (run.found ≡ first) × Follow 
 pub record Life (runs : List Run) (last : Image) : Type 0 where
   pub first : Image
   pub empty : length first.db ≡ 0
-  pub follow : Follow first runs last
+  pub follow : Follow first None runs last
 
--- what each of the runs printed is true of the guard that these files hold
-abbrev pub BacksAll : List Run → Image → Type 0
-BacksAll runs last = ∥ ((after : Standing) × All (λ run. Backs after run.said) runs × Holds last after) ∥₁
+-- the steps of all runs, and the guard after them
+abbrev pub steps_of : List Run → List Step
+steps_of runs = flat_map (λ run. run.steps) runs
 
--- After every such lifetime the files hold each body for which a run printed that it may be signed, under its serial.
--- So no serial names two bodies.
+abbrev pub guard_of : List Run → Standing
+guard_of runs = guard_after (steps_of runs)
+
+-- the files hold the guard after the steps of the runs, and what each of the runs printed is true of it
+pub record BacksAll (runs : List Run) (last : Image) : Type 0 where
+  pub holds : Holds last (guard_of runs)
+  pub backs : All (λ run. Backs (guard_of runs) run.said) runs
+
+-- After every such lifetime the files hold the guard after its steps, with each body for which a run printed that it
+-- may be signed, under its serial.
 abbrev pub LivesKeep : Type 0
 LivesKeep = (runs : List Run) (last : Image) → Life runs last → BacksAll runs last
 
--- A run after any such lifetime extends it, and what it leaves is left by such a lifetime.
-abbrev pub GoesOn : Run → Type 0
-GoesOn run = (runs : List Run) → Life runs run.found
-    → Life (runs ++ run ∷ []) run.left × BacksAll (runs ++ run ∷ []) run.left
-
--- so does each run of the program
+-- A run over the files that such a lifetime left, and over their guard, extends it.
 abbrev pub RunsGoOn : Type 0
-RunsGoOn = (run : Run) → IsRun run → GoesOn run
+RunsGoOn =
+    (runs : List Run) (run : Run) → Life runs run.found → IsRun (guard_of runs) run → Life (runs ++ run ∷ []) run.left
+
+-- a run with steps of this sort, and what holds of it
+abbrev pub SomeRun : Image → (May : Step → Type 0) → Said → Image → (Run → Type 0) → Type 0
+SomeRun found May said left Holding =
+    ∥ ((steps : List Step) × All May steps
+    × Holding (record { found = found; steps = steps; said = said; left = left })) ∥₁
+
+-- After any lifetime that left the files that were found, there is a run with steps of this sort that extends it.
+abbrev pub GoesOn : Image → (May : Step → Type 0) → Said → Image → Type 0
+GoesOn found May said left =
+    (runs : List Run) → Life runs found
+    → SomeRun found May said left (λ run. Life (runs ++ run ∷ []) left × BacksAll (runs ++ run ∷ []) left)

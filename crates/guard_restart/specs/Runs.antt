@@ -18,8 +18,9 @@ use Rattle.guard_sql.specs.Rows.{guard_contents}
 use Rattle.restart.specs.declared.ending.EndFault.{EndFault}
 use Rattle.restart.specs.declared.ending.EndFault.TheVariants.{GivenUp, Uncopied}
 use Rattle.restart.specs.Images.{HoldsNone}
-use Rattle.guard_restart.specs.Images.{HoldsGuard, HoldsOneOf}
-use Rattle.guard_restart.specs.Lives.{GoesOn, IsRun, Said}
+use Rattle.guard_restart.specs.Images.{Holds, HoldsGuard, HoldsOneOf, Standing}
+use Rattle.guard_restart.specs.Lives.{GoesOn, IsRun, Said, SomeRun}
+use Rattle.guard_restart.specs.Steps.{Step}
 
 -- ---- the open
 
@@ -86,16 +87,18 @@ RunKeepsGuard {D} g files =
     → (HasCleanDisk (file_state opened) → HasWhatIsHeld image (file_state opened)) → Extends opened last
     → IsCopied last files → KeepsGuard image (outcomes g files.log files.db)
 
--- from these files on this is a run of a program that keeps a guard, whatever a crash makes of the files that are left
-abbrev pub AreRuns : Image → Said → (Image → Type 0) → Type 0
-AreRuns image said may_leave = (left : Image) → may_leave left
-    → IsRun (record { found = image; said = said; left = left })
+-- From these files on, whichever guard they hold, this is a run of a program that keeps a guard, with steps of this
+-- sort, whatever a crash makes of the files that are left.
+abbrev pub AreRuns : Image → (May : Step → Type 0) → Said → (Image → Type 0) → Type 0
+AreRuns image May said may_leave =
+    (left : Image) → may_leave left → (before : Standing) → Holds image before
+    → SomeRun image May said left (IsRun before)
 
 -- Whatever a crash makes of the files that are left, it is a run of the program, and extends each lifetime that left
 -- the files that it found.
-pub record RunsOn (image : Image) (said : Said) (may_leave : Image → Type 0) : Type 0 where
-  pub runs : AreRuns image said may_leave
-  pub goes_on : (left : Image) → may_leave left → GoesOn (record { found = image; said = said; left = left })
+pub record RunsOn (image : Image) (May : Step → Type 0) (said : Said) (may_leave : Image → Type 0) : Type 0 where
+  pub runs : AreRuns image May said may_leave
+  pub goes_on : (left : Image) → may_leave left → GoesOn image May said left
 
 -- ---- the next run
 

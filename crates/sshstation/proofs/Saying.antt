@@ -1,50 +1,84 @@
 -- What a job said about unsigned certificates (bodies), and the guard that backs it.
-use Rattle.std.proofs.Common.{◌≡◌, ◌++◌, ◌∷◌, ◌∙◌, [], ℕ, List, All, Bool, Option, Some, Result, Ok, Err, ap, append_assoc}
-use Rattle.std.proofs.Common.{arith, drop, false, inl, inr, length, map, refl, subst, sym, take, true}
+use Rattle.std.proofs.Common.{◌≡◌, ◌++◌, ◌∷◌, ◌∙◌, [], ℕ, List, All, Bool, Option, Some, Result, Ok, Err, ap}
+use Rattle.std.proofs.Common.{append_assoc, arith, drop, false, inl, inr, length, map, refl, subst, sym, take, true}
+use Rattle.std.specs.Prelude.{fold, nat_lt}
 use Rattle.std.specs.List.{flat_map}
 use Rattle.std.specs.Io.KnownBytes.{Appends}
 use Rattle.std.proofs.KnownBytes.{Appends-nil}
-use Rattle.std.proofs.lemmas.List.{append-nil, take-append-drop, take_all, take_at}
+use Rattle.std.proofs.lemmas.Bool.{le-ltb}
+use Rattle.std.proofs.lemmas.List.{take-append-drop, take_all, take_at}
 use Rattle.std.proofs.lemmas.List.Concat.{flat_map-append}
-use Rattle.std.proofs.lemmas.List.Elements.{All-cons, All-head, All-nil, All-tail}
-use Rattle.guard.specs.declared.approved.Approved.{Approved}
+use Rattle.std.proofs.lemmas.List.Elements.{All-append, All-cons, All-head, All-nil, All-tail, All-weaker}
+use Rattle.std.proofs.lemmas.List.Sums.{fold-append}
 use Rattle.guard.specs.declared.judging.Answer.{Answer}
 use Rattle.guard.specs.declared.judging.Answer.TheVariants as answer
 use Rattle.guard.specs.AnswerLines.{answer_line}
-use Rattle.guard.specs.History.{IsStill}
 use Rattle.guard.specs.Judged.{Answers, IsKept}
-use Rattle.guard.specs.Machine.{State, Question, after, row_of}
-use Rattle.guard.proofs.Allowed.{left_by as after_or_before}
+use Rattle.guard.specs.Machine.{State, Question, after}
+use Rattle.guard.specs.Retiring.{IsLowered, with_last}
 use Rattle.guard_restart.specs.Images.{Standing}
 use Rattle.guard_restart.specs.Lives.{Answered, AreBacked, AreSaid, Backs, IsBacked, Said}
+use Rattle.guard_restart.specs.Steps.{Step, lowered, next_guard, stepped}
 use Rattle.station_jobs.specs.declared.station_fault.StationFault.{StationFault}
 use Rattle.station_jobs.specs.Judging.{AreAnswered, IsPrinted, Judgement, Judges, left_by, lines_of}
 use Rattle.station_jobs.specs.Whole.{JudgesGiven}
-use Rattle.station_jobs.specs.Leaving.{IsNext, OfQuestion, Step}
+use Rattle.station_jobs.specs.Leaving.{IsNext, Step as JobStep}
 
--- ---- bodies stay
+-- ---- steps
 
-pub still_same : (s : State) → IsStill s s
-still_same s = ([], sym (append-nil s.approved))
+-- steps of this sort lead from the one state to the other
+pub record Leads (Taken : Step → Type 0) (s t : State) : Type 0 where
+  pub steps : List Step
+  pub all : All Taken steps
+  pub leads : fold next_guard (Some s) steps ≡ Some t
 
-pub still_then : (s t u : State) → IsStill s t → IsStill t u → IsStill s u
-still_then s t u first second = (
-  first.0 ++ second.0,
-  second.1 ∙ (ap (λ (rows : List Approved). rows ++ second.0) first.1 ∙ append_assoc s.approved first.0 second.0),
-)
+pub leads_same : (Taken : Step → Type 0) (s : State) → Leads Taken s s
+leads_same Taken s = record { steps = []; all = All-nil Taken; leads = refl }
 
-pub next_still : (May : Step → Type 0) (s next : State) → IsNext May s next → IsStill s next
-next_still May s next (inl same) = subst (IsStill s) (sym same) (still_same s)
-next_still May s next (inr (inl (q, may, same))) =
-    subst (IsStill s) (sym same) (after_or_before (IsStill s) s q (still_same s) (λ c new. (row_of q c ∷ [], refl)))
-next_still May s next (inr (inr (last, may, low, same))) = subst (IsStill s) (sym same) (still_same s)
+pub leads_one : (Taken : Step → Type 0) (s : State) (step : Step) → Taken step → Leads Taken s (stepped s step)
+leads_one Taken s step taken = record {
+  steps = step ∷ [];
+  all = All-cons Taken step [] taken (All-nil Taken);
+  leads = refl;
+}
 
-judged_still : (s : State) (js : List Judgement) → IsStill s (left_by s js)
-judged_still s [] = still_same s
-judged_still s (j ∷ js) =
+pub leads_then : (Taken : Step → Type 0) (s t u : State) → Leads Taken s t → Leads Taken t u → Leads Taken s u
+leads_then Taken s t u first second = record {
+  steps = first.steps ++ second.steps;
+  all = All-append Taken first.steps second.steps first.all second.all;
+  leads = fold-append next_guard (Some s) first.steps second.steps
+      ∙ (ap (λ (p : Standing). fold next_guard p second.steps) first.leads ∙ second.leads);
+}
+
+-- each step of a job is one that may be taken
+pub record Covers (May : JobStep → Type 0) (Taken : Step → Type 0) : Type 0 where
+  pub asks : (q : Question) → May (JobStep.asking q) → Taken (Step.asking q)
+  pub lowers : (last : ℕ) → May (JobStep.lowering last) → Taken (Step.lowering last)
+
+lowered_is : (s : State) (last : ℕ) → IsLowered s last → lowered s last ≡ with_last s last
+lowered_is s last low =
+    let first : nat_lt last s.scope.first ≡ false = le-ltb _ _ low.0 in
+    let beyond : nat_lt s.scope.last last ≡ false = le-ltb _ _ low.1 in
+    rw (first, beyond) refl
+
+pub next_leads : (May : JobStep → Type 0) (Taken : Step → Type 0) → Covers May Taken → (s next : State)
+    → IsNext May s next → Leads Taken s next
+next_leads May Taken covers s next (inl same) = subst (Leads Taken s) (sym same) (leads_same Taken s)
+next_leads May Taken covers s next (inr (inl (q, may, same))) =
+    subst (Leads Taken s) (sym same) (leads_one Taken s (Step.asking q) (covers.asks q may))
+next_leads May Taken covers s next (inr (inr (last, may, low, same))) =
+    subst (Leads Taken s) (lowered_is s last low ∙ sym same)
+    (leads_one Taken s (Step.lowering last) (covers.lowers last may))
+
+judged_leads : (Taken : Step → Type 0) (s : State) (js : List Judgement)
+    → All (λ (j : Judgement). Taken (Step.asking j.question)) js → Leads Taken s (left_by s js)
+judged_leads Taken s [] all = leads_same Taken s
+judged_leads Taken s (j ∷ js) all =
     let next = after s j.question in
-    still_then s next (left_by next js) (next_still (OfQuestion j.question) s next (inr (inl (j.question, refl, refl))))
-    (judged_still next js)
+    leads_then Taken s next (left_by next js)
+    (leads_one Taken s (Step.asking j.question)
+    (All-head (λ (j : Judgement). Taken (Step.asking j.question)) j js all))
+    (judged_leads Taken next js (All-tail (λ (j : Judgement). Taken (Step.asking j.question)) j js all))
 
 -- ---- what was said
 
@@ -114,42 +148,51 @@ silent held holds same p =
 
 -- ---- what a job did with a guard
 
--- Each of its bodies stayed, what was said is backed, and this is left.
-pub record Lasts {A : Type 0} (s : State) (said : Said) (Left : State → Result A StationFault → Type 0) : Type 0 where
+-- It took steps of this sort, what was said is backed, and this is left.
+pub record Lasts {A : Type 0} (Taken : Step → Type 0) (s : State) (said : Said)
+    (Left : State → Result A StationFault → Type 0) : Type 0 where
   pub t : State
   pub outcome : Result A StationFault
-  pub still : IsStill s t
+  pub took : Leads Taken s t
   pub backs : Backs (Some t) said
   pub left : Left t outcome
 
 -- a job that said nothing left the guard as it was
-pub same_lasts : {A : Type 0} (s : State) (Left : State → Result A StationFault → Type 0) (r : Result A StationFault)
-    → Left s r → Lasts s Said.none Left
-same_lasts s Left r left = record {
+pub same_lasts : {A : Type 0} (Taken : Step → Type 0) (s : State) (Left : State → Result A StationFault → Type 0)
+    (r : Result A StationFault) → Left s r → Lasts Taken s Said.none Left
+same_lasts Taken s Left r left = record {
   t = s;
   outcome = r;
-  still = still_same s;
+  took = leads_same Taken s;
   backs = backs_none s;
   left = left;
 }
 
-judges_last : (s : State) (Left : State → Result (Unit {0}) StationFault → Type 0) (Asked : List ℕ → Question → Type 0)
-    (paths : List (List ℕ)) (held holds : Option (List ℕ)) (r : Result (Unit {0}) StationFault)
-    → Judges s Left Asked paths held holds r → Lasts s (Said.judging held holds) Left
-judges_last s Left Asked paths held holds r is =
-    let t = left_by s is.judged in
-    record {
-      t = t;
-      outcome = r;
-      still = judged_still s is.judged;
-      backs = (answers_of is.judged, are_said is.judged held holds r is.printed, are_backed s t is.judged is.answered is.kept);
-      left = is.left;
-    }
+module _ (Taken : Step → Type 0) (Asked : List ℕ → Question → Type 0)
+    (asks : (path : List ℕ) (q : Question) → Asked path q → Taken (Step.asking q)) where
+  judges_last : (s : State) (Left : State → Result (Unit {0}) StationFault → Type 0) (paths : List (List ℕ))
+      (held holds : Option (List ℕ)) (r : Result (Unit {0}) StationFault)
+      → Judges s Left Asked paths held holds r → Lasts Taken s (Said.judging held holds) Left
+  judges_last s Left paths held holds r is =
+      let t = left_by s is.judged in
+      let all : All (λ (j : Judgement). Taken (Step.asking j.question)) is.judged =
+      All-weaker (λ (j : Judgement). Asked j.path j.question) (λ (j : Judgement). Taken (Step.asking j.question))
+      (λ j is_asked. asks j.path j.question is_asked) is.judged is.asked in
+      record {
+        t = t;
+        outcome = r;
+        took = judged_leads Taken s is.judged all;
+        backs = (
+          answers_of is.judged,
+          are_said is.judged held holds r is.printed,
+          are_backed s t is.judged is.answered is.kept,
+        );
+        left = is.left;
+      }
 
-pub given_last : (b : Bool) (s : State) (Left : State → Result (Unit {0}) StationFault → Type 0)
-    (Asked : List ℕ → Question → Type 0) (bodies : List (List ℕ)) (input held holds : Option (List ℕ))
-    (r : Result (Unit {0}) StationFault) → JudgesGiven b s Left Asked bodies input held holds r
-    → Lasts s (Said.judging held holds) Left
-given_last true s Left Asked bodies input held holds r is =
-    judges_last s Left Asked is.paths held holds r is.judges
-given_last false s Left Asked bodies input held holds r is = judges_last s Left Asked bodies held holds r is
+  pub given_last : (b : Bool) (s : State) (Left : State → Result (Unit {0}) StationFault → Type 0)
+      (bodies : List (List ℕ)) (input held holds : Option (List ℕ))
+      (r : Result (Unit {0}) StationFault) → JudgesGiven b s Left Asked bodies input held holds r
+      → Lasts Taken s (Said.judging held holds) Left
+  given_last true s Left bodies input held holds r is = judges_last s Left is.paths held holds r is.judges
+  given_last false s Left bodies input held holds r is = judges_last s Left bodies held holds r is

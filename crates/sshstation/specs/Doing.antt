@@ -1,6 +1,7 @@
 -- What each job does with the files that it names and with the guard in a database, and the result for the words of a
 -- command line.
-use Rattle.std.specs.Prelude.{◌≡◌, ◌⊎◌, ◌≢◌, ℕ, List, IfErr, IfSome, OnOk, Option, Result, Ok, Err, map, string_bytes}
+use Rattle.std.specs.Prelude.{◌≡◌, ◌⊎◌, ◌≢◌, ℕ, List, IfErr, IfSome, IsErrAnd, OnOk, Option, Result, Ok, Err, map}
+use Rattle.std.specs.Prelude.{string_bytes}
 use Rattle.guard.specs.declared.register.Register as register
 use Rattle.guard.specs.declared.scope.Scope.{Scope}
 use Rattle.guard.specs.Policies.{policy_at}
@@ -37,7 +38,7 @@ module _ {E F : Type 0} (world : surroundings.Ghosts E F) (around : E) (remainin
   -- the scope with the key in a file at the path, or why there is none
   abbrev pub BeginsAt : (path : List ℕ) → (first last : ℕ) → Result Scope StationFault → Type 0
   BeginsAt path first last scope =
-      ((file : F) × world.has around path file × Begins (remaining file) first last scope) ⊎ IfErr scope IsOfAFile
+      ((file : F) × world.has around path file × Begins (remaining file) first last scope) ⊎ IsErrAnd scope IsOfAFile
 
   -- The names of the departments in a file at the path are printed. Or the file isn't a policy, and nothing is
   -- printed. After a fault, something may have been printed only if the output failed.
@@ -50,7 +51,7 @@ module _ {E F : Type 0} (world : surroundings.Ghosts E F) (around : E) (remainin
   abbrev pub PrintsPolicyAt : (path : List ℕ) → (held holds : Option (List ℕ)) → Result (Unit {0}) StationFault → Type 0
   PrintsPolicyAt path held holds result =
       ((file : F) × world.has around path file × PrintsPolicyOf file held holds result)
-      ⊎ (IfErr result IsOfAFile × (holds ≡ held))
+      ⊎ (IsErrAnd result IsOfAFile × (holds ≡ held))
 
   -- `file` says how a guard's database is made, opened and closed. It is `db` before the job, and `db'` after it.
   module _ {D G : Type 0} (guard : register.Ghosts G) (file : file.Ghosts D G) (db db' : D) where
