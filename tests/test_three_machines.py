@@ -3,8 +3,8 @@ mounts, disks, links and machines fail, and every answer is written down.
 
 That no answer is lost or changed, no serial has two digests, no old server answers, and all heals, is asserted always.
 That a takeover takes no longer than docs/GROWING.md says is asserted as it stands there if these tests run by
-themselves. `./check` runs them while other work takes what it gets of the processors, and says with `--patience 3` that
-a takeover may take three times as long."""
+themselves. `./check --machines` runs them while other work takes what it gets of the processors, and says with
+`--patience 3` that a takeover may take three times as long."""
 import bisect
 import collections
 import contextlib
