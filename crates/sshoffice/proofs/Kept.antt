@@ -15,7 +15,7 @@ use Rattle.restart.specs.Ending.{IsEnd}
 use Rattle.restart.specs.Lives.{Asked, End}
 use Rattle.restart.specs.Runs.{AreRuns, DoesOver, KeepsOffice}
 use Rattle.sshoffice.specs.DatabaseFiles.{AreCleanOf, ClosesFiles, MayBecome, OpensFiles}
-use Rattle.sshoffice.specs.Whole.{Adds, IsReady}
+use Rattle.office_jobs.specs.Whole.{Adds, IsReady}
 
 module _ {D : Type 0} {g : Ghosts D} where
   files_ready : (image : Image) (conn : Held (FileStore D g)) → OpensFiles image conn → IsReady over_files conn

@@ -1,11 +1,5 @@
-//! Opening and making files.
+//! Making files.
 
-ghost use Rattle.std.specs.Prelude.{◌≡◌, IfErr};
-ghost use Rattle.sshoffice.specs.Faults.{IsOfAFile, of_file};
-ghost use Rattle.sshoffice.specs.Finding.{Reads};
-
-use crate::job_fault::JobFault;
-use crate::world::World;
 use std::fs::{File, OpenOptions, Permissions};
 use std::io::{self, ErrorKind};
 use std::os::unix::fs::{OpenOptionsExt, PermissionsExt};
@@ -26,27 +20,5 @@ pub(crate) fn make_file<R: Files<File = File>>(rt: &R, path: &str) -> io::Result
         Ok(file) => file.set_permissions(Permissions::from_mode(OWNER_ALONE)),
         Err(error) if error.kind() == ErrorKind::AlreadyExists => Ok(()),
         Err(error) => Err(error),
-    }
-}
-
-/// The fault for a file that can't be opened or read.
-pub(crate) fn kind_fault(kind: ErrorKind) -> JobFault
-    ensures value { result ≡ of_file kind }
-    ensures only { IsOfAFile result }
-{
-    match kind {
-        ErrorKind::OutOfMemory => JobFault::NoMemory,
-        _ => JobFault::File,
-    }
-}
-
-/// Opens the file at a path.
-pub(crate) fn open_file<W: World>(world: &mut W, path: &str) -> Result<W::File, JobFault>
-    ensures opened { Reads W.World path.now world.old result world.new }
-    ensures only { IfErr result IsOfAFile }
-{
-    match world.open_file(path) {
-        Ok(file) => Ok(file),
-        Err(kind) => Err(kind_fault(kind)),
     }
 }

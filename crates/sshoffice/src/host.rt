@@ -6,13 +6,11 @@ ghost use Rattle.std.specs.Prelude.{◌≡◌, ◌≤◌, IsSomeAnd, map, string
 ghost use Rattle.sqlite_wal.specs.Files.{image_at};
 ghost use Rattle.sqlite.specs.Files.{over_files};
 ghost use Rattle.command_line.specs.Answers.{AreBad};
-ghost use Rattle.sshoffice.specs.Commands.{RunsWordsOver};
+ghost use Rattle.office_jobs.specs.Commands.{RunsWordsOver};
 ghost use Rattle.sshoffice.specs.DatabaseFiles.{AreCleanOf, ClosesFiles, MayBecome, OpensOnce, OpensOrNot};
 
-use crate::command::do_words;
 use crate::files::make_file;
-use crate::trial::MemoryOffice;
-use crate::world::World;
+use office_jobs::{MemoryOffice, World, do_words};
 use restart::{EndFault, end_at, open_at};
 use server::{Listener, Loopback, SelftestFault, selftest};
 use sqlite::{Connection, Error, ErrorCode, FileFrom, FileStore, Files, Start};

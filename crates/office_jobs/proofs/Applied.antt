@@ -1,0 +1,65 @@
+-- What is printed for a file, from the responses to its exchanges.
+use Rattle.std.proofs.Common.{◌≡◌, ℕ, List, [], ◌∷◌, Bool, Option, Result, Ok, Err, refl, sym, ap, subst, ◌∙◌}
+use Rattle.std.specs.Prelude.{IfSome, OnOk, Some, None}
+use Rattle.values.specs.declared.limits.TheConstants.{LAST_SERIAL}
+use Rattle.office.specs.declared.opening.Opening.{Opening}
+use Rattle.office.specs.declared.arrival.Arrival.{Arrival}
+use Rattle.web.specs.declared.exchange.Exchange.{Exchange}
+use Rattle.office_jobs.specs.Trial.{AppliesToTrial}
+use Rattle.exchanges.specs.Exchanges.{AreExchanges, exchanges_text}
+use Rattle.exchanges.specs.declared.running.RunFault.{RunFault}
+use Rattle.exchanges.specs.declared.running.RunFault.TheVariants as run
+use Rattle.office_jobs.specs.Faults.{run_result}
+use Rattle.office_jobs.specs.declared.job_fault.JobFault.{JobFault}
+use Rattle.office_jobs.specs.declared.job_fault.JobFault.TheVariants.{BadExchange, Fault}
+use Rattle.exchanges.specs.Printing.{Prints}
+use Rattle.office_jobs.specs.TrialOffice.{opening_of, trial_arrival}
+
+-- The responses of a register that represents the in-memory office (trial office) are the specified ones.
+pub applies : (file : List ℕ) (es run : List Exchange) (before after keeps : Opening → List Arrival → Type 0)
+    (old new : Option (List ℕ)) (fault : Bool) → run ≡ es → AreExchanges es → file ≡ exchanges_text es
+    → before (opening_of 1 LAST_SERIAL) (trial_arrival ∷ []) → Prints before after keeps run old new fault
+    → AppliesToTrial file old new fault
+applies file es run before after keeps old new fault same are text shown prints =
+    let served = prints.serves (opening_of 1 LAST_SERIAL) (trial_arrival ∷ []) shown in
+    record {
+      exchanges = run;
+      are = subst AreExchanges (sym same) are;
+      text = text ∙ ap exchanges_text (sym same);
+      given = prints.given;
+      last = served.0;
+      due = served.1;
+      printed = prints.printed;
+      faults = prints.faults;
+    }
+
+-- The same for a file whose text is known.
+pub applies_of : (left : Option (List ℕ)) (es run : List Exchange)
+    (before after keeps : Opening → List Arrival → Type 0)
+    (old new : Option (List ℕ)) (fault : Bool) → run ≡ es
+    → IfSome left (λ file. AreExchanges es × (file ≡ exchanges_text es))
+    → before (opening_of 1 LAST_SERIAL) (trial_arrival ∷ []) → Prints before after keeps run old new fault
+    → IfSome left (λ file. AppliesToTrial file old new fault)
+applies_of None es run before after keeps old new fault same found shown prints = tt
+applies_of (Some file) es run before after keeps old new fault same found shown prints =
+    applies file es run before after keeps old new fault same found.0 found.1 shown prints
+
+-- A property of a successful batch is a property of the job.
+pub of_ok : (r : Result Unit RunFault) (done : Result Unit JobFault) (P : Type 0) → done ≡ run_result r → OnOk r P
+    → OnOk done P
+of_ok (Ok u) done P same shown = subst (λ (d : Result Unit JobFault). OnOk d P) (sym same) shown
+of_ok (Err fault) done P same shown = subst (λ (d : Result Unit JobFault). OnOk d P) (sym same) tt
+
+-- A job that ends with `Fault` ran a batch that ended with `Fault`.
+pub was_fault : (r : Result Unit RunFault) → run_result r ≡ Err Fault → r ≡ Err run.Fault
+was_fault (Ok done) same = absurd cc
+was_fault (Err run.NoMemory) same = absurd cc
+was_fault (Err run.Write) same = absurd cc
+was_fault (Err run.Fault) same = refl
+
+-- Running exchanges finds no bad record.
+pub not_bad : (r : Result Unit RunFault) (k : ℕ) → run_result r ≡ Err (BadExchange k) → ⊥
+not_bad (Ok done) k same = cc
+not_bad (Err run.NoMemory) k same = cc
+not_bad (Err run.Write) k same = cc
+not_bad (Err run.Fault) k same = cc

@@ -1,0 +1,134 @@
+-- What a job does to the office that was opened, it does to the database as it was given.
+use Rattle.std.proofs.Common.{◌≡◌, ℕ, List, Bool, Option, Result, Ok, Err, true, false, refl, sym, subst, ◌∙◌}
+use Rattle.std.specs.Prelude.{IsTrue, OnOk}
+use Rattle.sqlite.specs.State.{State}
+use Rattle.office.specs.declared.store_fault.StoreFault.{StoreFault}
+use Rattle.office.specs.declared.store_fault.StoreFault.TheVariants as store
+use Rattle.office.specs.Faults.{IsOfARegister}
+use Rattle.web.specs.declared.exchange.Exchange.{Exchange}
+use Rattle.exchanges.specs.declared.running.RunFault.{RunFault}
+use Rattle.exchanges.specs.declared.running.RunFault.TheVariants as run
+use Rattle.store.specs.Transactions.{IsAsBefore}
+use Rattle.store.specs.Migrating.{IsExcused}
+use Rattle.store.specs.Meaning.{DiskFailed, KeepsTelling}
+use Rattle.headline.specs.Headline.{OfficePrints, OfficeRuns}
+use Rattle.office_jobs.specs.declared.job_fault.JobFault.{JobFault}
+use Rattle.office_jobs.specs.Faults.{of_store, run_result}
+use Rattle.office_jobs.specs.Opening.{IsLeft, IsOpened, IsUnopened}
+use Rattle.office_jobs.specs.Applying.{Applies}
+
+-- ---- unchanged databases
+
+pub before_again : (a b c : State) → IsAsBefore a b → IsAsBefore b c → IsAsBefore a c
+before_again a b c first then = record {
+  was_open = λ is_open. first.was_open (then.was_open is_open);
+  rest = λ is_open rests. then.rest is_open (first.rest (then.was_open is_open) rests);
+  same = λ is_open rests. then.same is_open (first.rest (then.was_open is_open) rests)
+      ∙ first.same (then.was_open is_open) rests;
+}
+
+-- `IsAsBefore` has to be shown only for an open connection
+pub before_open : (a b : State) → (IsTrue b.is_open → IsAsBefore a b) → IsAsBefore a b
+before_open a b h = record {
+  was_open = λ is_open. (h is_open).was_open is_open;
+  rest = λ is_open. (h is_open).rest is_open;
+  same = λ is_open. (h is_open).same is_open;
+}
+
+-- ---- faults
+
+-- a fault that has its excuse is one of a register
+of_a_register : (A : Type 0) (e : StoreFault) → IsExcused A e → IsOfARegister e
+of_a_register A store.NoMemory h = tt
+of_a_register A store.Device h = tt
+of_a_register A store.AlreadyAnOffice h = h
+of_a_register A store.NotAnOffice h = h
+of_a_register A store.WrongSchema h = h
+of_a_register A store.Damaged h = h
+
+-- a database that wasn't opened is left as it was
+pub unopened_left : (old new : State) (held holds : Option (List ℕ)) (e : StoreFault) → IsUnopened old new e
+    → holds ≡ held
+    → IsLeft old new held holds e
+unopened_left old new held holds e u same = record {
+  unprinted = same;
+  tells = u.tells;
+  only = λ is_open o l m. of_a_register (DiskFailed old new) e (u.only is_open o l m);
+}
+
+-- what a fault leaves of an opened office, it leaves of the database
+pub left_from : (old mid new : State) (held holds : Option (List ℕ)) (e : StoreFault) → IsOpened old mid
+    → IsLeft mid new held holds e → IsLeft old new held holds e
+left_from old mid new held holds e opened left = record {
+  unprinted = left.unprinted;
+  tells = λ o l m. left.tells o l (opened.tells o l m);
+  only = λ is_open o l m. left.only opened.is_open o l (opened.tells o l m);
+}
+
+-- ---- exchanges
+
+prints_from : (old mid new : State) (es : List Exchange) (held holds : Option (List ℕ)) (fault : Bool)
+    → KeepsTelling old mid
+    → OfficePrints mid new es held holds fault → OfficePrints old new es held holds fault
+prints_from old mid new es held holds fault tells p = record {
+  prints = record {
+    given = p.prints.given;
+    serves = λ o l m. p.prints.serves o l (tells o l m);
+    printed = p.prints.printed;
+    faults = p.prints.faults;
+  };
+  lists = λ o l m. p.lists o l (tells o l m);
+}
+
+runs_from : (old mid new : State) (es : List Exchange) → KeepsTelling old mid → OfficeRuns mid new es
+    → OfficeRuns old new es
+runs_from old mid new es tells r = (r.0, λ o l m. r.1 o l (tells o l m))
+
+-- nothing was run over an opened office
+unrun : (old mid new : State) (held holds : Option (List ℕ)) → IsOpened old mid → new ≡ mid → holds ≡ held
+    → IsAsBefore old new × IsLeft old new held holds store.NoMemory
+unrun old mid new held holds opened stays silent = (
+  subst (λ (s : State). IsAsBefore old s) (sym stays) opened.before,
+  record {
+    unprinted = silent;
+    tells = subst (λ (s : State). KeepsTelling old s) (sym stays) opened.tells;
+    only = λ is_open o l m. tt;
+  },
+)
+
+pub applied : (r : Result Unit RunFault) (done : Result Unit JobFault) (es : List Exchange) (old mid new : State)
+    (held holds : Option (List ℕ)) → done ≡ run_result r → IsOpened old mid
+    → OnOk r (OfficePrints mid new es held holds false)
+    → (r ≡ Err run.Fault → OfficePrints mid new es held holds true)
+    → (r ≡ Err run.Write → OfficeRuns mid new es)
+    → (r ≡ Err run.NoMemory → new ≡ mid) → (r ≡ Err run.NoMemory → holds ≡ held)
+    → Applies es old new held holds done
+applied (Ok x) done es old mid new held holds same opened ok fault write stays silent =
+    subst (λ (d : Result Unit JobFault). Applies es old new held holds d) (sym same)
+    (prints_from old mid new es held holds false opened.tells ok)
+applied (Err run.Fault) done es old mid new held holds same opened ok fault write stays silent =
+    subst (λ (d : Result Unit JobFault). Applies es old new held holds d) (sym same)
+    (prints_from old mid new es held holds true opened.tells (fault refl))
+applied (Err run.Write) done es old mid new held holds same opened ok fault write stays silent =
+    subst (λ (d : Result Unit JobFault). Applies es old new held holds d) (sym same)
+    (runs_from old mid new es opened.tells (write refl))
+applied (Err run.NoMemory) done es old mid new held holds same opened ok fault write stays silent =
+    subst (λ (d : Result Unit JobFault). Applies es old new held holds d) (sym same)
+    (unrun old mid new held holds opened (stays refl) (silent refl))
+
+-- nothing is applied to an office that wasn't opened
+unapplied_of : (e : StoreFault) (es : List Exchange) (old new : State) (held holds : Option (List ℕ))
+    → IsUnopened old new e → holds ≡ held → Applies es old new held holds (Err (of_store e))
+unapplied_of store.NoMemory es old new held holds u same =
+    (u.before, unopened_left old new held holds store.NoMemory u same)
+unapplied_of store.Device es old new held holds u same = (u, same)
+unapplied_of store.AlreadyAnOffice es old new held holds u same = (u, same)
+unapplied_of store.NotAnOffice es old new held holds u same = (u, same)
+unapplied_of store.WrongSchema es old new held holds u same = (u, same)
+unapplied_of store.Damaged es old new held holds u same = (u, same)
+
+pub unapplied : (e : StoreFault) (f : JobFault) (es : List Exchange) (old new : State) (held holds : Option (List ℕ))
+    → f ≡ of_store e → IsUnopened old new e → holds ≡ held → Applies es old new held holds (Err f)
+unapplied e f es old new held holds same u silent =
+    subst (λ (f : JobFault). Applies es old new held holds (Err f)) (sym same)
+    (unapplied_of e es old new held holds u silent)

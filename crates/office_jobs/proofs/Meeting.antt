@@ -1,0 +1,139 @@
+-- Connections served over the office that was opened were served over the database as it was given.
+use Rattle.std.proofs.Common.{◌≡◌, ◌≤◌, ℕ, List, map, Option, Some, None, Result, Ok, Err, refl, sym, subst}
+use Rattle.std.specs.Prelude.{IsTrue}
+use Rattle.std.specs.declared.io.ErrorKind.{ErrorKind}
+use Rattle.std.specs.Io.KnownBytes.{Appends}
+use Rattle.sqlite.specs.State.{HasCleanDisk, State}
+use Rattle.office.specs.declared.registry.Registry.{Ghosts}
+use Rattle.office.specs.declared.store_fault.StoreFault.{StoreFault}
+use Rattle.office.specs.declared.store_fault.StoreFault.TheVariants as store
+use Rattle.web.specs.Runs.{Serves as AllServed}
+use Rattle.server.specs.Books.{Book}
+use Rattle.server.specs.Connections.{AreServed, Extends, Meets, Visit, exchange_of, given_of}
+use Rattle.server.specs.Names.{listening_line}
+use Rattle.store.specs.Transactions.{IsAsBefore}
+use Rattle.store.specs.Meaning.{KeepsTelling, Tells}
+use Rattle.office_jobs.specs.Faults.{of_store}
+use Rattle.office_jobs.specs.Opening.{IsUnopened}
+use Rattle.office_jobs.specs.Serving.{MeetsOver, Serves}
+use Rattle.office_jobs.specs.Whole.{heard_of}
+use Rattle.office_jobs.proofs.Carried.{before_again}
+use Rattle.office_jobs.specs.declared.job_fault.JobFault.{JobFault}
+use Rattle.office_jobs.specs.declared.job_fault.JobFault.TheVariants as fault
+
+-- connections handled over a register are handled over the database of that register
+pub met_over : {S : Type 0} (n : ℕ) (book book' : Option Book) (nonces nonces' : Option (List ℕ)) (r : Ghosts S)
+    (a b : S)
+    (old new : State)
+    → ((visits : List Visit) → AreServed r a b visits → HasCleanDisk new → AllServed (Tells old) (Tells new)
+    (λ o l. Tells new o l × IsTrue new.is_open) (map exchange_of visits) (map given_of visits))
+    → Meets n book book' nonces nonces' r a b → MeetsOver n book book' nonces nonces' old new
+met_over n book book' nonces nonces' r a b old new carry x = record {
+  visits = x.visits;
+  all = x.all;
+  told = x.told;
+  drawn = x.drawn;
+  served = carry x.visits x.served;
+}
+
+met_from : (n : ℕ) (book book' : Option Book) (nonces nonces' : Option (List ℕ)) (old mid new : State)
+    → KeepsTelling old mid
+    → MeetsOver n book book' nonces nonces' mid new → MeetsOver n book book' nonces nonces' old new
+met_from n book book' nonces nonces' old mid new tells x = record {
+  visits = x.visits;
+  all = x.all;
+  told = x.told;
+  drawn = x.drawn;
+  served = λ honest o l m. x.served honest o l (tells o l m);
+}
+
+-- if nothing was done, nothing has changed
+same_is_unmet : (old new : State) → new ≡ old → IsAsBefore old new × KeepsTelling old new
+same_is_unmet old new same = subst (λ (s : State). IsAsBefore old s × KeepsTelling old s) (sym same)
+    (record { was_open = λ is. is; rest = λ _ rests. rests; same = λ _ _. refl }, λ o l told. told)
+
+-- connections served at a port whose line is printed
+pub served_at : (n port status : ℕ) (book book' : Option Book) (source first left : Option (List ℕ)) (old new : State)
+    (held listening holds : Option (List ℕ)) → Appends held listening (listening_line port) → holds ≡ listening
+    → first ≡ source → (status ≡ 0 → MeetsOver n book book' first left old new) → (status ≡ 1 → new ≡ old)
+    → Extends n (Tells old) (Tells new) → status ≤ 1
+    → Serves n source (Some (Ok (book, port))) old new held holds (Ok status)
+served_at n port status book book' source first left old new held listening holds printed quiet same met unmet served
+    low = (
+      book,
+      port,
+      refl,
+      subst (λ (o : Option (List ℕ)). Appends held o (listening_line port)) (sym quiet) printed,
+      record {
+        met = λ done. (
+          book',
+          left,
+          subst (λ (f : Option (List ℕ)). MeetsOver n book book' f left old new) same (met done),
+        );
+        unmet = λ failed. same_is_unmet old new (unmet failed);
+        served = served;
+        lawful = low;
+      },
+    )
+
+-- connections served after an opening are served over the database that was opened
+served_from : (n : ℕ) (source : Option (List ℕ)) (heard : Result (Option Book × ℕ) ErrorKind) (old mid new : State)
+    (held holds : Option (List ℕ)) (r : Result ℕ JobFault) → IsAsBefore old mid → KeepsTelling old mid
+    → Serves n source (Some heard) mid new held holds r → Serves n source (Some heard) old new held holds r
+served_from n source heard old mid new held holds (Ok status) before tells h = (
+  h.0,
+  h.1,
+  h.2,
+  h.3,
+  record {
+    met = λ done. let m = h.4.met done in (m.0, m.1, met_from n _ _ source _ old mid new tells m.2);
+    unmet = λ failed. (
+      before_again old mid new before (h.4.unmet failed).0,
+      λ o l m. (h.4.unmet failed).1 o l (tells o l m),
+    );
+    served = λ o l m. h.4.served o l (tells o l m);
+    lawful = h.4.lawful;
+  },
+)
+served_from n source heard old mid new held holds (Err fault.Socket) before tells h =
+    (h.0, h.1, λ o l m. h.2 o l (tells o l m), h.3)
+served_from n source heard old mid new held holds (Err fault.Write) before tells h =
+    (h.0, h.1, λ o l m. h.2 o l (tells o l m))
+served_from n source heard old mid new held holds (Err fault.NoMemory) before tells h = let no = h.0 in absurd (cc)
+served_from n source heard old mid new held holds (Err (fault.Store e)) before tells h = let no = h.0 in absurd (cc)
+served_from n source heard old mid new held holds (Err fault.File) before tells h = absurd h
+served_from n source heard old mid new held holds (Err (fault.Connection x)) before tells h = absurd h
+served_from n source heard old mid new held holds (Err fault.Mismatch) before tells h = absurd h
+served_from n source heard old mid new held holds (Err (fault.BadExchange k)) before tells h = absurd h
+served_from n source heard old mid new held holds (Err (fault.Line x)) before tells h = absurd h
+served_from n source heard old mid new held holds (Err (fault.Opening x)) before tells h = absurd h
+served_from n source heard old mid new held holds (Err (fault.List x)) before tells h = absurd h
+served_from n source heard old mid new held holds (Err fault.Fault) before tells h = absurd h
+
+-- the same for a listener, through its book
+pub served_of : {Incoming : Type 0} (n : ℕ) (source : Option (List ℕ)) (book : Incoming → Option Book)
+    (heard : Result (Incoming × ℕ) ErrorKind) (old mid new : State) (held holds : Option (List ℕ))
+    (r : Result ℕ JobFault) → IsAsBefore old mid → KeepsTelling old mid
+    → Serves n source (heard_of book (Some heard)) mid new held holds r
+    → Serves n source (heard_of book (Some heard)) old new held holds r
+served_of n source book (Ok at) old mid new held holds r before tells h =
+    served_from n source (Ok (book at.0, at.1)) old mid new held holds r before tells h
+served_of n source book (Err kind) old mid new held holds r before tells h =
+    served_from n source (Err kind) old mid new held holds r before tells h
+
+-- if the office can't be opened, nobody listens
+unopened : (n : ℕ) (source : Option (List ℕ)) (old new : State) (held holds : Option (List ℕ)) (e : StoreFault)
+    → IsUnopened old new e → holds ≡ held → Serves n source None old new held holds (Err (of_store e))
+unopened n source old new held holds store.NoMemory h same = (refl, h, same)
+unopened n source old new held holds store.Device h same = (refl, h, same)
+unopened n source old new held holds store.NotAnOffice h same = (refl, h, same)
+unopened n source old new held holds store.AlreadyAnOffice h same = (refl, h, same)
+unopened n source old new held holds store.WrongSchema h same = (refl, h, same)
+unopened n source old new held holds store.Damaged h same = (refl, h, same)
+
+pub unheard : (n : ℕ) (source : Option (List ℕ)) (old new : State) (held holds : Option (List ℕ)) (e : StoreFault)
+    (f : JobFault) → f ≡ of_store e → IsUnopened old new e → holds ≡ held
+    → Serves n source None old new held holds (Err f)
+unheard n source old new held holds e f told h same =
+    subst (λ (f : JobFault). Serves n source None old new held holds (Err f)) (sym told)
+    (unopened n source old new held holds e h same)

@@ -1,0 +1,27 @@
+use Rattle.std.proofs.Common.{ap, subst, sym}
+use Rattle.sqlite.specs.Held.{state}
+use Rattle.sqlite.specs.State.{State, HasCleanDisk}
+use Rattle.office_jobs.specs.Applying.{Applies}
+use Rattle.office_jobs.proofs.Carried.{applied}
+use Rattle.office_jobs.proofs.applying.apply_over.Goals as goal
+
+pub returns-in-Ok-clause-applies : goal.returns-in-Ok-clause-applies
+returns-in-Ok-clause-applies g c honest =
+    let back = ap (state g.S.Store) c.into_connection.ensures in
+    let clean : HasCleanDisk (state g.S.Store c.replay.new.store.conn) = subst HasCleanDisk back honest in
+    let run = c.replay in
+    subst (λ (s : State). Applies c.args.exchanges.now (state g.S.Store c.args.conn) s
+    (g.W.Write.contents c.args.out.now) (g.W.Write.contents run.new.out) c.of_a_run-done.result) (sym back)
+    (applied run.result c.of_a_run-done.result
+    c.args.exchanges.now (state g.S.Store c.args.conn) (state g.S.Store c.in-Ok.store.conn)
+    (state g.S.Store run.new.store.conn)
+    (g.W.Write.contents c.args.out.now) (g.W.Write.contents run.new.out) c.of_a_run-done.ensures
+    (c.in-Ok.ensures.opened (run.ensures.honest clean)) (run.ensures.ok clean) (run.ensures.fault clean)
+    (run.ensures.write clean)
+    (λ e. ap (λ s. state g.S.Store s.conn) (run.ensures.unrun e))
+    (λ e. ap g.W.Write.contents (run.ensures.unprinted e)))
+
+pub returns-in-Ok-clause-honest : goal.returns-in-Ok-clause-honest
+returns-in-Ok-clause-honest g c = λ honest.
+    let back = ap (state g.S.Store) c.into_connection.ensures in
+    c.in-Ok.ensures.honest (c.replay.ensures.honest (subst HasCleanDisk back honest))

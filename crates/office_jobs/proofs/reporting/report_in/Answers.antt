@@ -1,0 +1,50 @@
+use Rattle.std.proofs.Common.{◌<◌, ◌^◌, length, arith, refl, subst, sym}
+use Rattle.std.specs.Prelude.{Err}
+use Rattle.sqlite.specs.Held.{state}
+use Rattle.http_requests.specs.Asks.{get}
+use Rattle.office_jobs.specs.declared.job_fault.JobFault.{JobFault}
+use Rattle.office_jobs.specs.Reporting.{IsReport, resource_of}
+use Rattle.office_jobs.proofs.Carried.{before_open}
+use Rattle.office_jobs.proofs.Printed.{report_fault}
+use Rattle.office_jobs.proofs.Reported.{reported, unfound}
+use Rattle.office_jobs.proofs.reporting.report_in.Goals as goal
+
+pub returns-in-Some-clause-reports : goal.returns-in-Some-clause-reports
+returns-in-Some-clause-reports g c = λ clean.
+    let old = state g.S.Store c.args.store.now.conn in
+    let new = state g.S.Store c.respond.new.store.conn in
+    let response = c.in-Ok.response in
+    let short : length response.items < 2 ^ 64 = omega (arith, response.small, response.ok.0, response.ok.1) in record {
+      before = before_open old new (c.respond.ensures.reads (get (resource_of c.args.report), c.request.ensures, tt) clean);
+      came = reported c.args.report old new
+          (g.W.Write.contents c.args.out.now) (g.W.Write.contents c.write_out.new.out) c.request.result.now _ _ response.items
+          c.as_slice.result.now c.in-Some.body.now c.write_out.result c.one_ask.ensures c.request.ensures
+          (c.in-Ok.ensures.answered clean) c.as_slice.ensures.value short c.in-Some.ensures c.write_out.ensures.ok
+          c.write_out.ensures.only;
+    }
+
+pub returns-in-Ok-clause-reports : goal.returns-in-Ok-clause-reports
+returns-in-Ok-clause-reports g c = λ clean.
+    let old = state g.S.Store c.args.store.now.conn in
+    let new = state g.S.Store c.respond.new.store.conn in
+    let response = c.in-Ok.response in
+    let short : length response.items < 2 ^ 64 = omega (arith, response.small, response.ok.0, response.ok.1) in record {
+      before = before_open old new (c.respond.ensures.reads (get (resource_of c.args.report), c.request.ensures, tt) clean);
+      came = unfound c.args.report old new
+          (g.W.Write.contents c.args.out.now) c.request.result.now _ _ response.items c.as_slice.result.now c.one_ask.ensures
+          c.request.ensures (c.in-Ok.ensures.answered clean) c.as_slice.ensures.value short c.in-None.ensures;
+    }
+
+pub returns-clause-reports : goal.returns-clause-reports
+returns-clause-reports g c = λ clean.
+    let old = state g.S.Store c.args.store.now.conn in
+    let new = state g.S.Store c.respond.new.store.conn in
+    let held = g.W.Write.contents c.args.out.now in record {
+      before = before_open old new (c.respond.ensures.reads (get (resource_of c.args.report), c.request.ensures, tt) clean);
+      came = subst (λ (f : JobFault). IsReport c.args.report old new held held (Err f)) (sym c.from.ensures)
+          (report_fault c.args.report c.in-Err.fault old new held held (record {
+            unprinted = refl;
+            tells = c.in-Err.ensures.fault clean;
+            only = λ is_open. c.in-Err.ensures.only clean;
+          }));
+    }

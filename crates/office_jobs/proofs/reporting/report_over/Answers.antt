@@ -1,0 +1,26 @@
+use Rattle.std.proofs.Common.{ap, refl, subst, sym}
+use Rattle.sqlite.specs.Held.{state}
+use Rattle.sqlite.specs.State.{State, HasCleanDisk}
+use Rattle.office_jobs.specs.Reporting.{Reports}
+use Rattle.office_jobs.proofs.Printed.{reports_from, unreported}
+use Rattle.office_jobs.proofs.reporting.report_over.Goals as goal
+
+pub returns-in-Ok-clause-reports : goal.returns-in-Ok-clause-reports
+returns-in-Ok-clause-reports g c = λ honest.
+    let back = ap (state g.S.Store) c.into_connection.ensures in
+    let run = c.report_in-done in
+    let clean : HasCleanDisk (state g.S.Store run.new.store.conn) = subst HasCleanDisk back honest in
+    subst (λ (s : State). Reports c.args.report (state g.S.Store c.args.conn) s (g.W.Write.contents c.args.out.now)
+    (g.W.Write.contents run.new.out) run.result) (sym back)
+    (reports_from c.args.report (state g.S.Store c.args.conn) (state g.S.Store c.in-Ok.store.conn)
+    (state g.S.Store run.new.store.conn) (g.W.Write.contents c.args.out.now) (g.W.Write.contents run.new.out) run.result
+    (c.in-Ok.ensures.opened (run.ensures.honest clean)) (run.ensures.reports clean))
+
+pub returns-in-Err-clause-reports : goal.returns-in-Err-clause-reports
+returns-in-Err-clause-reports g c = λ honest.
+    unreported c.args.report c.in-Err.fault c.from.result _ _ _ _ c.from.ensures (c.in-Err.ensures.unopened honest) refl
+
+pub returns-in-Ok-clause-honest : goal.returns-in-Ok-clause-honest
+returns-in-Ok-clause-honest g c = λ honest.
+    let back = ap (state g.S.Store) c.into_connection.ensures in
+    c.in-Ok.ensures.honest (c.report_in-done.ensures.honest (subst HasCleanDisk back honest))

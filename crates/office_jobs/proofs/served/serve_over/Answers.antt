@@ -1,0 +1,14 @@
+use Rattle.std.proofs.Common.{subst, sym}
+use Rattle.sqlite.specs.Held.{state}
+use Rattle.office_jobs.specs.Serving.{MeetsOver}
+use Rattle.office_jobs.proofs.Meeting.{met_over}
+use Rattle.office_jobs.proofs.served.serve_over.Goals as goal
+
+pub returns-clause-met : goal.returns-clause-met
+returns-clause-met g c = λ done.
+    subst (λ conn. MeetsOver c.args.connections (g.L.Listener.book c.args.listener.now)
+    (g.L.Listener.book c.serve_keeping-status.new.listener) (g.N.Source.remaining c.args.nonces.now)
+    (g.N.Source.remaining c.serve_keeping-status.new.nonces) (state g.S.Store c.args.store.conn) (state g.S.Store conn))
+    (sym c.into_connection.ensures)
+    (met_over c.args.connections _ _ _ _ _ _ _ (state g.S.Store c.args.store.conn)
+    (state g.S.Store c.serve_keeping-status.result.1.conn) (λ visits x. x) (c.serve_keeping-status.ensures.met done).meets)

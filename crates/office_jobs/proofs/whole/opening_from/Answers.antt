@@ -1,0 +1,25 @@
+use Rattle.std.proofs.Common.{◌≡◌, inl, inr, ℕ, List, Option, Result, Ok, Err}
+use Rattle.std.specs.Prelude.{IfErr, IfOk, IfSome}
+use Rattle.lines.specs.declared.key_line.KeyLine.{KeyLine}
+use Rattle.office.specs.declared.opening.Opening.{Opening}
+use Rattle.office_jobs.specs.declared.founding.Founding.{Founding}
+use Rattle.office_jobs.specs.declared.job_fault.JobFault.{JobFault}
+use Rattle.office_jobs.specs.Faults.{IsOfAnOpening}
+use Rattle.office_jobs.specs.Making.{due_opening}
+use Rattle.office_jobs.specs.Reading.{IsKeyText}
+use Rattle.office_jobs.specs.Whole.{Begins}
+use Rattle.office_jobs.proofs.whole.opening_from.Goals as goal
+
+begun : (file : Option (List ℕ)) (f : Founding) (k : KeyLine) (r : Result Opening JobFault)
+    → IfSome file (λ text. IsKeyText text k) → IfOk r (λ o. due_opening f k.key ≡ Ok o)
+    → IfErr r (IsOfAnOpening (due_opening f k.key)) → Begins file (due_opening f) r
+begun file f k (Ok o) read made fault = (k, read, made)
+begun file f k (Err e) read made fault = inr (k, read, fault)
+
+pub returns-in-Ok-clause-begins : goal.returns-in-Ok-clause-begins
+returns-in-Ok-clause-begins g c =
+    begun (g.R.Read.remaining c.args.ca) c.args.founding.now c.in-Ok.ca c.opening_of.result c.in-Ok.ensures.key
+    c.opening_of.ensures.made c.opening_of.ensures.fault
+
+pub returns-in-Err-clause-begins : goal.returns-in-Err-clause-begins
+returns-in-Err-clause-begins g c = inl c.in-Err.ensures.only

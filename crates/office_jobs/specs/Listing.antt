@@ -1,0 +1,31 @@
+-- The key revocation list of the office in a database, printed.
+use Rattle.std.specs.Prelude.{ℕ, List, Option, Result, Ok, Err}
+use Rattle.std.specs.Io.KnownBytes.{Appends}
+use Rattle.sqlite.specs.State.{State}
+use Rattle.office.specs.declared.opening.Opening.{Opening}
+use Rattle.office.specs.declared.arrival.Arrival.{Arrival}
+use Rattle.office.specs.declared.store_fault.StoreFault.TheVariants as store
+use Rattle.store.specs.Transactions.{IsAsBefore}
+use Rattle.store.specs.Meaning.{Stores, Tells}
+use Rattle.headline.specs.Headline.{IsList}
+use Rattle.office_jobs.specs.declared.job_fault.JobFault.{JobFault}
+use Rattle.office_jobs.specs.declared.job_fault.JobFault.TheVariants.{NoMemory, Store, Write}
+use Rattle.office_jobs.specs.Opening.{IsLeft}
+
+-- the printed bytes are the list of the history that the tables represent, and they durably represent that history
+abbrev pub IsListed : (old new : State) → (held holds : Option (List ℕ)) → Type 0
+IsListed old new held holds =
+    (bytes : List ℕ) × Appends held holds bytes
+    × ((o : Opening) (l : List Arrival) → Tells old o l → IsList o l bytes × Stores new o l)
+
+-- the tables durably represent what they represented
+abbrev pub IsStored : (old new : State) → Type 0
+IsStored old new = (o : Opening) (l : List Arrival) → Tells old o l → Stores new o l
+
+-- the outcome, in which no table has changed
+abbrev pub Lists : (old new : State) → (held holds : Option (List ℕ)) → Result (Unit {0}) JobFault → Type 0
+Lists old new held holds (Ok done) = IsAsBefore old new × IsListed old new held holds
+Lists old new held holds (Err Write) = IsAsBefore old new × IsStored old new
+Lists old new held holds (Err NoMemory) = IsAsBefore old new × IsLeft old new held holds store.NoMemory
+Lists old new held holds (Err (Store e)) = IsAsBefore old new × IsLeft old new held holds e
+Lists old new held holds (Err other) = ⊥

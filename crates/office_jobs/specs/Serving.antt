@@ -1,0 +1,57 @@
+-- An office in a database, served at a port.
+use Rattle.std.specs.Prelude.{◌≡◌, ◌≤◌, ℕ, List, length, map, flat_map, IsTrue, Option, Some, None, Result, Ok, Err}
+use Rattle.std.specs.declared.io.ErrorKind.{ErrorKind}
+use Rattle.std.specs.Io.KnownBytes.{Appends, Consumes}
+use Rattle.sqlite.specs.State.{HasCleanDisk, State}
+use Rattle.office.specs.declared.store_fault.StoreFault.TheVariants as store
+use Rattle.web.specs.Runs.{Serves as AllServed}
+use Rattle.server.specs.Books.{Book}
+use Rattle.server.specs.Connections.{Extends, TellsAll, Visit, drawn_of, exchange_of, given_of}
+use Rattle.server.specs.Names.{listening_line}
+use Rattle.store.specs.Transactions.{IsAsBefore}
+use Rattle.store.specs.Meaning.{KeepsTelling, Tells}
+use Rattle.office_jobs.specs.declared.job_fault.JobFault.{JobFault}
+use Rattle.office_jobs.specs.declared.job_fault.JobFault.TheVariants.{NoMemory, Socket, Store, Write}
+use Rattle.office_jobs.specs.Opening.{IsUnopened}
+
+-- What `connections` connections did, in order, between the old and the new tables. Each got its specified response, or
+-- a fault. If one was answered since the last fault, the tables represent the history and the connection is open.
+pub record MeetsOver (connections : ℕ) (book book' : Option Book) (nonces nonces' : Option (List ℕ)) (old new : State)
+    : Type 0 where
+  pub visits : List Visit
+  pub all : length visits ≡ connections
+  pub told : TellsAll visits book book'
+  pub drawn : Consumes nonces nonces' (flat_map drawn_of visits)
+  pub served : HasCleanDisk new → AllServed (Tells old) (Tells new) (λ o l. Tells new o l × IsTrue new.is_open)
+      (map exchange_of visits) (map given_of visits)
+
+-- The connections in the listener's book were handled, each with the specified response or a fault. Or there was no
+-- memory to begin with, and nothing has changed.
+pub record IsServed (connections : ℕ) (book : Option Book) (nonces : Option (List ℕ)) (old new : State) (status : ℕ)
+    : Type 0 where
+  pub met : status ≡ 0
+      → (book' : Option Book) × (left : Option (List ℕ)) × MeetsOver connections book book' nonces left old new
+  pub unmet : status ≡ 1 → IsAsBefore old new × KeepsTelling old new
+  pub served : Extends connections (Tells old) (Tells new)
+  pub lawful : status ≤ 1
+
+-- The result of listening: nobody tried, or there is a listener with this book at a port, or there is none.
+abbrev pub Heard : Type 0
+Heard = Option (Result (Option Book × ℕ) ErrorKind)
+
+-- The outcome. Nobody listens before the office is open. Then the line of the port is printed, and the listener's
+-- connections are served.
+abbrev pub Serves : (connections : ℕ) → (source : Option (List ℕ)) → Heard → (old new : State)
+    → (held holds : Option (List ℕ)) → Result ℕ JobFault → Type 0
+Serves connections source heard old new held holds (Ok status) =
+    (book : Option Book) × (port : ℕ) × (heard ≡ Some (Ok (book, port))) × Appends held holds (listening_line port)
+    × IsServed connections book source old new status
+Serves connections source heard old new held holds (Err Socket) =
+    (kind : ErrorKind) × (heard ≡ Some (Err kind)) × KeepsTelling old new × (holds ≡ held)
+Serves connections source heard old new held holds (Err Write) =
+    (at : Option Book × ℕ) × (heard ≡ Some (Ok at)) × KeepsTelling old new
+Serves connections source heard old new held holds (Err NoMemory) =
+    (heard ≡ None) × IsUnopened old new store.NoMemory × (holds ≡ held)
+Serves connections source heard old new held holds (Err (Store e)) =
+    (heard ≡ None) × IsUnopened old new e × (holds ≡ held)
+Serves connections source heard old new held holds (Err _) = ⊥

@@ -1,0 +1,89 @@
+//! Exchanges applied to an office.
+
+ghost use Rattle.std.specs.Prelude.{◌≡◌, ◌≢◌, ℕ, Err, IfErr, IfSome, OnOk, false, true};
+ghost use Rattle.exchanges.specs.Exchanges.{IsBadRecord};
+ghost use Rattle.office_jobs.specs.Applying.{Applies};
+ghost use Rattle.office_jobs.specs.Faults.{IsOfATrial, run_result};
+ghost use Rattle.office_jobs.specs.Trial.{AppliesToTrial};
+ghost use Rattle.std.specs.List.{list_any};
+ghost use Rattle.store_sql.specs.Look.{is_office_table};
+ghost use Rattle.store_sql.specs.Honest.{IsOutside, IsUnlimited, On, StaysClean, tables_of};
+
+use crate::file_reader::read_exchanges_from;
+use crate::job_fault::JobFault;
+use crate::opening::open_office;
+use crate::trial::trial_office;
+use exchanges::{RunFault, apply_exchanges};
+use headline::replay;
+use office::StoreFault;
+use sqlite::{Alter, Connection};
+use std::alloc::Global;
+use std::io::{Read, Write};
+use web::Exchange;
+
+// The result of a batch, as that of a job.
+fn of_a_run(done: Result<(), RunFault>) -> Result<(), JobFault>
+    ensures { result ≡ run_result done }
+{
+    match done {
+        Ok(()) => Ok(()),
+        Err(fault) => Err(JobFault::from(fault)),
+    }
+}
+
+/// Runs exchanges over the office in a database, and prints what each one got.
+pub fn apply_over<S: Alter, W: Write>(
+    alloc: Global,
+    conn: Connection<S>,
+    exchanges: &[Exchange],
+    out: &mut W,
+) -> (Result<(), JobFault>, Connection<S>)
+    requires outside { IsOutside S.Store conn }
+    requires unlimited { IsUnlimited S.Store conn }
+    ensures applies { On S.Store (λ old new. Applies exchanges.now old new (W.contents out.old) (W.contents out.new))
+        conn result.1 result.0 }
+    ensures honest { StaysClean S.Store conn result.1 }
+
+    // A database without an office's table is refused and left unchanged.
+    ensures none { list_any is_office_table (tables_of S.Store conn) ≡ false
+        → result ≡ record { 0 = Err (JobFault.Store StoreFault.NotAnOffice); 1 = conn } }
+{
+    match open_office(alloc, conn) {
+        Ok(store) => {
+            let mut office = store;
+            let done = of_a_run(replay(&mut office, alloc, exchanges, out));
+            (done, office.into_connection())
+        }
+        Err((fault, conn)) => (Err(JobFault::from(fault)), conn),
+    }
+}
+
+/// Runs the exchanges from a file's reader over the in-memory office, and prints what each one got.
+#[tactic(auto, using(crate::proofs::Causes::of_file, crate::proofs::Causes::not_run, crate::proofs::Causes::of_office))]
+pub fn apply_to_trial<R: Read + Drop, W: Write>(
+    alloc: Global,
+    file: R,
+    out: &mut W,
+) -> Result<(), JobFault>
+    // Each exchange is answered, and each answer is the specified one.
+    ensures ok { OnOk result (IfSome (R.remaining file) (λ text. AppliesToTrial text (W.contents out.old)
+        (W.contents out.new) false)) }
+
+    // Everything is printed, and an exchange got no response.
+    ensures fault { result ≡ Err JobFault.Fault → IfSome (R.remaining file) (λ text. AppliesToTrial text
+        (W.contents out.old) (W.contents out.new) true) }
+
+    // The file isn't an exchange file: this is its first bad record.
+    ensures bad { (k : ℕ) → result ≡ Err (JobFault.BadExchange k)
+        → IfSome (R.remaining file) (λ text. IsBadRecord text k) }
+
+    // After any fault except `Write` and `Fault`, nothing is printed.
+    ensures only { IfErr result IsOfATrial }
+    ensures silent { IfErr result (λ e. e ≢ JobFault.Write → e ≢ JobFault.Fault → out.new ≡ out.old) }
+{
+    let exchanges = read_exchanges_from(alloc, file)?;
+    let mut office = trial_office(alloc)?;
+    let done = apply_exchanges(&mut office, alloc, exchanges.as_slice(), out);
+    let _ = office.into_connection();
+    of_a_run(done)
+}

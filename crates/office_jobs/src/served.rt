@@ -1,0 +1,143 @@
+//! Serving an office.
+
+ghost use Rattle.std.specs.Prelude.{◌≡◌, ◌≤◌, ◌+◌, IfErr, IfOk, OnOk, false};
+ghost use Rattle.std.specs.List.{list_any};
+ghost use Rattle.std.specs.Io.KnownBytes.{Appends};
+ghost use Rattle.sqlite.specs.Held.{state};
+ghost use Rattle.store_sql.specs.Look.{is_office_table};
+ghost use Rattle.store_sql.specs.Honest.{Between, IsOutside, IsUnlimited, StaysClean, tables_of};
+ghost use Rattle.server.specs.Connections.{Extends};
+ghost use Rattle.server.specs.Names.{listening_line};
+ghost use Rattle.store.specs.Meaning.{Tells};
+ghost use Rattle.office_jobs.specs.Jobs.{RefusesNone};
+ghost use Rattle.office_jobs.specs.Serving.{MeetsOver};
+ghost use Rattle.office_jobs.specs.Whole.{Listens, ServesAt, ServesOpen};
+
+use crate::job_fault::JobFault;
+use crate::opening::open_office;
+use crate::world::World;
+use server::{Listener, serve_keeping};
+use sqlite::{Alter, Connection};
+use std::io;
+use std::io::{ErrorKind, Write};
+use std::net::{Ipv4Addr, SocketAddrV4};
+use store::Store;
+use wire::{FromRead, FromWrite, Source};
+
+/// Serves `connections` connections of a listener over an open office, and returns its connection with the status: 0,
+/// or 1 if there was no memory to begin with.
+pub fn serve_over<R: AllocGlobal, S: Alter, L: Listener, N: Source, O: Write, E: Write>(
+    rt: &R,
+    store: Store<S>,
+    listener: &mut L,
+    nonces: &mut N,
+    connections: u64,
+    out: &mut O,
+    err: &mut E,
+) -> (u8, Connection<S>)
+    requires { N.failed nonces.old + connections ≤ u64.MAX }
+    ensures status { result.0 ≤ 1 }
+
+    // Each connection gets the response that is specified for its request after the arrivals of the earlier ones, or it
+    // is closed with a fault.
+    ensures met { result.0 ≡ 0 → MeetsOver connections (L.book listener.old) (L.book listener.new)
+        (N.remaining nonces.old) (N.remaining nonces.new) (state S.Store store.conn) (state S.Store result.1) }
+    ensures served { Between S.Store (λ old new. Extends connections (Tells old) (Tells new)) store.conn result.1 }
+    ensures unmet { result.0 ≡ 1 → result.1 ≡ store.conn }
+    ensures honest { StaysClean S.Store store.conn result.1 }
+    ensures quiet { out.new ≡ out.old }
+{
+    let mut told = FromWrite::new(err);
+    let (status, office) = serve_keeping(rt, listener, store, nonces, connections, out, &mut told);
+    (status, office.into_connection())
+}
+
+// Asks the world for a listener at this port of 127.0.0.1.
+fn listen_on<W: World>(world: &mut W, port: u16) -> Result<(W::Incoming, u16), ErrorKind>
+    ensures { Listens W.World port world.old result world.new }
+{
+    world.listen(SocketAddrV4::new(Ipv4Addr::LOCALHOST, port))
+}
+
+// Prints the line with a port.
+fn print_line<O: Write>(out: &mut O, port: u16) -> io::Result<()>
+    ensures { OnOk result (Appends (O.contents out.old) (O.contents out.new) (listening_line port)) }
+{
+    writeln!(out, "listening {port}")?;
+    out.flush()
+}
+
+// Prints the line with the port at which a server listens.
+fn print_port<O: Write>(out: &mut O, port: u16) -> Result<(), JobFault>
+    ensures ok { OnOk result (Appends (O.contents out.old) (O.contents out.new) (listening_line port)) }
+    ensures only { IfErr result (λ e. e ≡ JobFault.Write) }
+{
+    match print_line(out, port) {
+        Ok(()) => Ok(()),
+        Err(_) => Err(JobFault::Write),
+    }
+}
+
+// Listens, prints the port, and serves the open office.
+fn serve_listening<S: Alter, W: World<Conn = Connection<S>> + AllocGlobal, O: Write, E: Write>(
+    world: &mut W,
+    store: Store<S>,
+    nonces: W::File,
+    port: u16,
+    connections: u64,
+    out: &mut O,
+    err: &mut E,
+) -> (Result<u8, JobFault>, Connection<S>)
+    ensures serves { ServesOpen S.Store W.World W.Incoming.book port connections (W.File.remaining nonces)
+        (O.contents out.old) (O.contents out.new) world.old world.new store.conn result.1 result.0 }
+    ensures honest { StaysClean S.Store store.conn result.1 }
+    ensures status { IfOk result.0 (λ status. status ≤ 1) }
+{
+    match listen_on(world, port) {
+        Ok((incoming, at)) => match print_port(out, at) {
+            Ok(()) => {
+                let mut source = FromRead::new(nonces);
+                let mut incoming = incoming;
+                let (status, conn) = serve_over(
+                    world,
+                    store,
+                    &mut incoming,
+                    &mut source,
+                    connections,
+                    out,
+                    err,
+                );
+                (Ok(status), conn)
+            }
+            Err(fault) => (Err(fault), store.into_connection()),
+        },
+        Err(_) => (Err(JobFault::Socket), store.into_connection()),
+    }
+}
+
+/// Serves the office in a database at a port of the loopback interface. Nobody listens before the office is open.
+pub fn serve_at_port<S: Alter, W: World<Conn = Connection<S>> + AllocGlobal, O: Write, E: Write>(
+    world: &mut W,
+    conn: Connection<S>,
+    nonces: W::File,
+    port: u16,
+    connections: u64,
+    out: &mut O,
+    err: &mut E,
+) -> (Result<u8, JobFault>, Connection<S>)
+    requires outside { IsOutside S.Store conn }
+    requires unlimited { IsUnlimited S.Store conn }
+    ensures serves { ServesAt S.Store W.World W.Incoming.book port connections (W.File.remaining nonces)
+        (O.contents out.old) (O.contents out.new) world.old world.new conn result.1 result.0 }
+    ensures honest { StaysClean S.Store conn result.1 }
+    ensures status { IfOk result.0 (λ status. status ≤ 1) }
+
+    // A database without an office's table is refused and left unchanged.
+    ensures none { list_any is_office_table (tables_of S.Store conn) ≡ false
+        → RefusesNone conn result.1 result.0 }
+{
+    match open_office(world.alloc(), conn) {
+        Ok(store) => serve_listening(world, store, nonces, port, connections, out, err),
+        Err((fault, conn)) => (Err(JobFault::from(fault)), conn),
+    }
+}

@@ -1,9 +1,0 @@
-use Rattle.sqlite.specs.Held.{state}
-use Rattle.sshoffice.proofs.Additions.{done, served}
-use Rattle.sshoffice.proofs.adding.jobs_add_arrivals.Goals as goal
-
-pub returns-clause-jobs : goal.returns-clause-jobs
-returns-clause-jobs g c old was = done (state g.S.Store old) (state g.S.Store c.args.conn.now) was
-
-pub returns-clause-servers : goal.returns-clause-servers
-returns-clause-servers g c old was = served (state g.S.Store old) (state g.S.Store c.args.conn.now) was
