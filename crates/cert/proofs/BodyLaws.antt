@@ -1,6 +1,7 @@
 -- A fault of the bytes is found, and what holds for the result of reading holds for the returned value.
-use Rattle.cert.proofs.Words.{Bool, CertFault, CertFields, CriticalOptions, Err, Extensions, Gives, IsBytes}
-use Rattle.cert.proofs.Words.{IsCertFields, IsFault, Leaves, List, None, Ok, Option, Result, Some, [], ap, arith}
+use Rattle.cert.proofs.Words.{Bool, CertFault, CertFields, CriticalOptions, Err, Extensions, GivesPart, IsBytes}
+use Rattle.cert.proofs.Words.{IsCertFields, IsCertFault, LeavesRest, List, None, Ok, Option, Result, Some, [], ap}
+use Rattle.cert.proofs.Words.{arith}
 use Rattle.cert.proofs.Words.{body_text, bytes_eq-Decides, cert_type, check, ends_at, eqb, eqb-true, false, front}
 use Rattle.cert.proofs.Words.{is_some, is_whole, key_blob, key_of, key_of_found, kind_number, kind_of, length}
 use Rattle.cert.proofs.Words.{option_map, options_of, options_text, or_fault, principals_of, principals_text, refl}
@@ -52,7 +53,7 @@ no_text bad o f none = rw none refl
 
 -- reading bytes that begin with valid fields
 begun : (next : CertFields → List ℕ → Result CertFields CertFault) {bytes rest : List ℕ} {n : ℕ} {c : CertFields}
-    → Leaves bytes n c rest → Reads n next → body_at bytes ≡ next c rest
+    → LeavesRest bytes n c rest → Reads n next → body_at bytes ≡ next c rest
 begun next {rest = rest} {c = c} h reads = ap body_at h.text ∙ reads c h.lawful rest
 
 reads_none : Reads 0 Tails.from_type
@@ -78,7 +79,7 @@ cut (suc (suc (suc (suc (suc (suc (suc (suc (suc (suc (suc zero))))))))))) lt c 
 cut (suc (suc (suc (suc (suc (suc (suc (suc (suc (suc (suc (suc n)))))))))))) lt c rest l e = absurd (omega arith)
 
 -- a fault of the bytes is found
-pub body_at-fault : (bytes : List ℕ) (e : CertFault) → IsBytes bytes → e ≢ fault.NoMemory → IsFault bytes e
+pub body_at-fault : (bytes : List ℕ) (e : CertFault) → IsBytes bytes → e ≢ fault.NoMemory → IsCertFault bytes e
     → body_at bytes ≡ Err e
 body_at-fault bytes fault.WrongType fits other (c, rest, h, w) = begun _ h reads_none
     ∙ bad_at _ _ _ w.0 _ w.1 (fails _ _ _ (λ t. w.2 ((bytes_eq-Decides w.0.0 cert_type).0 t)))
@@ -116,7 +117,7 @@ body_at-fault bytes fault.NoMemory fits other f = absurd (other refl)
 -- ---- from what reading gives to what was returned
 
 -- What was read is valid, and the bytes are its text.
-pub found_from : (bytes : List ℕ) (r : Result CertFields CertFault) → IsBytes bytes → Gives r (body_at bytes)
+pub found_from : (bytes : List ℕ) (r : Result CertFields CertFault) → IsBytes bytes → GivesPart r (body_at bytes)
     → IfOk r (λ c. IsCertFields c × (bytes ≡ body_text c))
 found_from bytes (Ok c) fits gives = subst (λ (q : Result CertFields CertFault). Says bytes q) gives
     (body_at-says bytes fits)
@@ -124,20 +125,20 @@ found_from bytes (Err e) fits gives = tt
 
 -- The text of valid fields was read, unless memory was refused.
 pub only_from : (bytes : List ℕ) (r : Result CertFields CertFault) (c : CertFields) → IsCertFields c
-    → bytes ≡ body_text c → Gives r (body_at bytes) → Gives r (Ok c)
-only_from bytes r c l text gives = subst (λ (read : Result CertFields CertFault). Gives r read) (ap body_at text
+    → bytes ≡ body_text c → GivesPart r (body_at bytes) → GivesPart r (Ok c)
+only_from bytes r c l text gives = subst (λ (read : Result CertFields CertFault). GivesPart r read) (ap body_at text
     ∙ body_at-again c l) gives
 
 -- The returned fault is a fault of the bytes.
-pub fault_from : (bytes : List ℕ) (r : Result CertFields CertFault) → IsBytes bytes → Gives r (body_at bytes)
-    → IfErr r (IsFault bytes)
+pub fault_from : (bytes : List ℕ) (r : Result CertFields CertFault) → IsBytes bytes → GivesPart r (body_at bytes)
+    → IfErr r (IsCertFault bytes)
 fault_from bytes (Ok c) fits gives = tt
 fault_from bytes (Err e) fits gives = at e gives
   where
-    there : (e : CertFault) → body_at bytes ≡ Err e → IsFault bytes e
+    there : (e : CertFault) → body_at bytes ≡ Err e → IsCertFault bytes e
     there e is = subst (λ (q : Result CertFields CertFault). Says bytes q) is (body_at-says bytes fits)
 
-    at : (e : CertFault) → Gives {X = CertFields} (Err e) (body_at bytes) → IsFault bytes e
+    at : (e : CertFault) → GivesPart {X = CertFields} (Err e) (body_at bytes) → IsCertFault bytes e
     at fault.Truncated gives = there fault.Truncated gives
     at fault.WrongType gives = there fault.WrongType gives
     at fault.BadNonce gives = there fault.BadNonce gives
@@ -156,8 +157,8 @@ fault_from bytes (Err e) fits gives = at e gives
 
 -- A fault of the bytes was returned, unless memory was refused.
 pub answered_from : (bytes : List ℕ) (r : Result CertFields CertFault) (e : CertFault) → IsBytes bytes
-    → e ≢ fault.NoMemory → IsFault bytes e → Gives r (body_at bytes) → Gives r (Err e)
-answered_from bytes r e fits other there gives = subst (λ (read : Result CertFields CertFault). Gives r read)
+    → e ≢ fault.NoMemory → IsCertFault bytes e → GivesPart r (body_at bytes) → GivesPart r (Err e)
+answered_from bytes r e fits other there gives = subst (λ (read : Result CertFields CertFault). GivesPart r read)
     (body_at-fault bytes e fits other there) gives
 
 -- No text belongs to two values.

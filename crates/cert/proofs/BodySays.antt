@@ -1,6 +1,7 @@
 -- What reading a body gives is true of the bytes.
 use Rattle.cert.proofs.Words.{Bool, CertFault, CertFields, CriticalOptions, Err, Extensions, IsBytes, IsCertFields}
-use Rattle.cert.proofs.Words.{IsFault, Leaves, List, None, Ok, Option, Result, Some, ap, append-nil, append_assoc}
+use Rattle.cert.proofs.Words.{IsCertFault, LeavesRest, List, None, Ok, Option, Result, Some, ap, append-nil}
+use Rattle.cert.proofs.Words.{append_assoc}
 use Rattle.cert.proofs.Words.{are_principals, arith, body_text, both_ways, bytes_eq, bytes_eq-Decides, cases_Bool}
 use Rattle.cert.proofs.Words.{cert_type, check, ends_at, eq-eqb, eqb, eqb-true, false, front, inl, inr, is_key_id}
 use Rattle.cert.proofs.Words.{is_options, is_serial, is_some, is_validity, is_whole, key_blob, key_of, key_of_again}
@@ -21,7 +22,7 @@ use Rattle.cert.proofs.BodyParts.{with_serial, with_key, with_nonce, sample, sam
 -- fields that were read are valid, and the bytes are their text; a fault that was found is a fault of the bytes
 abbrev pub Says : List ℕ → Result CertFields CertFault → Type 0
 Says bytes (Ok c) = IsCertFields c × (bytes ≡ body_text c)
-Says bytes (Err e) = IsFault bytes e
+Says bytes (Err e) = IsCertFault bytes e
 
 pub becomes : (bytes : List ℕ) (r s : Result CertFields CertFault) → r ≡ s → Says bytes s → Says bytes r
 becomes bytes r s e h = subst (λ (q : Result CertFields CertFault). Says bytes q) (sym e) h
@@ -42,7 +43,7 @@ module _ (n : ℕ) (small : n < 12) (c : CertFields) (l : IsCertFields c) (bytes
     (takes : (s : S) (left : List ℕ) → at rest ≡ Some (s, left) → rest ≡ source s ++ left)
     (whole : is_whole n rest ≡ is_some (at rest)) (bad : CertFault)
     (next : A × List ℕ → Result CertFields CertFault) where
-  here_left : Leaves bytes n c rest
+  here_left : LeavesRest bytes n c rest
   here_left = record { lawful = l; text = text }
 
   -- the field is cut short, or its value is judged
@@ -58,7 +59,7 @@ module _ (n : ℕ) (small : n < 12) (c : CertFields) (l : IsCertFields c) (bytes
 
   -- its value passes a test, or is bad
   pub says_tested : (test : S → Bool) (value : S → A)
-      → (Leaves bytes n c rest → (s : S × List ℕ) → at rest ≡ Some s → test s.0 ≡ false → IsFault bytes bad)
+      → (LeavesRest bytes n c rest → (s : S × List ℕ) → at rest ≡ Some s → test s.0 ≡ false → IsCertFault bytes bad)
       → ((s : S) (left : List ℕ) → test s ≡ true → IsBytes left → bytes ≡ front n c ++ source s ++ left
       → Says bytes (next (value s, left)))
       → Says bytes (Tails.tested bad at test value rest >>= next)
@@ -76,8 +77,8 @@ module _ (n : ℕ) (small : n < 12) (c : CertFields) (l : IsCertFields c) (bytes
   pub says_made : (of : S → Option A) (written : A → S) (IsLawful : A → Type 0)
       → ((s : S) (x : A) (left : List ℕ) → rest ≡ source s ++ left → of s ≡ Some x → (s ≡ written x) × IsLawful x)
       → ((x : A) → IsLawful x → of (written x) ≡ Some x)
-      → (Leaves bytes n c rest → (s : S × List ℕ) → at rest ≡ Some s
-      → ¬ ((x : A) × IsLawful x × (s.0 ≡ written x)) → IsFault bytes bad)
+      → (LeavesRest bytes n c rest → (s : S × List ℕ) → at rest ≡ Some s
+      → ¬ ((x : A) × IsLawful x × (s.0 ≡ written x)) → IsCertFault bytes bad)
       → ((x : A) (left : List ℕ) → IsLawful x → IsBytes left → bytes ≡ front n c ++ source (written x) ++ left
       → Says bytes (next (x, left)))
       → Says bytes (Tails.made bad at of rest >>= next)

@@ -56,14 +56,14 @@ use Rattle.cert.specs.declared.cert_fault.CertFault.TheVariants.{
 }
 
 -- The bytes begin with the first n fields of a valid body, and this is the rest.
-pub record Leaves (bytes : List ℕ) (n : ℕ) (c : CertFields) (rest : List ℕ) : Type 0 where
+pub record LeavesRest (bytes : List ℕ) (n : ℕ) (c : CertFields) (rest : List ℕ) : Type 0 where
   pub lawful : IsCertFields c
   pub text : bytes ≡ front n c ++ rest
 
 -- After the first n fields comes a string that isn't valid.
 abbrev pub HasBadString : List ℕ → ℕ → (CertFields → List ℕ → Type 0) → Type 0
 HasBadString bytes n Lawful =
-    (c : CertFields) × (rest : List ℕ) × Leaves bytes n c rest
+    (c : CertFields) × (rest : List ℕ) × LeavesRest bytes n c rest
     × ((s : List ℕ × List ℕ) × (string_at rest ≡ Some s) × ¬ (Lawful c s.0))
 
 -- two 8-byte numbers, and the bytes after them
@@ -83,30 +83,30 @@ is_whole n bytes =
     else (if n == 7 then is_some (ends_at bytes) else is_some (string_at bytes)))
 
 -- what each fault means for the bytes; a refused allocation means nothing for them
-abbrev pub IsFault : List ℕ → CertFault → Type 0
-IsFault bytes Truncated =
-    (n : ℕ) × (n < 12) × (c : CertFields) × (rest : List ℕ) × Leaves bytes n c rest × (is_whole n rest ≡ false)
-IsFault bytes WrongType = HasBadString bytes 0 (λ c s. s ≡ cert_type)
-IsFault bytes BadNonce = HasBadString bytes 1 (λ c s. length s ≡ 32)
-IsFault bytes BadKey = HasBadString bytes 2 (λ c s. length s ≡ 32)
-IsFault bytes BadSerial =
-    (c : CertFields) × (rest : List ℕ) × Leaves bytes 3 c rest
+abbrev pub IsCertFault : List ℕ → CertFault → Type 0
+IsCertFault bytes Truncated =
+    (n : ℕ) × (n < 12) × (c : CertFields) × (rest : List ℕ) × LeavesRest bytes n c rest × (is_whole n rest ≡ false)
+IsCertFault bytes WrongType = HasBadString bytes 0 (λ c s. s ≡ cert_type)
+IsCertFault bytes BadNonce = HasBadString bytes 1 (λ c s. length s ≡ 32)
+IsCertFault bytes BadKey = HasBadString bytes 2 (λ c s. length s ≡ 32)
+IsCertFault bytes BadSerial =
+    (c : CertFields) × (rest : List ℕ) × LeavesRest bytes 3 c rest
     × ((n : ℕ × List ℕ) × (u64_at rest ≡ Some n) × ¬ (IsTrue (is_serial n.0)))
-IsFault bytes BadKind =
-    (c : CertFields) × (rest : List ℕ) × Leaves bytes 4 c rest
+IsCertFault bytes BadKind =
+    (c : CertFields) × (rest : List ℕ) × LeavesRest bytes 4 c rest
     × ((n : ℕ × List ℕ) × (u32_at rest ≡ Some n) × ((kind : Kind) → n.0 ≢ kind_number kind))
-IsFault bytes BadKeyId = HasBadString bytes 5 (λ c s. IsTrue (is_key_id s))
-IsFault bytes BadPrincipals =
+IsCertFault bytes BadKeyId = HasBadString bytes 5 (λ c s. IsTrue (is_key_id s))
+IsCertFault bytes BadPrincipals =
     HasBadString bytes 6 (λ c s. (ps : List (List ℕ)) × IsTrue (are_principals ps) × (s ≡ principals_text ps))
-IsFault bytes BadValidity =
-    (c : CertFields) × (rest : List ℕ) × Leaves bytes 7 c rest
+IsCertFault bytes BadValidity =
+    (c : CertFields) × (rest : List ℕ) × LeavesRest bytes 7 c rest
     × ((ends : ℕ × ℕ × List ℕ) × (ends_at rest ≡ Some ends) × ¬ (IsTrue (is_validity ends.0 ends.1)))
-IsFault bytes BadOptions =
+IsCertFault bytes BadOptions =
     HasBadString bytes 8 (λ c s. (ps : List Pair) × IsTrue (is_options CriticalOptions c.kind ps) ×
     (s ≡ options_text ps))
-IsFault bytes BadExtensions =
+IsCertFault bytes BadExtensions =
     HasBadString bytes 9 (λ c s. (ps : List Pair) × IsTrue (is_options Extensions c.kind ps) × (s ≡ options_text ps))
-IsFault bytes BadReserved = HasBadString bytes 10 (λ c s. s ≡ [])
-IsFault bytes BadCa = HasBadString bytes 11 (λ c s. (key : List ℕ) × (length key ≡ 32) × (s ≡ key_blob key))
-IsFault bytes TrailingBytes = (c : CertFields) × (rest : List ℕ) × Leaves bytes 12 c rest × (rest ≢ [])
-IsFault bytes NoMemory = Unit {0}
+IsCertFault bytes BadReserved = HasBadString bytes 10 (λ c s. s ≡ [])
+IsCertFault bytes BadCa = HasBadString bytes 11 (λ c s. (key : List ℕ) × (length key ≡ 32) × (s ≡ key_blob key))
+IsCertFault bytes TrailingBytes = (c : CertFields) × (rest : List ℕ) × LeavesRest bytes 12 c rest × (rest ≢ [])
+IsCertFault bytes NoMemory = Unit {0}

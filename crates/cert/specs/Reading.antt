@@ -61,10 +61,10 @@ abbrev pub check : CertFault → Bool → Result (Unit {0}) CertFault
 check e b = if b then Ok tt else Err e
 
 -- The result is what reading gives, unless memory was refused.
-abbrev pub Gives : {X : Type 0} → Result X CertFault → Result X CertFault → Type 0
-Gives (Ok x) read = read ≡ Ok x
-Gives (Err NoMemory) read = Unit {0}
-Gives (Err e) read = read ≡ Err e
+abbrev pub GivesPart : {X : Type 0} → Result X CertFault → Result X CertFault → Type 0
+GivesPart (Ok x) read = read ≡ Ok x
+GivesPart (Err NoMemory) read = Unit {0}
+GivesPart (Err e) read = read ≡ Err e
 
 -- The same with the remaining bytes.
 abbrev pub GivesRest : {X : Type 0} → Result X CertFault → List ℕ → Result (X × List ℕ) CertFault → Type 0

@@ -3,7 +3,7 @@ use Rattle.std.proofs.Common.{◌≡◌, ◌⊎◌, ◌∙◌, true, List, Optio
 use Rattle.clap.specs.Words.{App, IsAmong, Text, fault_of, is_simple_and_free}
 use Rattle.clap.specs.declared.error.kind.ErrorKind.{ErrorKind}
 use Rattle.clap.specs.declared.error.kind.ErrorKind.TheVariants.{OutOfMemory}
-use Rattle.command_line.specs.Answers.{IsAnswered, IsErrorOf, IsFaultOf, IsLack, IsLackOfAny}
+use Rattle.command_line.specs.Answers.{IsFaultOfClap, IsErrorOf, IsFaultOf, IsLack, IsLackOfAny}
 use Rattle.command_line.specs.Asked.{Asked, asked_of}
 use Rattle.command_line.specs.Command.{office_command}
 use Rattle.command_line.specs.declared.words_fault.WordsFault.{WordsFault}
@@ -30,7 +30,7 @@ lack_is_fault words found (BadWords text) same lack = inr (sym same ∙ lack)
 lack_is_fault words found NoMemory same lack = tt
 
 -- An error of clap as a fault of the words.
-pub error_says : (app : App) (words : List Text) (kind : ErrorKind) (fault : WordsFault) → IsAnswered kind fault
+pub error_says : (app : App) (words : List Text) (kind : ErrorKind) (fault : WordsFault) → IsFaultOfClap kind fault
     → (kind ≡ OutOfMemory) ⊎ IsAmong kind (fault_of app words) → IsErrorOf app words fault
 error_says app words kind (Help text) (inl help) (inl none) = absurd cc
 error_says app words kind (Help text) (inr version) (inl none) = absurd cc
@@ -41,7 +41,7 @@ error_says app words kind NoMemory answered among = tt
 
 -- The same for the office's command.
 pub error_is_fault : (app : App) (words : List Text) (kind : ErrorKind) (fault : WordsFault) → app ≡ office_command
-    → IsAnswered kind fault → (is_simple_and_free app ≡ true → (kind ≡ OutOfMemory) ⊎ IsAmong kind (fault_of app words))
+    → IsFaultOfClap kind fault → (is_simple_and_free app ≡ true → (kind ≡ OutOfMemory) ⊎ IsAmong kind (fault_of app words))
     → IsFaultOf words fault
 error_is_fault app words kind fault same answered among =
     go fault (error_says office_command words kind fault answered

@@ -54,10 +54,10 @@ IsErrorOf app words (BadWords text) = HaveMistake app words
 IsErrorOf app words NoMemory = Unit {0}
 
 -- the fault that a clap error becomes
-abbrev pub IsAnswered : ErrorKind → WordsFault → Type 0
-IsAnswered kind (Help text) = IsWish kind
-IsAnswered kind (BadWords text) = IsMistake kind
-IsAnswered kind NoMemory = Unit {0}
+abbrev pub IsFaultOfClap : ErrorKind → WordsFault → Type 0
+IsFaultOfClap kind (Help text) = IsWish kind
+IsFaultOfClap kind (BadWords text) = IsMistake kind
+IsFaultOfClap kind NoMemory = Unit {0}
 
 -- the fault for a required value: `BadWords` only if there is none
 abbrev pub IsLack : {A : Type 0} → Option A → WordsFault → Type 0

@@ -34,16 +34,16 @@ asked (job.Migrate db) = migrate (string_bytes db)
 asked job.Selftest = selftest
 
 -- the number that `u64` parses from a text, if it is within these limits
-abbrev pub number_of : ℕ → ℕ → Text → Option ℕ
-number_of low high t = if is_unsigned_in low high t then Some (digits_value 10 (without_leading_plus t)) else None
+abbrev pub number_within : ℕ → ℕ → Text → Option ℕ
+number_within low high t = if is_unsigned_in low high t then Some (digits_value 10 (without_leading_plus t)) else None
 
 -- the number that was given for an option or argument
-abbrev pub number_at : List Row → Text → ℕ → ℕ → Option ℕ
-number_at rows name low high = option_and_then (number_of low high) (first_of name rows)
+abbrev pub number_given : List Row → Text → ℕ → ℕ → Option ℕ
+number_given rows name low high = option_and_then (number_within low high) (first_of name rows)
 
 -- the same for an option that may be omitted: then it is this number
 abbrev pub number_or : List Row → Text → (limits : ℕ × ℕ) → ℕ → Option ℕ
-number_or rows name limits none = option_map_or (number_of limits.0 limits.1) (first_of name rows) (Some none)
+number_or rows name limits none = option_map_or (number_within limits.0 limits.1) (first_of name rows) (Some none)
 
 infixl 10 ◌>>=◌
 abbrev pub ◌>>=◌ : {A B : Type 0} → Option A → (A → Option B) → Option B
@@ -55,8 +55,8 @@ init_in rows = do
   ca ← first_of (codes "ca") rows
   root ← first_of (codes "root") rows
   station ← first_of (codes "station") rows
-  first ← number_at rows (codes "first") 0 most
-  last ← number_at rows (codes "last") 0 most
+  first ← number_given rows (codes "first") 0 most
+  last ← number_given rows (codes "last") 0 most
   Some (init db ca root station first last)
 
 abbrev pub apply_in : List Row → Option Asked
@@ -65,8 +65,8 @@ apply_in rows = option_map (apply (first_of (codes "db") rows)) (first_of (codes
 abbrev pub serve_in : List Row → Option Asked
 serve_in rows = do
   db ← first_of (codes "db") rows
-  port ← number_at rows (codes "port") 0 65535
-  connections ← number_at rows (codes "connections") 1 1000000
+  port ← number_given rows (codes "port") 0 65535
+  connections ← number_given rows (codes "connections") 1 1000000
   nonces ← first_of (codes "nonces") rows
   Some (serve db port connections nonces)
 
@@ -74,7 +74,7 @@ abbrev pub check_in : List Row → Option Asked
 check_in rows = do
   ca ← first_of (codes "ca") rows
   list ← first_of (codes "KRL") rows
-  serial ← number_at rows (codes "SERIAL") 1 most
+  serial ← number_given rows (codes "SERIAL") 1 most
   key_id ← first_of (codes "KEYID") rows
   Some (check ca list serial key_id)
 

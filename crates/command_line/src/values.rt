@@ -5,7 +5,7 @@ ghost use Rattle.std.specs.Prelude.{string_bytes};
 ghost use Rattle.clap.specs.Words.{all_of, first_of, found_of, rows_of};
 ghost use Rattle.command_line.specs.Answers.{IsLack, IsLackOfAny};
 ghost use Rattle.command_line.specs.declared.words_fault.WordsFault.TheVariants.{NoMemory};
-ghost use Rattle.command_line.specs.Asked.{number_at, number_of, number_or};
+ghost use Rattle.command_line.specs.Asked.{number_given, number_within, number_or};
 
 use crate::WordsFault;
 use clap::ArgMatches;
@@ -64,7 +64,7 @@ pub fn text_if_given(
 
 // The number in a text, from `low` to `high`.
 fn number_of(text: &str, low: u64, high: u64) -> Option<u64>
-    ensures number { result ≡ number_of low high text.now }
+    ensures number { result ≡ number_within low high text.now }
     ensures limits { IfSome result (λ n. (low ≤ n) × (n ≤ high)) }
 {
     match text.parse::<u64>() {
@@ -86,9 +86,9 @@ pub fn number_at(
     low: u64,
     high: u64,
 ) -> Result<u64, WordsFault>
-    ensures ok { IfOk result (λ n. number_at (rows_of (found_of found.now)) name.now low high ≡ Some n) }
+    ensures ok { IfOk result (λ n. number_given (rows_of (found_of found.now)) name.now low high ≡ Some n) }
     ensures limits { IfOk result (λ n. (low ≤ n) × (n ≤ high)) }
-    ensures err { IfErr result (IsLack (number_at (rows_of (found_of found.now)) name.now low high)) }
+    ensures err { IfErr result (IsLack (number_given (rows_of (found_of found.now)) name.now low high)) }
 {
     match value_at(found, name) {
         Some(text) => match number_of(text, low, high) {

@@ -2,7 +2,7 @@
 
 ghost use Rattle.std.specs.Prelude.{◌≡◌, map, Some, IfOk, IfErr, string_bytes};
 ghost use Rattle.clap.specs.Words.{found_of, kind_of, rows_of, subcommand_rows_of};
-ghost use Rattle.command_line.specs.Answers.{IsAnswered, IsFaultOf, IsLack, Names};
+ghost use Rattle.command_line.specs.Answers.{IsFaultOfClap, IsFaultOf, IsLack, Names};
 ghost use Rattle.command_line.specs.Asked.{apply_in, asked, asked_by, asked_in, check_in, database_in, init_in, krl};
 ghost use Rattle.command_line.specs.Asked.{migrate, serve_in, signers, table};
 
@@ -128,7 +128,7 @@ fn job_by(alloc: Global, matches: &ArgMatches<'_>) -> Result<Job, WordsFault>
 
 /// The fault that an error of clap becomes: its text, or `NoMemory` if memory was refused.
 pub fn fault_by(alloc: Global, error: &Error) -> WordsFault
-    ensures { IsAnswered (kind_of error.now) result }
+    ensures { IsFaultOfClap (kind_of error.now) result }
 {
     if matches!(error.kind(), ErrorKind::OutOfMemory) {
         return WordsFault::NoMemory;

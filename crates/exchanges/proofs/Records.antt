@@ -20,14 +20,14 @@ use Rattle.values.proofs.Lacking.{Lacks, after_first-append, before_first-append
 use Rattle.web.specs.declared.exchange.Exchange.{Exchange}
 use Rattle.exchanges.specs.declared.exchange_reader.TheConstants.{MAX_REQUEST}
 use Rattle.exchanges.specs.Exchanges.{IsExchange, exchange_text}
-use Rattle.exchanges.specs.Reading.{after, cut_of, exchange_at, if_lower, nonce_of, number_up_to, request_in}
+use Rattle.exchanges.specs.Reading.{rest_after, cut_of, exchange_at, if_lower, nonce_of, number_up_to, request_in}
 
 abbrev Cut : Type 0
 Cut = List ℕ × List ℕ
 
 -- ---- bytes after a prefix
 
-after_found : (head t rest : List ℕ) → after head t ≡ Some rest → t ≡ head ++ rest
+after_found : (head t rest : List ℕ) → rest_after head t ≡ Some rest → t ≡ head ++ rest
 after_found head t rest e =
     let n : ℕ = length head in
     elim (cases_Bool (bytes_eq (take n t) head)) [
@@ -225,7 +225,7 @@ unfolding exchange_at
 read_words_before e rest is =
     let sized : List ℕ = decimal (length e.request) ++ 10 ∷ (e.request ++ rest) in
     let small : length e.request < 2 ^ 64 = omega (arith, is.size) in
-    step (after (codes "exchange ") (codes "exchange " ++ words_before e rest)) (words_before e rest) with_words _ refl
+    step (rest_after (codes "exchange ") (codes "exchange " ++ words_before e rest)) (words_before e rest) with_words _ refl
     (step (number_up_to 32 (words_before e rest)) (e.moment, encode_lower e.nonce ++ 32 ∷ sized) with_moment _
     (number_up_to_again 32 e.moment _ is.moment (decimal_lacks 32 e.moment refl is.moment))
     (step (cut_of 32 (encode_lower e.nonce ++ 32 ∷ sized)) (encode_lower e.nonce, sized) (with_digits e.moment) _
@@ -244,7 +244,7 @@ exchange_at-text e rest is = ap exchange_at (regrouped e rest) ∙ read_words_be
 pub exchange_at-found : (t : List ℕ) (p : Left) → exchange_at t ≡ Some p → (t ≡ exchange_text p.0 ++ p.1) × IsExchange p.0
 unfolding exchange_at
 exchange_at-found t p e =
-    option_and_then_some _ (after (codes "exchange ") t) p e (λ words begun e1.
+    option_and_then_some _ (rest_after (codes "exchange ") t) p e (λ words begun e1.
     option_and_then_some _ (number_up_to 32 words) p e1 (λ moment first e2.
     option_and_then_some _ (cut_of 32 moment.1) p e2 (λ digits second e3.
     option_and_then_some _ (nonce_of digits.0) p e3 (λ nonce third e4.

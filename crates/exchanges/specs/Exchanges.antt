@@ -47,6 +47,6 @@ pub record TellsOf (file bytes : List ℕ) : Type 0 where
   pub bad : (k : ℕ) → IsBadRecord bytes k ↔ IsBadRecord file k
 
 -- what a returned fault implies about the file
-abbrev pub IsFault : List ℕ → ExchangesFault → Type 0
-IsFault file (BadExchange k) = IsBadRecord file k
-IsFault file NoMemory = Unit {0}
+abbrev pub IsExchangesFault : List ℕ → ExchangesFault → Type 0
+IsExchangesFault file (BadExchange k) = IsBadRecord file k
+IsExchangesFault file NoMemory = Unit {0}

@@ -11,8 +11,8 @@ use Rattle.web.specs.declared.exchange.Exchange.{Exchange}
 use Rattle.exchanges.specs.declared.exchange_reader.Record.{Record}
 
 -- the bytes after this prefix
-abbrev pub after : List ℕ → List ℕ → Option (List ℕ)
-after head t = if bytes_eq (take (length head) t) head then Some (drop (length head) t) else None
+abbrev pub rest_after : List ℕ → List ℕ → Option (List ℕ)
+rest_after head t = if bytes_eq (take (length head) t) head then Some (drop (length head) t) else None
 
 -- the bytes before the first occurrence of this byte, and the bytes after it
 abbrev pub cut_of : ℕ → List ℕ → Option (List ℕ × List ℕ)
@@ -42,13 +42,13 @@ abbrev pub ◌>>=◌ : {A B : Type 0} → Option A → (A → Option B) → Opti
 o >>= f = option_and_then f o
 
 -- the exchange of a record
-abbrev pub exchange_of : Record → Exchange
-exchange_of r = record { request = r.request.now; moment = r.moment; nonce = r.nonce }
+abbrev pub recorded_exchange : Record → Exchange
+recorded_exchange r = record { request = r.request.now; moment = r.moment; nonce = r.nonce }
 
 -- the exchange of the first record, and the bytes after it
 unfoldable pub exchange_at : List ℕ → Option (Exchange × List ℕ)
 exchange_at t = do
-  words ← after (codes "exchange ") t
+  words ← rest_after (codes "exchange ") t
   moment ← number_up_to 32 words
   digits ← cut_of 32 moment.1
   nonce ← nonce_of digits.0

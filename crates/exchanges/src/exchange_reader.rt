@@ -23,8 +23,9 @@ ghost use Rattle.std.specs.Result.{result_ok};
 ghost use Rattle.std.specs.Str.{bytes_eq};
 ghost use Rattle.hex.specs.Hex.{decode_sized, encode_lower};
 ghost use Rattle.web.specs.declared.exchange.Exchange.{Exchange};
-ghost use Rattle.exchanges.specs.Reading.{after, cut_of, exchange_at, exchange_of, nonce_of, number_up_to, request_in};
-ghost use Rattle.exchanges.specs.Exchanges.{AreExchanges, IsFault, TellsOf, exchanges_text};
+ghost use Rattle.exchanges.specs.Reading.{rest_after, cut_of, exchange_at, recorded_exchange, nonce_of, number_up_to};
+ghost use Rattle.exchanges.specs.Reading.{request_in};
+ghost use Rattle.exchanges.specs.Exchanges.{AreExchanges, IsExchangesFault, TellsOf, exchanges_text};
 
 use std::alloc::Global;
 use text::{NoMemory, Text};
@@ -149,7 +150,7 @@ fn request_in(size: u64, text: &[u8]) -> Option<(&[u8], &[u8])>
 
 // The bytes after the word that begins a record.
 fn after_word(text: &[u8]) -> Option<&[u8]>
-    ensures { option_copied result ≡ after (codes "exchange ") text.now }
+    ensures { option_copied result ≡ rest_after (codes "exchange ") text.now }
 {
     text.strip_prefix(b"exchange ".as_slice())
 }
@@ -157,7 +158,7 @@ fn after_word(text: &[u8]) -> Option<&[u8]>
 // The first record.
 #[tactic(auto, unfolding(crate::specs::Reading::exchange_at))]
 fn read_record(text: &[u8]) -> Option<Record<'_>>
-    ensures { option_map (λ r. (exchange_of r, r.rest.now)) result ≡ exchange_at text.now }
+    ensures { option_map (λ r. (recorded_exchange r, r.rest.now)) result ≡ exchange_at text.now }
 {
     let Some(words) = after_word(text) else {
         return None;
@@ -186,7 +187,7 @@ fn read_record(text: &[u8]) -> Option<Record<'_>>
 }
 
 fn exchange_of(alloc: Global, found: &Record<'_>) -> Result<Exchange, NoMemory>
-    ensures { IfOk result (λ e. e ≡ exchange_of found.now) }
+    ensures { IfOk result (λ e. e ≡ recorded_exchange found.now) }
 {
     let nonce = found.nonce;
     Ok(Exchange {
@@ -202,7 +203,7 @@ fn push_record(
     alloc: Global,
     found: &Record<'_>,
 ) -> Result<(), NoMemory>
-    ensures { OnOk result (exchanges.new.items ≡ exchanges.old.items ++ exchange_of found.now ∷ []) }
+    ensures { OnOk result (exchanges.new.items ≡ exchanges.old.items ++ recorded_exchange found.now ∷ []) }
 {
     exchanges.push(exchange_of(alloc, found)?)?;
     Ok(())
@@ -224,7 +225,7 @@ pub fn read_exchanges(alloc: Global, file: &[u8]) -> Result<Vec<Exchange>, Excha
         → MatchResult result (λ v. v.items ≡ es) (λ e. e ≡ ExchangesFault.NoMemory) }
 
     // The reported record is the first bad one.
-    ensures bad { IfErr result (λ e. IsFault file.now e) }
+    ensures bad { IfErr result (λ e. IsExchangesFault file.now e) }
 {
     let mut exchanges = Vec::new(alloc);
     let mut rest = file;

@@ -4,16 +4,16 @@ use Rattle.sqlite.specs.Kind.TheVariants.{Integer, Blob}
 use Rattle.sqlite.specs.Table.{Table}
 use Rattle.sqlite.specs.Schema.{Schema}
 use Rattle.sqlite.specs.Change.{created}
-use Rattle.store_sql.specs.Schema.{by_number, no_schema, optional, required}
+use Rattle.store_sql.specs.Schema.{by_number, no_schema, optional_column, required_column}
 
 abbrev pub guard : Table
 guard = by_number (codes "guard") (
-    optional (codes "id") Integer ∷ required (codes "schema") Integer ∷ required (codes "ca") Blob
-    ∷ required (codes "first") Integer ∷ required (codes "last") Integer ∷ [])
+    optional_column (codes "id") Integer ∷ required_column (codes "schema") Integer ∷ required_column (codes "ca") Blob
+    ∷ required_column (codes "first") Integer ∷ required_column (codes "last") Integer ∷ [])
 
 abbrev pub approved : Table
 approved = by_number (codes "approved") (
-    optional (codes "serial") Integer ∷ required (codes "moment") Integer ∷ required (codes "body") Blob ∷ [])
+    optional_column (codes "serial") Integer ∷ required_column (codes "moment") Integer ∷ required_column (codes "body") Blob ∷ [])
 
 abbrev pub through_guard : Schema
 through_guard = created no_schema guard

@@ -25,7 +25,7 @@ use Rattle.office_laws.specs.Lists.{AreExactList, IsExact}
 use Rattle.office_laws.specs.Signers.{signer_of}
 use Rattle.store.specs.Arriving.{IsStopped}
 use Rattle.store.specs.Transactions.{IsAsBefore}
-use Rattle.store.specs.Meaning.{HasFailed, KeepsTelling, Stores, Tells}
+use Rattle.store.specs.Meaning.{RegisterHasFailed, KeepsTelling, Stores, Tells}
 use Rattle.web.specs.declared.exchange.Exchange.{Exchange}
 use Rattle.web.specs.declared.exchange.Given.{Given}
 use Rattle.web.specs.declared.exchange.Given.TheVariants.{Answer, Fault}
@@ -111,7 +111,7 @@ FailsAsRegister old new r = IfErr r (λ e. (o : Opening) (l : List Arrival) → 
 -- The database failed while it answered this request, or its rules refused a row of the request's arrival.
 abbrev pub OfficeStops : {S : Type 0} → (S → State) → (request : List ℕ) → ℕ → (nonce : List ℕ) → S → S → Type 0
 OfficeStops of request moment nonce old new =
-    StopsAt (λ s. Tells (of s)) (λ a b. HasFailed (of a) (of b)) (λ a b x. IsStopped (of a) (of b) x)
+    StopsAt (λ s. Tells (of s)) (λ a b. RegisterHasFailed (of a) (of b)) (λ a b x. IsStopped (of a) (of b) x)
     request moment nonce old new
 
 -- Each response to a GET of the list is the exact list of the history before it.
@@ -153,10 +153,10 @@ RunsUnprinted exchanges old new r = r ≡ Err run.Write → OfficeRuns old new e
 -- ---- a list that is not written
 
 -- the writer failed
-abbrev pub is_write : Result (Unit {0}) PublishFault → Bool
-is_write (Ok done) = false
-is_write (Err (Store fault)) = false
-is_write (Err Write) = true
+abbrev pub is_unwritten : Result (Unit {0}) PublishFault → Bool
+is_unwritten (Ok done) = false
+is_unwritten (Err (Store fault)) = false
+is_unwritten (Err Write) = true
 
 -- a property of the fault, if it is one of the register
 abbrev pub OfStore : (StoreFault → Type 0) → PublishFault → Type 0

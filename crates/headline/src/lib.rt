@@ -19,8 +19,8 @@ ghost use Rattle.sqlite.specs.State.{HasCleanDisk};
 ghost use Rattle.store_sql.specs.Honest.{Between, On, StaysClean};
 ghost use Rattle.office.specs.declared.opening.Opening.{Opening};
 ghost use Rattle.office.specs.declared.arrival.Arrival.{Arrival};
-ghost use Rattle.office.specs.Faults.{HasCause};
-ghost use Rattle.store.specs.Meaning.{HasFailed, KeepsTelling, StoresWhereOpen};
+ghost use Rattle.office.specs.Faults.{HasRegisterCause};
+ghost use Rattle.store.specs.Meaning.{RegisterHasFailed, KeepsTelling, StoresWhereOpen};
 ghost use Rattle.web.specs.Answers.{AsksNoChange};
 ghost use Rattle.web.specs.Causes.{IsOfAList};
 ghost use Rattle.web.specs.Runs.{AskNoChange};
@@ -29,7 +29,7 @@ ghost use Rattle.headline.specs.Headline.{AnswersDue, AnswersList, BodiesNameThe
 ghost use Rattle.headline.specs.Headline.{EqualVersionsAreEqualLists, FailsAsRegister, IsAsBeforeWhereOpen};
 ghost use Rattle.headline.specs.Headline.{KeepsTellingOnErr, ListsForgetNothing, OfStore, OfficeStops, PrintsDue};
 ghost use Rattle.headline.specs.Headline.{PrintsWithFaults, PublishFailsAsRegister, RunsUnprinted, StoresWhereFound};
-ghost use Rattle.headline.specs.Headline.{WritesList, is_write};
+ghost use Rattle.headline.specs.Headline.{WritesList, is_unwritten};
 
 pub use exchanges::RunFault;
 use exchanges::apply_exchanges;
@@ -115,7 +115,7 @@ pub fn respond<S: Alter>(
     // If the tables represent a history, the fault is `NoMemory` or `Device`. `Device` is returned only if the database
     // failed, or refused a specified row.
     ensures only { On S.Store FailsAsRegister store.old.conn store.new.conn result }
-    ensures cause { HasCleanDisk (state S.Store store.new.conn) → IfErr result (λ e. HasCause e (OfficeStops
+    ensures cause { HasCleanDisk (state S.Store store.new.conn) → IfErr result (λ e. HasRegisterCause e (OfficeStops
         (λ s. state S.Store s.conn) request.now moment nonce.now store.old store.new)) }
 
     // A disk that has been faithful when the call ends was faithful when it began.
@@ -145,7 +145,7 @@ fn write_found<W: Sink>(revoked: &Revoked, sink: &mut W) -> Result<(), PublishFa
     ensures ok { OnOk result (Appends (W.taken sink.old) (W.taken sink.new)
         (published_text revoked.now.head revoked.now.parts.items revoked.now.key_ids)) }
     ensures unwritten { IfErr result (λ e. e ≢ PublishFault.Write → sink.new ≡ sink.old) }
-    ensures failed { W.failed sink.new ≡ (if is_write result then W.failed sink.old + 1 else W.failed sink.old) }
+    ensures failed { W.failed sink.new ≡ (if is_unwritten result then W.failed sink.old + 1 else W.failed sink.old) }
     ensures only { IfErr result (OfStore (IsOfAList (length revoked.now.parts.items))) }
 {
     let parts = revoked.parts.as_slice();
@@ -188,12 +188,12 @@ pub fn publish<S: Alter, W: Sink>(
     // After any fault except the writer's, nothing is written. The writer's fault is returned exactly when the writer
     // failed.
     ensures unwritten { IfErr result (λ e. e ≢ PublishFault.Write → sink.new ≡ sink.old) }
-    ensures failed { W.failed sink.new ≡ (if is_write result then W.failed sink.old + 1 else W.failed sink.old) }
+    ensures failed { W.failed sink.new ≡ (if is_unwritten result then W.failed sink.old + 1 else W.failed sink.old) }
 
     // If the tables represent a history, a fault of the register is `NoMemory` or `Device`. `Device` is returned only
     // if the database failed.
     ensures only { On S.Store PublishFailsAsRegister store.old.conn store.new.conn result }
-    ensures cause { IfErr result (OfStore (λ e. HasCause e (HasFailed (state S.Store store.old.conn)
+    ensures cause { IfErr result (OfStore (λ e. HasRegisterCause e (RegisterHasFailed (state S.Store store.old.conn)
         (state S.Store store.new.conn)))) }
 {
     office_laws::the_list_is_exact();

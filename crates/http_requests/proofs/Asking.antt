@@ -12,7 +12,7 @@ use Rattle.values.specs.declared.refusal.Refusal.TheVariants.{BadHead, NoRoute, 
 use Rattle.values.specs.declared.refusal.Refusal.TheVariants.{LengthRequired, TooLong, ShortBody}
 use Rattle.http_requests.specs.Heads.{IsHead, lengths, is_coded}
 use Rattle.http_requests.specs.Paths.{Path, message, resource, IsPath}
-use Rattle.http_requests.specs.Asks.{Ask, refused, get, post, posted, asked_at, HeadAsks, Asks, IsLawful}
+use Rattle.http_requests.specs.Asks.{Ask, refused, get, post, posted, asked_at, HeadAsks, Asks, IsLawfulAsk}
 use Rattle.http_requests.specs.BodySizes.{stated_size, size_at, WantsBody}
 use Rattle.http_requests.proofs.OneAsk.{same_path}
 
@@ -24,7 +24,7 @@ taken caller key n rest = cond (nat_lt (length rest) n) (refused ShortBody) (pos
 
 -- a property of constant asks, with size 0, and of messages, with their size, holds of each ask at a path
 module _ (P : (List ℕ → Ask) → ℕ → Type 0)
-    (fixed : (a : Ask) → IsLawful a → ¬ (a ≡ refused ShortBody) → P (λ rest. a) 0)
+    (fixed : (a : Ask) → IsLawfulAsk a → ¬ (a ≡ refused ShortBody) → P (λ rest. a) 0)
     (body : (caller key : List ℕ) (n : ℕ) → IsPath (message caller key) → n ≤ 16384 → P (taken caller key n) n) where
   posted_cases : (caller key : List ℕ) → IsPath (message caller key) → (known : List (List ℕ)) (coded : Bool)
       → P (λ rest. posted caller key known coded rest) (stated_size known coded)
@@ -53,17 +53,17 @@ module _ (P : (List ℕ → Ask) → ℕ → Type 0)
 -- ---- validity
 
 taken_lawful : (rest caller key : List ℕ) (n : ℕ) → IsPath (message caller key) → n ≤ 16384
-    → IsLawful (taken caller key n rest)
-taken_lawful rest caller key n is few = cond_both (nat_lt (length rest) n) _ _ IsLawful (λ _. lit≤ tt)
+    → IsLawfulAsk (taken caller key n rest)
+taken_lawful rest caller key n is few = cond_both (nat_lt (length rest) n) _ _ IsLawfulAsk (λ _. lit≤ tt)
     (λ _. (is.0, is.1, omega (arith, length-take n rest)))
 
-pub lawful_of_head : (h : RequestHead) (rest : List ℕ) (a : Ask) → HeadAsks h rest a → IsLawful a
-lawful_of_head h rest a (inl (none, e)) = subst IsLawful (sym e) (lit≤ tt)
-lawful_of_head h rest a (inr (p, is, text, e)) = subst IsLawful (sym e)
-    (asked_cases (λ f n. IsLawful (f rest)) (λ a lawful differs. lawful) (taken_lawful rest) p h is)
+pub lawful_of_head : (h : RequestHead) (rest : List ℕ) (a : Ask) → HeadAsks h rest a → IsLawfulAsk a
+lawful_of_head h rest a (inl (none, e)) = subst IsLawfulAsk (sym e) (lit≤ tt)
+lawful_of_head h rest a (inr (p, is, text, e)) = subst IsLawfulAsk (sym e)
+    (asked_cases (λ f n. IsLawfulAsk (f rest)) (λ a lawful differs. lawful) (taken_lawful rest) p h is)
 
-pub lawful_of : (bytes : List ℕ) (a : Ask) → Asks bytes a → IsLawful a
-lawful_of bytes a (inl (none, e)) = subst IsLawful (sym e) (lit≤ tt)
+pub lawful_of : (bytes : List ℕ) (a : Ask) → Asks bytes a → IsLawfulAsk a
+lawful_of bytes a (inl (none, e)) = subst IsLawfulAsk (sym e) (lit≤ tt)
 lawful_of bytes a (inr (h, rest, good, asked)) = lawful_of_head h rest a asked
 
 -- ---- bytes that come later

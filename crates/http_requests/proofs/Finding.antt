@@ -20,7 +20,7 @@ use Rattle.http_requests.specs.declared.resource.Resource.TheVariants as a
 use Rattle.http_requests.specs.declared.router.RouteKind.{RouteKind}
 use Rattle.http_requests.specs.declared.router.RouteKind.TheVariants.{Message, Certificate, Body, Fixed}
 use Rattle.http_requests.specs.Paths.{Path, message, resource, IsPath, path_text}
-use Rattle.http_requests.specs.Routing.{routing, row_of}
+use Rattle.http_requests.specs.Routing.{routing, route_row}
 use Rattle.http_requests.proofs.Seeking.{IsPart, lits, at_end, cuts_none, cuts_slash, to_slash, to_end}
 
 -- ---- parameters
@@ -53,23 +53,23 @@ byte_misses x h = grind (arith, nat_tests)
 -- ---- paths
 
 message_found : (c k : List ℕ) → IsPart c → IsPart k
-    → first routing (codes "/v1/callers/" ++ (c ++ (codes "/requests/" ++ k))) ≡ Some (row_of Message)
+    → first routing (codes "/v1/callers/" ++ (c ++ (codes "/requests/" ++ k))) ≡ Some (route_row Message)
 message_found c k caller key =
-    lits (codes "/v1/callers/") routing (c ++ (codes "/requests/" ++ k)) (row_of Message)
-    (to_slash _ c (codes "requests/" ++ k) (row_of Message) caller (λ x h. rw (byte_misses x h) (refl {a = []}))
-    (rw (cuts_slash c caller.some) (refl {a = 47 ∷ []})) (lits (codes "/requests/") _ k (row_of Message)
-    (to_end _ k (row_of Message) key (λ x h. rw (byte_misses x h) (refl {a = []})) refl refl)))
+    lits (codes "/v1/callers/") routing (c ++ (codes "/requests/" ++ k)) (route_row Message)
+    (to_slash _ c (codes "requests/" ++ k) (route_row Message) caller (λ x h. rw (byte_misses x h) (refl {a = []}))
+    (rw (cuts_slash c caller.some) (refl {a = 47 ∷ []})) (lits (codes "/requests/") _ k (route_row Message)
+    (to_end _ k (route_row Message) key (λ x h. rw (byte_misses x h) (refl {a = []})) refl refl)))
 
-certificate_found : (c : List ℕ) → IsPart c → first routing (codes "/v1/certs/" ++ c) ≡ Some (row_of Certificate)
-certificate_found c part = lits (codes "/v1/certs/") routing c (row_of Certificate)
-    (to_end _ c (row_of Certificate) part (λ x h. rw (byte_misses x h) (refl {a = []}))
+certificate_found : (c : List ℕ) → IsPart c → first routing (codes "/v1/certs/" ++ c) ≡ Some (route_row Certificate)
+certificate_found c part = lits (codes "/v1/certs/") routing c (route_row Certificate)
+    (to_end _ c (route_row Certificate) part (λ x h. rw (byte_misses x h) (refl {a = []}))
     (rw (cuts_none c part.clear) (refl {a = []})) refl)
 
-body_found : (c : List ℕ) → IsPart c → first routing (codes "/v1/certs/" ++ (c ++ codes "/body")) ≡ Some (row_of Body)
-body_found c part = lits (codes "/v1/certs/") routing (c ++ codes "/body") (row_of Body)
-    (to_slash _ c (codes "body") (row_of Body) part (λ x h. rw (byte_misses x h) (refl {a = []}))
+body_found : (c : List ℕ) → IsPart c → first routing (codes "/v1/certs/" ++ (c ++ codes "/body")) ≡ Some (route_row Body)
+body_found c part = lits (codes "/v1/certs/") routing (c ++ codes "/body") (route_row Body)
+    (to_slash _ c (codes "body") (route_row Body) part (λ x h. rw (byte_misses x h) (refl {a = []}))
     (rw (cuts_slash c part.some) (refl {a = 47 ∷ []}))
-    (lits (codes "/body") _ [] (row_of Body) (at_end (([], row_of Body) ∷ []))))
+    (lits (codes "/body") _ [] (route_row Body) (at_end (([], route_row Body) ∷ []))))
 
 -- the route of a path
 abbrev pub kind_at : Path → RouteKind
@@ -79,7 +79,7 @@ kind_at (resource (a.Body n)) = Body
 kind_at (resource r) = Fixed r
 
 -- the text of a path finds the path's route
-pub routed : (p : Path) → IsPath p → first routing (path_text p) ≡ Some (row_of (kind_at p))
+pub routed : (p : Path) → IsPath p → first routing (path_text p) ≡ Some (route_row (kind_at p))
 unfolding matchit_on_literals
 routed (message caller key) is = message_found caller key (part_of_name caller is.0) (part_of_name key is.1)
 routed (resource (a.Certificate n)) is = certificate_found (decimal n) (part_of_serial n is)
@@ -91,7 +91,7 @@ pub same_route : (path : List ℕ) (r : RouteOf RouteKind) (p : Path)
     → IsPath p → first routing path ≡ Some r → path ≡ path_text p → r.value ≡ kind_at p
 same_route path r p is found e =
     let same = sym found ∙ ap (first routing) e ∙ routed p is in
-    let row : r ≡ row_of (kind_at p) = cc in
+    let row : r ≡ route_row (kind_at p) = cc in
     ap (λ r. r.value) row
 
 -- ---- the path of a route

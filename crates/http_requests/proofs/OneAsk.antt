@@ -11,7 +11,7 @@ use Rattle.http_requests.specs.declared.router.RouteKind.TheVariants.{Fixed}
 use Rattle.values.specs.Serials.{is_serial}
 use Rattle.values.proofs.SerialLemmas.{serial_small}
 use Rattle.http_requests.specs.Paths.{Path, message, resource, IsPath, path_text}
-use Rattle.http_requests.specs.Routing.{row_of}
+use Rattle.http_requests.specs.Routing.{route_row}
 use Rattle.http_requests.specs.Asks.{Ask, HeadAsks, Asks, asked_at}
 use Rattle.http_requests.proofs.Finding.{routed, same_route, kind_at}
 use Rattle.http_requests.proofs.Cutting.{message_cut}
@@ -54,7 +54,7 @@ same_at (resource r) q is also e kind = at_fixed r q kind
 -- paths with the same text are equal
 pub same_path : (p q : Path) → IsPath p → IsPath q → path_text p ≡ path_text q → p ≡ q
 same_path p q is also e =
-    same_at p q is also e (same_route (path_text p) (row_of (kind_at p)) q also (routed p is) e)
+    same_at p q is also e (same_route (path_text p) (route_row (kind_at p)) q also (routed p is) e)
 
 -- a head has at most one reading
 one_of_head : (h : RequestHead) (rest : List ℕ) (a b : Ask) → HeadAsks h rest a → HeadAsks h rest b → a ≡ b

@@ -18,8 +18,8 @@ use Rattle.http_requests.specs.declared.growing.Place.TheVariants.{Start, Method
 use Rattle.http_requests.specs.declared.growing.Place.TheVariants.{VersionEnd, Feed, Line, LastFeed, Name, Value}
 use Rattle.http_requests.specs.declared.growing.Place.TheVariants.{Whole, Elsewhere}
 use Rattle.http_requests.specs.declared.progress.Progress.TheVariants.{Waits}
-use Rattle.http_requests.specs.Places.{IsSection, IsEnd, IsFeed, IsValue, IsName, IsVersion, IsTarget, IsMethod}
-use Rattle.http_requests.specs.Places.{is_visible, MayFollow, IsHeadOf, EndsAt, Leads, Begins}
+use Rattle.http_requests.specs.Places.{IsHeaderSection, IsEnd, IsFeed, IsValue, IsName, IsVersion, IsTarget, IsMethod}
+use Rattle.http_requests.specs.Places.{is_visible, MayFollow, IsHeadOf, EndsAt, Leads, BeginsLine}
 use Rattle.http_requests.specs.Reading.{HasCome, HoldsHead}
 
 -- ---- one more byte
@@ -92,10 +92,10 @@ version_end came byte at (inr is) count rest e = rw (at, is.1) (version_of 1 (om
 pub end_feed : (count : ℕ) (rest : List ℕ) → IsFeed count rest → IsEnd count (13 ∷ rest)
 end_feed count rest f = record { end = crlf; rest = f.rest; next = f.next; text = ap (λ t. 13 ∷ t) f.text }
 
-pub end_line : (count : ℕ) (rest : List ℕ) → IsSection count rest → IsEnd count (10 ∷ rest)
+pub end_line : (count : ℕ) (rest : List ℕ) → IsHeaderSection count rest → IsEnd count (10 ∷ rest)
 end_line count rest s = record { end = lf; rest = rest; next = s; text = refl }
 
-pub feed_line : (count : ℕ) (rest : List ℕ) → IsSection count rest → IsFeed count (10 ∷ rest)
+pub feed_line : (count : ℕ) (rest : List ℕ) → IsHeaderSection count rest → IsFeed count (10 ∷ rest)
 feed_line count rest s = record { rest = rest; next = s; text = refl }
 
 pub value_more : (byte : ℕ) → IsTrue (is_value_byte byte) → (count : ℕ) (rest : List ℕ)
@@ -132,7 +132,7 @@ line_text : (x : ℕ) (name raw e f l : List ℕ)
 line_text x name raw e f l = sym (simp (append_assoc, cons-append))
 
 pub line_begins : (byte : ℕ) → IsTrue (is_token_byte byte) → (count : ℕ) (rest : List ℕ)
-    → IsName count rest → IsSection (1 + count) (byte ∷ rest)
+    → IsName count rest → IsHeaderSection (1 + count) (byte ∷ rest)
 line_begins byte is count rest n =
     let v = n.next in
     let e = v.next in
@@ -152,7 +152,7 @@ line_begins byte is count rest n =
       text = text ∙ line_text byte n.name v.raw (print_end e.end) parts (print_end s.last);
     }
 
-pub last_feed : (count : ℕ) (rest : List ℕ) → (count ≡ 0) × (rest ≡ 10 ∷ []) → IsSection count (13 ∷ rest)
+pub last_feed : (count : ℕ) (rest : List ℕ) → (count ≡ 0) × (rest ≡ 10 ∷ []) → IsHeaderSection count (13 ∷ rest)
 last_feed count rest e = record {
   fields = [];
   last = crlf;
@@ -161,7 +161,7 @@ last_feed count rest e = record {
   text = ap (λ t. 13 ∷ t) e.1;
 }
 
-pub last_line : (count : ℕ) (rest : List ℕ) → (count ≡ 0) × (rest ≡ []) → IsSection count (10 ∷ rest)
+pub last_line : (count : ℕ) (rest : List ℕ) → (count ≡ 0) × (rest ≡ []) → IsHeaderSection count (10 ∷ rest)
 last_line count rest e = record {
   fields = [];
   last = lf;
@@ -236,7 +236,7 @@ next_at place next lines byte bytes leads at =
     λ count rest follows. joined (lines + count) bytes rest byte (at count (byte ∷ rest) (leads count rest follows))
 
 -- if a byte begins a header line, the bytes up to it end in its name
-pub begin_at : (place : Place) (lines byte : ℕ) (bytes : List ℕ) → Begins place byte
+pub begin_at : (place : Place) (lines byte : ℕ) (bytes : List ℕ) → BeginsLine place byte
     → EndsAt place lines bytes → EndsAt Name (lines + 1) (bytes ++ byte ∷ [])
 begin_at place lines byte bytes begins at = λ count rest follows.
     let P : ℕ → Type 0 = λ n. IsHeadOf n (bytes ++ byte ∷ rest) in
@@ -258,7 +258,7 @@ waits_by place lines count bytes rest at follows some =
 
 -- ---- each place except the last can be continued
 
-one_section : IsSection 0 (10 ∷ [])
+one_section : IsHeaderSection 0 (10 ∷ [])
 one_section = last_line 0 [] (refl, refl)
 
 one_end : IsEnd 0 (10 ∷ 10 ∷ [])

@@ -47,7 +47,7 @@ Asks bytes a =
     ⊎ ((h : RequestHead) × (rest : List ℕ) × IsGood bytes h rest × HeadAsks h rest a)
 
 -- a refusal is one of the first six, names and serials are valid, and a message is no longer than a body may be
-abbrev pub IsLawful : Ask → Type 0
-IsLawful (refused r) = refusal_number r ≤ 6
-IsLawful (get r) = IsPath (resource r)
-IsLawful (post caller key text) = IsTrue (is_name caller) × IsTrue (is_name key) × (length text ≤ 16384)
+abbrev pub IsLawfulAsk : Ask → Type 0
+IsLawfulAsk (refused r) = refusal_number r ≤ 6
+IsLawfulAsk (get r) = IsPath (resource r)
+IsLawfulAsk (post caller key text) = IsTrue (is_name caller) × IsTrue (is_name key) × (length text ≤ 16384)

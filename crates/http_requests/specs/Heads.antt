@@ -18,12 +18,12 @@ abbrev pub Line : Type 0
 Line = List ℕ × List ℕ
 
 -- the line has this name, ignoring ASCII case
-abbrev pub is_named : List ℕ → Line → Bool
-is_named name line = str_eq_ignore_ascii_case line.0 name
+abbrev pub has_line_name : List ℕ → Line → Bool
+has_line_name name line = str_eq_ignore_ascii_case line.0 name
 
 -- the values of the lines with this name, in order
 abbrev pub values : List ℕ → List Line → List (List ℕ)
-values name lines = map (λ line. line.1) (filter (is_named name) lines)
+values name lines = map (λ line. line.1) (filter (has_line_name name) lines)
 
 -- the header lines of a head
 abbrev pub lines_of : RequestHead → List Line
@@ -38,13 +38,13 @@ abbrev pub is_coded : RequestHead → Bool
 is_coded h = nat_lt 0 (length (values (codes "transfer-encoding") (lines_of h)))
 
 -- at most one length, which is all digits
-pub record AreLawful (known : List (List ℕ)) : Type 0 where
+pub record AreLawfulLengths (known : List (List ℕ)) : Type 0 where
   pub one : length known ≤ 1
   pub digits : All (IsNumeral 10) known
 
 -- a head that isn't refused at once
 abbrev pub IsGood : List ℕ → RequestHead → List ℕ → Type 0
-IsGood bytes h rest = IsHead bytes h rest × AreLawful (lengths h)
+IsGood bytes h rest = IsHead bytes h rest × AreLawfulLengths (lengths h)
 
 -- the length that the lines state, or one over the limit if it is larger
 abbrev pub States : Option ℕ → List (List ℕ) → Type 0

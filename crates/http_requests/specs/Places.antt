@@ -10,7 +10,7 @@ use Rattle.http_requests.specs.declared.growing.Place.TheVariants.{VersionEnd, F
 use Rattle.http_requests.specs.declared.growing.Place.TheVariants.{Whole, Elsewhere}
 
 -- `count` header lines, and the empty line
-pub record IsSection (count : ℕ) (bytes : List ℕ) : Type 0 where
+pub record IsHeaderSection (count : ℕ) (bytes : List ℕ) : Type 0 where
   pub fields : List Field
   pub last : LineEnd
   pub valid : All IsField fields
@@ -21,13 +21,13 @@ pub record IsSection (count : ℕ) (bytes : List ℕ) : Type 0 where
 pub record IsEnd (count : ℕ) (bytes : List ℕ) : Type 0 where
   pub end : LineEnd
   pub rest : List ℕ
-  pub next : IsSection count rest
+  pub next : IsHeaderSection count rest
   pub text : bytes ≡ print_end end ++ rest
 
 -- the line feed of an end of two bytes, and the bytes after it
 pub record IsFeed (count : ℕ) (bytes : List ℕ) : Type 0 where
   pub rest : List ℕ
-  pub next : IsSection count rest
+  pub next : IsHeaderSection count rest
   pub text : bytes ≡ line_feed ∷ rest
 
 -- the rest of a value
@@ -85,7 +85,7 @@ MayFollow Target count bytes = IsTarget 0 count bytes
 MayFollow (Version came) count bytes = IsVersion came count bytes
 MayFollow VersionEnd count bytes = IsEnd count bytes
 MayFollow Feed count bytes = IsFeed count bytes
-MayFollow Line count bytes = IsSection count bytes
+MayFollow Line count bytes = IsHeaderSection count bytes
 MayFollow LastFeed count bytes = (count ≡ 0) × (bytes ≡ line_feed ∷ [])
 MayFollow Name count bytes = IsName count bytes
 MayFollow Value count bytes = IsValue count bytes
@@ -113,5 +113,5 @@ Leads place byte next =
     (count : ℕ) (rest : List ℕ) → MayFollow next count rest → MayFollow place count (byte ∷ rest)
 
 -- this byte begins a header line at the place
-abbrev pub Begins : Place → ℕ → Type 0
-Begins place byte = (count : ℕ) (rest : List ℕ) → IsName count rest → MayFollow place (1 + count) (byte ∷ rest)
+abbrev pub BeginsLine : Place → ℕ → Type 0
+BeginsLine place byte = (count : ℕ) (rest : List ℕ) → IsName count rest → MayFollow place (1 + count) (byte ∷ rest)

@@ -18,11 +18,11 @@ pattern_of Body = codes "/v1/certs/" ++ param_token ∷ codes "/body"
 pattern_of (Fixed r) = path_text (resource r)
 
 -- its text, and the positions of its parameters' names in it
-abbrev pub text_of : RouteKind → List ℕ
-text_of Message = codes "/v1/callers/{caller}/requests/{key}"
-text_of Certificate = codes "/v1/certs/{serial}"
-text_of Body = codes "/v1/certs/{serial}/body"
-text_of (Fixed r) = path_text (resource r)
+abbrev pub route_text : RouteKind → List ℕ
+route_text Message = codes "/v1/callers/{caller}/requests/{key}"
+route_text Certificate = codes "/v1/certs/{serial}"
+route_text Body = codes "/v1/certs/{serial}/body"
+route_text (Fixed r) = path_text (resource r)
 
 abbrev pub names_of : RouteKind → List (ℕ × ℕ)
 names_of Message = (13, 19) ∷ (31, 34) ∷ []
@@ -31,12 +31,12 @@ names_of Body = (11, 17) ∷ []
 names_of (Fixed r) = []
 
 -- the row of each route
-abbrev pub row_of : RouteKind → RouteOf RouteKind
-row_of kind = record { pattern = pattern_of kind; text = text_of kind; names = names_of kind; value = kind }
+abbrev pub route_row : RouteKind → RouteOf RouteKind
+route_row kind = record { pattern = pattern_of kind; text = route_text kind; names = names_of kind; value = kind }
 
 abbrev pub rows_of : List RouteKind → RowsOf (RouteOf RouteKind)
 rows_of [] = []
-rows_of (kind ∷ rest) = (pattern_of kind, row_of kind) ∷ rows_of rest
+rows_of (kind ∷ rest) = (pattern_of kind, route_row kind) ∷ rows_of rest
 
 -- the routes, in the order in which a router stores them
 abbrev pub kinds : List RouteKind

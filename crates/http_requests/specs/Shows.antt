@@ -5,7 +5,7 @@ use Rattle.http_requests.specs.declared.head.Head.{Head}
 use Rattle.http_requests.specs.Heads.{lengths, is_coded, States}
 
 -- method, target, length and coding are those of the head
-pub record Shows (r : Head) (h : RequestHead) : Type 0 where
+pub record ShowsHead (r : Head) (h : RequestHead) : Type 0 where
   pub method : r.method.now ≡ h.method
   pub target : r.target.now ≡ h.target
   pub stated : States r.stated (lengths h)

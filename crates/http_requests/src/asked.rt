@@ -1,7 +1,7 @@
 //! What a request asks for.
 
 ghost use Rattle.std.specs.Prelude.{◌≡◌};
-ghost use Rattle.http_requests.specs.Asks.{Asks, IsLawful};
+ghost use Rattle.http_requests.specs.Asks.{Asks, IsLawfulAsk};
 ghost use Rattle.http_requests.specs.Asked.{ask_of};
 ghost use Rattle.http_requests.specs.Plans.{plan_ask};
 
@@ -55,7 +55,7 @@ impl<'a> Plan<'a> {
 /// GET, are ignored.
 pub fn asks<'a>(routes: &Routes, request: &'a [u8]) -> Asked<'a>
     ensures asked { Asks request.now (ask_of result) }
-    ensures lawful { IsLawful (ask_of result) }
+    ensures lawful { IsLawfulAsk (ask_of result) }
 {
     let Some(head) = read_head(request) else {
         return Asked::Refused(Refusal::BadHead);

@@ -5,7 +5,7 @@ ghost use Rattle.std.specs.Prelude.{min, All, IfSome, IfNone, OnSome, codes, nat
 ghost use Rattle.std.specs.Str.{str_eq_ignore_ascii_case};
 ghost use Rattle.std.specs.Str.Parse.{IsNumeral, digits_value};
 ghost use Rattle.httparse.specs.Spans.{IsHeaderWithin};
-ghost use Rattle.http_requests.specs.Heads.{AreLawful, States};
+ghost use Rattle.http_requests.specs.Heads.{AreLawfulLengths, States};
 ghost use Rattle.http_requests.specs.FieldValues.{AreFound, covered};
 
 use crate::limits::MAX_BODY;
@@ -74,9 +74,9 @@ fn capped(digits: &[u8]) -> Option<usize>
 /// The length that the lines state, if any, or `None` if they are invalid.
 pub(crate) fn stated_length(bytes: &[u8], headers: &[HeaderSpan]) -> Option<Option<usize>>
     requires { All (IsHeaderWithin (length bytes.now)) headers.now }
-    ensures lawful { OnSome result (AreLawful (covered (codes "content-length") bytes.now headers.now)) }
+    ensures lawful { OnSome result (AreLawfulLengths (covered (codes "content-length") bytes.now headers.now)) }
     ensures some { IfSome result (λ n. States n (covered (codes "content-length") bytes.now headers.now)) }
-    ensures none { IfNone result (¬ (AreLawful (covered (codes "content-length") bytes.now headers.now))) }
+    ensures none { IfNone result (¬ (AreLawfulLengths (covered (codes "content-length") bytes.now headers.now))) }
 {
     match values_of(bytes, headers, b"content-length") {
         FieldValues::None => Some(None),

@@ -1,7 +1,7 @@
 //! A head that comes byte by byte.
 
 ghost use Rattle.std.specs.Prelude.{◌≡◌, ◌∷◌, ◌++◌, [], ℕ, List, IsTrue};
-ghost use Rattle.http_requests.specs.Places.{Begins, IsAt, Leads, is_visible};
+ghost use Rattle.http_requests.specs.Places.{BeginsLine, IsAt, Leads, is_visible};
 ghost use Rattle.http_requests.specs.Reading.{HasCome};
 
 use crate::limits::MAX_HEADER_LINES;
@@ -103,7 +103,7 @@ fn next_place(place: Place, byte: u8) -> Place
 
 /// Whether the byte begins a header line.
 fn begins_line(place: Place, byte: u8) -> bool
-    ensures { IsTrue result → Begins place byte }
+    ensures { IsTrue result → BeginsLine place byte }
 {
     match place {
         Place::Line => is_header_name_token(byte),

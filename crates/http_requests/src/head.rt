@@ -4,7 +4,7 @@ ghost use Rattle.std.specs.Prelude.{◌≡◌, ℕ, ◌≤◌, List, length, dro
 ghost use Rattle.httparse.specs.Grammar.{RequestHead, ReadsRequest};
 ghost use Rattle.httparse.specs.Spans.{IsRequestWithin, IsRequestOf};
 ghost use Rattle.http_requests.specs.Heads.{IsGood};
-ghost use Rattle.http_requests.specs.Shows.{Shows};
+ghost use Rattle.http_requests.specs.Shows.{ShowsHead};
 
 use crate::fields::{stated_length, states_coding};
 use crate::limits::{MAX_HEAD, MAX_HEADER_LINES};
@@ -44,7 +44,7 @@ fn spans_of(front: &[u8], headers: &mut [HeaderSpan]) -> Option<RequestSpans>
 /// isn't all digits.
 pub fn read_head(bytes: &[u8]) -> Option<Head<'_>>
     ensures within { IfSome result (λ r. r.len ≤ length bytes.now) }
-    ensures found { IfSome result (λ r. (h : RequestHead) × IsGood bytes.now h (drop r.len bytes.now) × Shows r h) }
+    ensures found { IfSome result (λ r. (h : RequestHead) × IsGood bytes.now h (drop r.len bytes.now) × ShowsHead r h) }
     ensures none { IfNone result ((h : RequestHead) (rest : List ℕ) → ¬ (IsGood bytes.now h rest)) }
 {
     let front = &bytes[..bytes.len().min(MAX_HEAD)];

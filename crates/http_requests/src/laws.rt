@@ -4,7 +4,7 @@ ghost use Rattle.std.specs.Prelude.{◌≡◌, ◌≢◌, ◌↔◌, ◌<◌, �
 ghost use Rattle.httparse.specs.Grammar.{RequestHead};
 ghost use Rattle.values.specs.declared.refusal.Refusal.{Refusal};
 ghost use Rattle.http_requests.specs.declared.limits.TheConstants.{MAX_HEAD, MAX_HEADER_LINES, MAX_BODY};
-ghost use Rattle.http_requests.specs.Asks.{Ask, Asks, HeadAsks, IsLawful, refused};
+ghost use Rattle.http_requests.specs.Asks.{Ask, Asks, HeadAsks, IsLawfulAsk, refused};
 ghost use Rattle.http_requests.specs.BodySizes.{WantsBody};
 ghost use Rattle.http_requests.specs.Paths.{Path, IsPath, path_text};
 
@@ -21,7 +21,7 @@ pub fn one_ask()
 /// What is asked for is valid: a refusal is one of the first six, the names and the serial are valid, and the message
 /// is no longer than a body may be.
 pub fn asks_are_lawful()
-    ensures { (bytes : List ℕ) (a : Ask) → Asks bytes a → IsLawful a }
+    ensures { (bytes : List ℕ) (a : Ask) → Asks bytes a → IsLawfulAsk a }
 {}
 
 /// Bytes after the request change nothing: only a request without a good head, or with a short body, may ask for

@@ -5,7 +5,7 @@ ghost use Rattle.std.specs.Str.{bytes_eq};
 ghost use Rattle.httparse.specs.Grammar.{RequestHead, IsRequestHead};
 ghost use Rattle.values.specs.declared.refusal.Refusal.{Refusal};
 ghost use Rattle.http_requests.specs.Heads.{States};
-ghost use Rattle.http_requests.specs.Shows.{Shows};
+ghost use Rattle.http_requests.specs.Shows.{ShowsHead};
 ghost use Rattle.http_requests.specs.Asks.{posted, get, refused};
 ghost use Rattle.http_requests.specs.BodySizes.{stated_size};
 ghost use Rattle.http_requests.specs.Plans.{Plans, PlansHead, plan_ask, plan_size};
@@ -65,7 +65,7 @@ fn post_of<'a>(head: &Head<'_>, caller: &'a [u8], key: &'a [u8]) -> Plan<'a>
 /// The plan for a head at a resource.
 fn get_of<'a>(head: &Head<'_>, resource: Resource) -> Plan<'a>
     ensures size { plan_size result ≡ 0 }
-    ensures ask { (h : RequestHead) (rest : List ℕ) → Shows head.now h → plan_ask result rest
+    ensures ask { (h : RequestHead) (rest : List ℕ) → ShowsHead head.now h → plan_ask result rest
         ≡ (if bytes_eq h.method (codes "GET") then get resource else refused Refusal.WrongMethod) }
 {
     if has_method(head, &Method::GET) {
@@ -77,7 +77,7 @@ fn get_of<'a>(head: &Head<'_>, resource: Resource) -> Plan<'a>
 
 /// The plan for a head.
 pub(crate) fn head_plan<'a>(routes: &Routes, head: &Head<'a>) -> Plan<'a>
-    ensures { (h : RequestHead) → IsRequestHead h → Shows head.now h → PlansHead h result }
+    ensures { (h : RequestHead) → IsRequestHead h → ShowsHead head.now h → PlansHead h result }
 {
     let Ok(path) = from_utf8(head.target) else {
         return Plan::Refused(Refusal::NoRoute);

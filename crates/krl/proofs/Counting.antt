@@ -1,5 +1,5 @@
 -- The runs of a set's serials among the `count` serials from `from` on.
-use Rattle.krl.proofs.Words.{AreRuns, AreRunsFrom, Bool, IsOneOf, List, Run, [], and_from, ap, arith, cases_Bool}
+use Rattle.krl.proofs.Words.{AreRuns, AreRunsFrom, Bool, IsMemberOf, List, Run, [], and_from, ap, arith, cases_Bool}
 use Rattle.krl.proofs.Words.{cases_lt, contains, eq-eqb, eqb, false, inl, inr, is_within, leb, nat_tests, ne_eqb, suc}
 use Rattle.krl.proofs.Words.{sym, true, zero, ℕ, ◌&&◌, ◌+◌, ◌<◌, ◌^◌, ◌||◌, ◌∙◌, ◌∷◌, ◌≡◌, ◌≤◌}
 use Rattle.std.proofs.lemmas.Bool.{cases_eq, and_right}
@@ -83,7 +83,7 @@ contains_counted set from (suc count) n fit =
     ]
 
 -- the serials of runs fit in 64 bits
-one_fits : (from : ℕ) (rs : List Run) (r : Run) → AreRunsFrom from rs → IsOneOf r rs → r.hi < 2 ^ 64
+one_fits : (from : ℕ) (rs : List Run) (r : Run) → AreRunsFrom from rs → IsMemberOf r rs → r.hi < 2 ^ 64
 one_fits from [] r h c = absurd c
 one_fits from (s ∷ rs) r h (inl same) = rw (sym (ap (λ (x : Run). x.hi) same)) h.2
 one_fits from (s ∷ rs) r h (inr c) = one_fits (s.hi + 2) rs r h.3 c

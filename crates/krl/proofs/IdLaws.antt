@@ -12,7 +12,7 @@ use Rattle.std.proofs.lemmas.Slice.Eq.{bytes_eq-Decides}
 use Rattle.std.proofs.lemmas.Bool.{or_left}
 use Rattle.wire.proofs.Laws.{string_again}
 use Rattle.wire.specs.Reading.{string_at}
-use Rattle.krl.specs.Published.{is_key_id}
+use Rattle.krl.specs.Published.{is_listed_key_id}
 use Rattle.krl.specs.Contents.{Ascend, AscendBehind}
 use Rattle.krl.specs.Fronts.{AreIds, AscendNext}
 use Rattle.krl.proofs.Booleans.{clash, or_cases, or_true}
@@ -31,7 +31,7 @@ equal a b same = (bytes_eq-Decides a b).0 (sym (is_eq-slice_cmp a b) ∙ ap is_e
 
 -- a key id that comes before all of them is none of them
 pub not_among : (i before : List ℕ) (ids : List (List ℕ)) → AscendBehind before ids → slice_cmp nat_cmp i before ≡ Less
-    → is_key_id ids i ≡ false
+    → is_listed_key_id ids i ≡ false
 not_among i before [] h less = refl
 not_among i before (j ∷ ids) h less =
     let below = nat_list_cmp_total.trans i before j less h.0 in
@@ -152,7 +152,7 @@ ids_read bytes rest last so none = (
 
 -- each of the old key ids is one of the new ones
 abbrev pub IdsKept : List (List ℕ) → List (List ℕ) → Type 0
-IdsKept ids others = (i : List ℕ) → is_key_id ids i ≡ true → is_key_id others i ≡ true
+IdsKept ids others = (i : List ℕ) → is_listed_key_id ids i ≡ true → is_listed_key_id others i ≡ true
 
 -- All key ids are kept if and only if the remaining ones are.
 pub record IdsStillKept (ids others : List (List ℕ)) (wanted rest : List ℕ) : Type 0 where
@@ -204,23 +204,23 @@ pub none_wanted : (ids others : List (List ℕ)) (wanted rest : List ℕ) → Id
     → None ≡ string_at wanted → IdsKept ids others
 none_wanted ids others wanted rest k reads =
     let none = read_none wanted k.old k.old_are reads in
-    k.whole (λ i is. let bad = sym (ap (λ os. is_key_id os i) none) ∙ is in absurd cc)
+    k.whole (λ i is. let bad = sym (ap (λ os. is_listed_key_id os i) none) ∙ is in absurd cc)
 
-itself : (i : List ℕ) (is : List (List ℕ)) → is_key_id (i ∷ is) i ≡ true
-itself i is = or_left (bytes_eq i i) (is_key_id is i) ((bytes_eq-Decides i i).1 refl)
+itself : (i : List ℕ) (is : List (List ℕ)) → is_listed_key_id (i ∷ is) i ≡ true
+itself i is = or_left (bytes_eq i i) (is_listed_key_id is i) ((bytes_eq-Decides i i).1 refl)
 
 module _ (ids others : List (List ℕ)) (wanted rest id after : List ℕ) (k : IdsStillKept ids others wanted rest)
     (reads : Some (id, after) ≡ string_at wanted) where
   first : (is : List (List ℕ)) × (k.old ≡ id ∷ is) × AscendBehind id is × AreIds after is
   first = read_first wanted id after k.old k.old_are reads
 
-  here : is_key_id k.old id ≡ true
-  here = ap (λ os. is_key_id os id) first.1 ∙ itself id first.0
+  here : is_listed_key_id k.old id ≡ true
+  here = ap (λ os. is_listed_key_id os id) first.1 ∙ itself id first.0
 
   pub none_there : None ≡ string_at rest → IdsKept ids others → ⊥
   none_there none kept =
       let empty = read_none rest k.new k.new_are none in
-      let bad = sym (ap (λ ns. is_key_id ns id) empty) ∙ k.fewer kept id here in
+      let bad = sym (ap (λ ns. is_listed_key_id ns id) empty) ∙ k.fewer kept id here in
       cc
 
   module _ (other next : List ℕ) (there : Some (other, next) ≡ string_at rest) where
@@ -235,16 +235,16 @@ module _ (ids others : List (List ℕ)) (wanted rest id after : List ℕ) (k : I
       old_are = k.old_are;
       new_are = second.3;
       fewer = λ kept i is. elim
-          (or_cases (bytes_eq other i) (is_key_id second.0 i)
-          (sym (ap (λ ns. is_key_id ns i) second.1) ∙ k.fewer kept i is)) [
+          (or_cases (bytes_eq other i) (is_listed_key_id second.0 i)
+          (sym (ap (λ ns. is_listed_key_id ns i) second.1) ∙ k.fewer kept i is)) [
             | inl same ↦
                 let is_other : other ≡ i = (bytes_eq-Decides other i).0 same in
-                clash (is_key_id k.old i) is (ap (λ os. is_key_id os i) first.1
-                ∙ ap (is_key_id (id ∷ first.0)) (sym is_other)
+                clash (is_listed_key_id k.old i) is (ap (λ os. is_listed_key_id os i) first.1
+                ∙ ap (is_listed_key_id (id ∷ first.0)) (sym is_other)
                 ∙ rw (apart-back other id less) (not_among other id first.0 first.2 less))
             | inr later ↦ later.1
           ];
-      whole = λ kept. k.whole (λ i is. ap (λ ns. is_key_id ns i) second.1
+      whole = λ kept. k.whole (λ i is. ap (λ ns. is_listed_key_id ns i) second.1
           ∙ rw (kept i is) (or_true (bytes_eq other i)));
     }
       where
@@ -259,14 +259,14 @@ module _ (ids others : List (List ℕ)) (wanted rest id after : List ℕ) (k : I
       new = k.new;
       old_are = first.3;
       new_are = k.new_are;
-      fewer = λ kept i is. k.fewer kept i (ap (λ os. is_key_id os i) first.1 ∙ rw is (or_true (bytes_eq id i)));
+      fewer = λ kept i is. k.fewer kept i (ap (λ os. is_listed_key_id os i) first.1 ∙ rw is (or_true (bytes_eq id i)));
       whole = λ kept. k.whole
           (λ i is. elim
-          (or_cases (bytes_eq id i) (is_key_id first.0 i) (sym (ap (λ os. is_key_id os i) first.1) ∙ is)) [
+          (or_cases (bytes_eq id i) (is_listed_key_id first.0 i) (sym (ap (λ os. is_listed_key_id os i) first.1) ∙ is)) [
             | inl this ↦
                 let all_same : other ≡ i = equal other id same ∙ (bytes_eq-Decides id i).0 this in
-                ap (λ ns. is_key_id ns i) second.1
-                ∙ or_left (bytes_eq other i) (is_key_id second.0 i) ((bytes_eq-Decides other i).1 all_same)
+                ap (λ ns. is_listed_key_id ns i) second.1
+                ∙ or_left (bytes_eq other i) (is_listed_key_id second.0 i) ((bytes_eq-Decides other i).1 all_same)
             | inr later ↦ kept i later.1
           ]);
     }
@@ -275,6 +275,6 @@ module _ (ids others : List (List ℕ)) (wanted rest id after : List ℕ) (k : I
     pub lose_id : slice_cmp nat_cmp other id ≡ Greater → IdsKept ids others → ⊥
     lose_id more kept =
         let less = greater other id more in
-        clash (is_key_id k.new id) (k.fewer kept id here)
-        (ap (λ ns. is_key_id ns id) second.1
+        clash (is_listed_key_id k.new id) (k.fewer kept id here)
+        (ap (λ ns. is_listed_key_id ns id) second.1
         ∙ rw (sym (is_eq-slice_cmp other id) ∙ ap is_eq more) (not_among id other second.0 second.2 less))

@@ -7,7 +7,7 @@ use Rattle.krl.proofs.Words.{section_data, section_text, serial_list, string_tex
 use Rattle.krl.proofs.Words.{ℕ, ◌&&◌, ◌++◌, ◌<◌, ◌^◌, ◌∙◌, ◌∷◌, ◌≡◌, ◌≢◌}
 use Rattle.std.proofs.lemmas.List.{append-nil}
 use Rattle.krl.specs.Published.{published_header, published_text}
-use Rattle.krl.specs.Contents.{AreContents, Contents, IsContentsPart, Publishes}
+use Rattle.krl.specs.Contents.{AreContents, KrlContents, IsContentsPart, Publishes}
 use Rattle.krl.specs.Fronts.{AreListed, AreSections, IsWhole, head_at, part_if_any}
 use Rattle.krl.specs.Fronts.{whole_data, whole_text}
 use Rattle.krl.proofs.Booleans.{clash}
@@ -129,7 +129,7 @@ listed_found head sections bytes cas ids v d s none =
       ids_are = s.key_ids.text;
     }
 
-ids_short : (c : Contents) → AreContents c → AllByRecursion IsString c.ids
+ids_short : (c : KrlContents) → AreContents c → AllByRecursion IsString c.ids
 ids_short c h = by_cas c.cas refl
   where
     by_cas : (cas : List CaPart) → c.cas ≡ cas → AllByRecursion IsString c.ids
@@ -140,7 +140,7 @@ ids_short c h = by_cas c.cas refl
         strings_fit c.ids (ids_fit (flat_map string_text c.ids) p (part_to c.ids p first.0).short)
 
 -- the sections of a published list
-pub listed_sections : (c : Contents) → AreContents c → (sections : List ℕ)
+pub listed_sections : (c : KrlContents) → AreContents c → (sections : List ℕ)
     → sections ≡ flat_map section_text (published_sections c.cas c.ids)
     → AreSections sections (flat_map string_text c.ids) c.cas c.ids
 listed_sections c h sections text = record {
@@ -154,7 +154,7 @@ listed_sections c h sections text = record {
 }
 
 -- the header and the sections of a published list
-pub pieces : (head : KrlHead) (sections : List ℕ) (c : Contents) → AreContents c → head.version < 2 ^ 64
+pub pieces : (head : KrlHead) (sections : List ℕ) (c : KrlContents) → AreContents c → head.version < 2 ^ 64
     → head.date < 2 ^ 64 → header_text (published_header head) ++ sections ≡ published_text c.head c.cas c.ids
     → (head ≡ c.head) × (sections ≡ flat_map section_text (published_sections c.cas c.ids))
 pieces head sections c h v d e =
@@ -164,12 +164,12 @@ pieces head sections c h v d e =
     (ap (λ (x : KrlHead × List ℕ). x.0) same, ap (λ (x : KrlHead × List ℕ). x.1) same)
 
 -- the data of the key ids, if no CA has a section
-pub ids_if_any : (c : Contents) → AreContents c → c.cas ≡ [] → flat_map string_text c.ids ≡ []
+pub ids_if_any : (c : KrlContents) → AreContents c → c.cas ≡ [] → flat_map string_text c.ids ≡ []
 ids_if_any c h none = ap (flat_map string_text) (h.unwritten none)
 
 -- the sections that a `PublishedList` holds are those of the contents that its bytes publish
-pub shown : (head : KrlHead) (sections ids bytes : List ℕ) → ((c : Contents) × AreListed head sections ids c)
-    → header_text (published_header head) ++ sections ≡ bytes → (d : Contents) → Publishes bytes d
+pub shown : (head : KrlHead) (sections ids bytes : List ℕ) → ((c : KrlContents) × AreListed head sections ids c)
+    → header_text (published_header head) ++ sections ≡ bytes → (d : KrlContents) → Publishes bytes d
     → AreSections sections (flat_map string_text d.ids) d.cas d.ids
 shown head sections ids bytes listed view d is =
     let are = listed.1 in

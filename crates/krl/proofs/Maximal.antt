@@ -1,5 +1,6 @@
 -- The runs of a set are its maximal intervals.
-use Rattle.krl.proofs.Words.{AreRunsFrom, Bool, IsOneOf, IsRunOf, List, Run, [], ap, arith, cases_lt, contains, false}
+use Rattle.krl.proofs.Words.{AreRunsFrom, Bool, IsMemberOf, IsRunOf, List, Run, [], ap, arith, cases_lt, contains}
+use Rattle.krl.proofs.Words.{false}
 use Rattle.krl.proofs.Words.{inl, inr, is_within, leb, list_any, nat_tests, refl, subst, sym, true, ℕ, ◌&&◌, ◌+◌, ◌-◌}
 use Rattle.krl.proofs.Words.{◌<◌, ◌||◌, ◌∙◌, ◌∷◌, ◌≡◌, ◌≤◌}
 use Rattle.std.proofs.lemmas.Bool.{or_left}
@@ -19,7 +20,7 @@ weaken a b [] le h = tt
 weaken a b (r ∷ rs) le h = (omega arith, h.1, h.2, h.3)
 
 -- each begins at or above `from`
-pub one_from : (from : ℕ) (rs : List Run) (r : Run) → AreRunsFrom from rs → IsOneOf r rs → from ≤ r.lo
+pub one_from : (from : ℕ) (rs : List Run) (r : Run) → AreRunsFrom from rs → IsMemberOf r rs → from ≤ r.lo
 one_from from [] r h c = absurd c
 one_from from (s ∷ rs) r h (inl same) = subst (λ (x : Run). from ≤ x.lo) same h.0
 one_from from (s ∷ rs) r h (inr c) = let le = one_from (s.hi + 2) rs r h.3 c in omega arith
@@ -33,7 +34,7 @@ first_is_run from s rs h = record {
 }
 
 -- each of the runs is a run of the set that they represent
-pub each_is_run : (from : ℕ) (rs : List Run) (r : Run) → AreRunsFrom from rs → IsOneOf r rs → IsRunOf (contains rs) r
+pub each_is_run : (from : ℕ) (rs : List Run) (r : Run) → AreRunsFrom from rs → IsMemberOf r rs → IsRunOf (contains rs) r
 each_is_run from [] r h c = absurd c
 each_is_run from (s ∷ rs) r h (inl same) =
     subst (λ (x : Run). IsRunOf (contains (s ∷ rs)) x) same (first_is_run from s rs h)
@@ -48,7 +49,7 @@ each_is_run from (s ∷ rs) r h (inr c) =
     }
 
 -- the run that a serial of the set is in
-pub run_of : (rs : List Run) (n : ℕ) → contains rs n ≡ true → (s : Run) × IsOneOf s rs × (s.lo ≤ n) × (n ≤ s.hi)
+pub run_of : (rs : List Run) (n : ℕ) → contains rs n ≡ true → (s : Run) × IsMemberOf s rs × (s.lo ≤ n) × (n ≤ s.hi)
 run_of [] n e = absurd cc
 run_of (s ∷ rs) n e = elim (or_cases (is_within n s) (contains rs n) e) [
   | inl here ↦ let p = ends n s.lo s.hi here in (s, inl refl, p.0, p.1)
@@ -56,7 +57,7 @@ run_of (s ∷ rs) n e = elim (or_cases (is_within n s) (contains rs n) e) [
 ]
 
 -- the serials of one of the runs are in the set
-pub member_contains : (rs : List Run) (s : Run) (m : ℕ) → IsOneOf s rs → s.lo ≤ m → m ≤ s.hi → contains rs m ≡ true
+pub member_contains : (rs : List Run) (s : Run) (m : ℕ) → IsMemberOf s rs → s.lo ≤ m → m ≤ s.hi → contains rs m ≡ true
 member_contains [] s m c a b = absurd c
 member_contains (t ∷ rs) s m (inl same) a b =
     or_left (is_within m t) (contains rs m)
@@ -87,11 +88,11 @@ one_run set r s n p q a b c d =
 
 -- each run of the set that the runs represent is one of them
 pub each_run_is_there : (from : ℕ) (rs : List Run) (r : Run) → AreRunsFrom from rs → IsRunOf (contains rs) r
-    → IsOneOf r rs
+    → IsMemberOf r rs
 each_run_is_there from rs r h is =
     let some : r.lo ≤ r.hi = is.some in
     let s = run_of rs r.lo (is.inside r.lo (omega arith) some) in
-    subst (λ (x : Run). IsOneOf x rs)
+    subst (λ (x : Run). IsMemberOf x rs)
     (one_run (contains rs) r s.0 r.lo is (each_is_run from rs s.0 h s.1) (omega arith) some s.2 s.3) s.1
 
 -- of two lists of runs of one set, neither begins above the other
@@ -148,7 +149,7 @@ covered from lo hi (r ∷ rs) h e n p q = elim (or_cases (covered_by lo hi r) (l
     ends_of r e = (grind (arith, nat_tests), grind (arith, nat_tests))
 
 -- the run in which an interval of the set begins covers it
-one_covers : (rs : List Run) (s : Run) (lo hi : ℕ) → IsOneOf s rs → s.lo ≤ lo → hi ≤ s.hi
+one_covers : (rs : List Run) (s : Run) (lo hi : ℕ) → IsMemberOf s rs → s.lo ≤ lo → hi ≤ s.hi
     → list_any (covered_by lo hi) rs ≡ true
 one_covers [] s lo hi c a b = absurd c
 one_covers (t ∷ rs) s lo hi (inl same) a b =

@@ -4,7 +4,7 @@ use Rattle.krl.proofs.Words.{KrlHead, ap, flat_map, header_text, listed_text, ra
 use Rattle.krl.proofs.Words.{string_text}
 use Rattle.krl.proofs.Words.{subst, sym, published_sections, ℕ, ◌++◌, ◌+◌, ◌∙◌, ◌∷◌, ◌≡◌, ◌≢◌}
 use Rattle.krl.specs.Published.{published_header, published_text}
-use Rattle.krl.specs.Contents.{Contents, Publishes}
+use Rattle.krl.specs.Contents.{KrlContents, Publishes}
 use Rattle.krl.specs.Fronts.{AreIds, AreListed, AreSplit, IsWhole, behind_at, listed_bytes, part_at, part_if_any}
 use Rattle.krl.specs.Fronts.{range_begin}
 use Rattle.krl.specs.Fronts.{ranges_bytes, run_at, section_at, whole_text}
@@ -68,7 +68,7 @@ parts_unique ids others (p ∷ cas) (q ∷ das) h k e =
     (λ i. first.0 i ∷ rest.0 i, λ some. first.1)
 
 -- a text is the text of only one list
-pub one_list : (bytes : List ℕ) (c d : Contents) → Publishes bytes c → Publishes bytes d → c ≡ d
+pub one_list : (bytes : List ℕ) (c d : KrlContents) → Publishes bytes c → Publishes bytes d → c ≡ d
 one_list bytes c d p q =
     let rest = flat_map section_text (published_sections c.cas c.ids) in
     let front = pieces c.head rest d q.lawful p.lawful.version p.lawful.date (sym p.text ∙ q.text) in
@@ -88,8 +88,8 @@ one_list bytes c d p q =
         items_unique string_texts c.ids d.ids short small (texts (λ none. let bad = sym some ∙ none in cc))
 
 -- the key ids that a `PublishedList` holds are those of the contents that its bytes publish
-pub shown_ids : (head : KrlHead) (sections ids bytes : List ℕ) → ((c : Contents) × AreListed head sections ids c)
-    → header_text (published_header head) ++ sections ≡ bytes → (d : Contents) → Publishes bytes d → AreIds ids d.ids
+pub shown_ids : (head : KrlHead) (sections ids bytes : List ℕ) → ((c : KrlContents) × AreListed head sections ids c)
+    → header_text (published_header head) ++ sections ≡ bytes → (d : KrlContents) → Publishes bytes d → AreIds ids d.ids
 shown_ids head sections ids bytes listed view d is =
     let are = listed.1 in
     let c = listed.0 in
@@ -100,5 +100,5 @@ shown_ids head sections ids bytes listed view d is =
     record {
       ascending = own.ascending;
       short = own.short;
-      text = are.ids_are ∙ ap (λ (x : Contents). flat_map string_text x.ids) same;
+      text = are.ids_are ∙ ap (λ (x : KrlContents). flat_map string_text x.ids) same;
     }

@@ -11,7 +11,8 @@ use Rattle.krl.proofs.Words.{◌≤◌}
 use Rattle.std.proofs.lemmas.List.Folds.{list_all-append}
 use Rattle.std.proofs.lemmas.Slice.Eq.{bytes_eq-Decides}
 use Rattle.krl.specs.Format.{IsPartContent}
-use Rattle.krl.specs.Published.{published_list, published_text, is_key_id, IsCaPartOf, AreDistinctCas, RevokesExactly}
+use Rattle.krl.specs.Published.{composed_list, published_text, is_listed_key_id, IsMemberOf, AreDistinctCas}
+use Rattle.krl.specs.Published.{RevokesExactly}
 use Rattle.krl.specs.Published.{AreOnly}
 use Rattle.krl.proofs.Booleans.{clash}
 use Rattle.krl.proofs.Texts.{cut_unique}
@@ -193,13 +194,13 @@ sections_supported (p ∷ cas) ids =
 -- the published text can be divided in only one way, as a supported list
 pub only_cut : (head : KrlHead) (cas : List CaPart) (ids : List (List ℕ)) → head.version < 2 ^ 64 → head.date < 2 ^ 64
     → AllByRecursion (λ p. AreRuns p.runs) cas → fits cas ids ≡ true
-    → AreOnly (published_text head cas ids) (published_list head cas ids)
+    → AreOnly (published_text head cas ids) (composed_list head cas ids)
 only_cut head cas ids v d h e =
-    let cut : IsCut (published_text head cas ids) (published_list head cas ids) =
+    let cut : IsCut (published_text head cas ids) (composed_list head cas ids) =
     record { header = (v, d, omega arith, omega arith); sections = lawful_sections cas ids h e; text = refl } in
     record {
       cut = cut;
-      one = λ m other. cut_unique (published_text head cas ids) m (published_list head cas ids) other cut;
+      one = λ m other. cut_unique (published_text head cas ids) m (composed_list head cas ids) other cut;
       supported = sections_supported cas ids;
     }
 
@@ -220,13 +221,13 @@ ranges_name serial key_id (r ∷ rs) =
     [ true ↦ more | false ↦ ap (λ b. names_serial serial (Range r) || b) more ]
 
 ids_name : (serial : ℕ) (key_id : List ℕ) (ids : List (List ℕ))
-    → list_any (names serial key_id) (key_id_parts ids) ≡ is_key_id ids key_id
+    → list_any (names serial key_id) (key_id_parts ids) ≡ is_listed_key_id ids key_id
 ids_name serial key_id [] = refl
-ids_name serial key_id (i ∷ ids) = or-false (is_key_id (i ∷ ids) key_id)
+ids_name serial key_id (i ∷ ids) = or-false (is_listed_key_id (i ∷ ids) key_id)
 
 parts_name : (serial : ℕ) (key_id : List ℕ) (rs : List Run) (ids : List (List ℕ)) → AreRuns rs
     → list_any (names serial key_id) (serial_parts rs ++ key_id_parts ids)
-    ≡ (contains rs serial || is_key_id ids key_id)
+    ≡ (contains rs serial || is_listed_key_id ids key_id)
 parts_name serial key_id rs ids h =
     list_any-append (names serial key_id) (serial_parts rs) (key_id_parts ids)
     ∙ (λ i. serials i || ids_name serial key_id ids i)
@@ -241,13 +242,13 @@ parts_name serial key_id rs ids h =
 -- whether the CA part has this blob and names the serial or the key id
 abbrev pub part_revokes : List ℕ → ℕ → List ℕ → List (List ℕ) → CaPart → Bool
 part_revokes blob serial key_id ids p =
-    bytes_eq (key_blob p.ca) blob && (contains p.runs serial || is_key_id ids key_id)
+    bytes_eq (key_blob p.ca) blob && (contains p.runs serial || is_listed_key_id ids key_id)
 
 not_zero : (n : ℕ) → 0 < n → eqb n 0 ≡ false
 not_zero n lt = grind (arith, nat_tests)
 
 nothing_idle : (serial : ℕ) (key_id : List ℕ) (ids : List (List ℕ)) (rs : List Run)
-    → (eqb (length rs) 0 && eqb (length ids) 0) ≡ true → (contains rs serial || is_key_id ids key_id) ≡ false
+    → (eqb (length rs) 0 && eqb (length ids) 0) ≡ true → (contains rs serial || is_listed_key_id ids key_id) ≡ false
 nothing_idle serial key_id [] [] e = refl
 nothing_idle serial key_id (i ∷ ids) [] e =
     clash (eqb (suc (length ids)) 0) e (not_zero (suc (length ids)) (omega arith))
@@ -294,7 +295,7 @@ pub blob_key : (a b : List ℕ) → key_blob a ≡ key_blob b → a ≡ b
 blob_key a b e = cc
 
 none_revokes : (blob : List ℕ) (serial : ℕ) (key_id : List ℕ) (cas : List CaPart) (ids : List (List ℕ))
-    → ((p : CaPart) → IsCaPartOf p cas → key_blob p.ca ≢ blob)
+    → ((p : CaPart) → IsMemberOf p cas → key_blob p.ca ≢ blob)
     → list_any (part_revokes blob serial key_id ids) cas ≡ false
 none_revokes blob serial key_id [] ids none = refl
 none_revokes blob serial key_id (p ∷ cas) ids none =
@@ -302,17 +303,17 @@ none_revokes blob serial key_id (p ∷ cas) ids none =
     (none_revokes blob serial key_id cas ids (λ q c. none q (inr c)))
 
 one_revokes : (serial : ℕ) (key_id : List ℕ) (cas : List CaPart) (ids : List (List ℕ)) (p : CaPart) → AreDistinctCas cas
-    → IsCaPartOf p cas
-    → list_any (part_revokes (key_blob p.ca) serial key_id ids) cas ≡ (contains p.runs serial || is_key_id ids key_id)
+    → IsMemberOf p cas
+    → list_any (part_revokes (key_blob p.ca) serial key_id ids) cas ≡ (contains p.runs serial || is_listed_key_id ids key_id)
 one_revokes serial key_id [] ids p d c = absurd c
 one_revokes serial key_id (q ∷ cas) ids p d (inl same) =
     subst (λ (x : CaPart). list_any (part_revokes (key_blob x.ca) serial key_id ids) (q ∷ cas)
-    ≡ (contains x.runs serial || is_key_id ids key_id)) same
+    ≡ (contains x.runs serial || is_listed_key_id ids key_id)) same
     (rw (
       (bytes_eq-Decides (key_blob q.ca) (key_blob q.ca)).1 refl,
       none_revokes (key_blob q.ca) serial key_id cas ids (λ r c e. d.0 r c (blob_key r.ca q.ca e)),
     )
-    (or-false (contains q.runs serial || is_key_id ids key_id)))
+    (or-false (contains q.runs serial || is_listed_key_id ids key_id)))
 one_revokes serial key_id (q ∷ cas) ids p d (inr c) =
     rw (bytes_other (key_blob q.ca) (key_blob p.ca) (λ e. d.0 p c (sym (blob_key q.ca p.ca e))))
     (one_revokes serial key_id cas ids p d.1 c)
@@ -320,7 +321,7 @@ one_revokes serial key_id (q ∷ cas) ids p d (inr c) =
 -- the published list revokes exactly what its parts name
 pub revokes_exactly : (head : KrlHead) (cas : List CaPart) (ids : List (List ℕ))
     → AllByRecursion (λ p. AreRuns p.runs) cas → AreDistinctCas cas
-    → RevokesExactly (published_list head cas ids) cas ids
+    → RevokesExactly (composed_list head cas ids) cas ids
 revokes_exactly head cas ids h d = record {
   own = λ p c serial key_id. list_revokes (key_blob p.ca) serial key_id cas ids h
       ∙ one_revokes serial key_id cas ids p d c;

@@ -4,7 +4,7 @@ use Rattle.krl.proofs.Words.{false, fits, flat_map, header_text, inl, inr, is_id
 use Rattle.krl.proofs.Words.{published_sections}
 use Rattle.krl.proofs.Words.{refl, section_text, subst, true, ca_section}
 use Rattle.krl.proofs.Words.{ℕ, ◌++◌, ◌∙◌, ◌∷◌, ◌≡◌, ◌≤◌}
-use Rattle.krl.specs.Published.{AreDistinctCas, IsCaPartOf, published_header, published_text}
+use Rattle.krl.specs.Published.{AreDistinctCas, IsMemberOf, published_header, published_text}
 use Rattle.krl.specs.Contents.{AreReadBack, IsContentsPart, IsPublished}
 use Rattle.krl.proofs.Publishing.{fits_part}
 
@@ -35,13 +35,13 @@ no_more ids (p ∷ cas) = by_idle (is_idle ids p) (no_more ids cas)
     by_idle true more = omega arith
     by_idle false more = omega arith
 
-one_of : (ids : List (List ℕ)) (cas : List CaPart) (q : CaPart) → IsCaPartOf q (busy ids cas) → IsCaPartOf q cas
+one_of : (ids : List (List ℕ)) (cas : List CaPart) (q : CaPart) → IsMemberOf q (busy ids cas) → IsMemberOf q cas
 unfolding busy
 one_of ids [] q c = c
 one_of ids (p ∷ cas) q c = by_idle (is_idle ids p) (one_of ids cas q) c
   where
-    by_idle : (b : Bool) → (IsCaPartOf q (busy ids cas) → IsCaPartOf q cas)
-        → IsCaPartOf q (cond b (busy ids cas) (p ∷ busy ids cas)) → IsCaPartOf q (p ∷ cas)
+    by_idle : (b : Bool) → (IsMemberOf q (busy ids cas) → IsMemberOf q cas)
+        → IsMemberOf q (cond b (busy ids cas) (p ∷ busy ids cas)) → IsMemberOf q (p ∷ cas)
     by_idle true more c = inr (more c)
     by_idle false more (inl is) = inl is
     by_idle false more (inr c) = inr (more c)

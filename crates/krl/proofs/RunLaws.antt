@@ -4,7 +4,7 @@ use Rattle.krl.proofs.Words.{eqb, false, flat_map, is_short, listed_text, ltb, n
 use Rattle.krl.proofs.Words.{same_Some, serials_of, sym, true, u64_text, ℕ, ◌++◌, ◌+◌, ◌<◌, ◌^◌}
 use Rattle.krl.proofs.Words.{◌∙◌, ◌∷◌, ◌≡◌, ◌≤◌, ne_eqb, eq-eqb, ◌≢◌}
 use Rattle.wire.specs.Reading.{u64_at}
-use Rattle.krl.specs.Fronts.{◌>>=◌, behind_at, long_at, lower, range_begin, run_at, run_of, short_at, short_from}
+use Rattle.krl.specs.Fronts.{◌>>=◌, behind_at, long_at, lower, range_begin, run_at, run_between, short_at, short_from}
 use Rattle.krl.proofs.FrontLaws.{behind_again, then, u64_again}
 use Rattle.krl.proofs.Booleans.{clash, ltb-yes}
 
@@ -55,7 +55,7 @@ unfolding long_at
 no_long after none =
     ap (λ o. o >>=
     (λ begun. u64_at begun >>=
-    (λ lo. u64_at lo.1 >>= (λ hi. cond (is_short (run_of lo.0 hi.0)) None (Some (run_of lo.0 hi.0, hi.1)))))) none
+    (λ lo. u64_at lo.1 >>= (λ hi. cond (is_short (run_between lo.0 hi.0)) None (Some (run_between lo.0 hi.0, hi.1)))))) none
 
 -- the first range begins at or above the serial from which the runs ascend
 pub long_low : (from : ℕ) (q : Run) (rest after : List ℕ) (rs : List Run) → AreRunsFrom from rs
@@ -87,7 +87,7 @@ from_lo : (lo : ℕ) (rest : List ℕ) (o : Option (ℕ × List ℕ)) → (short
 from_lo lo rest None = refl
 from_lo lo rest (Some next) = by_next (eqb next.0 (lo + 1))
   where
-    by_next : (b : Bool) → (cond {A = Run × List ℕ} b (run_of lo next.0, next.1) (run_of lo lo, rest)).0.lo ≡ lo
+    by_next : (b : Bool) → (cond {A = Run × List ℕ} b (run_between lo next.0, next.1) (run_between lo lo, rest)).0.lo ≡ lo
     by_next true = refl
     by_next false = refl
 
@@ -109,12 +109,12 @@ short_low from q rest rs h e = by_first (u64_at (flat_map listed_text rs)) refl 
 -- a serial that isn't followed by its successor
 one_again : (lo : ℕ) (rest : List ℕ) → lo < 2 ^ 64
     → ((n : ℕ) (t : List ℕ) → u64_at rest ≡ Some (n, t) → lo + 2 ≤ n)
-    → short_at (u64_text lo ++ rest) ≡ Some (run_of lo lo, rest)
+    → short_at (u64_text lo ++ rest) ≡ Some (run_between lo lo, rest)
 unfolding short_at
 one_again lo rest small apart =
     then (u64_at (u64_text lo ++ rest)) (lo, rest) _ _ (u64_again lo rest small) (ap Some (by_next (u64_at rest) refl))
   where
-    by_next : (o : Option (ℕ × List ℕ)) → u64_at rest ≡ o → short_from lo rest o ≡ (run_of lo lo, rest)
+    by_next : (o : Option (ℕ × List ℕ)) → u64_at rest ≡ o → short_from lo rest o ≡ (run_between lo lo, rest)
     by_next None is = refl
     by_next (Some next) is =
         let far = apart next.0 next.1 is in
@@ -122,7 +122,7 @@ one_again lo rest small apart =
 
 -- a serial and its successor
 two_again : (lo hi : ℕ) (rest : List ℕ) → hi < 2 ^ 64 → hi ≡ lo + 1
-    → short_at (u64_text lo ++ (u64_text hi ++ rest)) ≡ Some (run_of lo hi, rest)
+    → short_at (u64_text lo ++ (u64_text hi ++ rest)) ≡ Some (run_between lo hi, rest)
 unfolding short_at
 two_again lo hi rest small next =
     then (u64_at (u64_text lo ++ (u64_text hi ++ rest))) (lo, u64_text hi ++ rest) _ _ (u64_again lo _ (omega arith))
@@ -145,7 +145,7 @@ short_again from r rs h short = by_one (eqb r.lo r.hi) refl
         let same : r.lo ≡ r.hi = grind (arith, nat_tests) in
         one_again r.lo (flat_map listed_text rs) (omega arith) (λ n t is. let low =
         listed_low (r.hi + 2) n t rs h.3 is in omega arith)
-        ∙ ap (λ hi. Some (run_of r.lo hi, flat_map listed_text rs)) same
+        ∙ ap (λ hi. Some (run_between r.lo hi, flat_map listed_text rs)) same
     by_one false e =
         let apart : r.lo ≢ r.hi = λ same. clash (eqb r.lo r.hi) (eq-eqb _ _ same) e in
         let some : r.lo ≤ r.hi = h.1 in

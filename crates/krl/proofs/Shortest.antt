@@ -1,5 +1,5 @@
 -- No parts that name the set of the runs are shorter than the written ones.
-use Rattle.krl.proofs.Words.{AreRuns, AreRunsFrom, Bool, IsOneOf, IsRunOf, KeyIds, List, OtherPart, Part, Range, Run}
+use Rattle.krl.proofs.Words.{AreRuns, AreRunsFrom, Bool, IsMemberOf, IsRunOf, KeyIds, List, OtherPart, Part, Range, Run}
 use Rattle.krl.proofs.Words.{Serials, [], ap, arith, cases_Bool, cases_lt, cond, contains, eqb, false, if◌then◌else◌}
 use Rattle.krl.proofs.Words.{inl, inr, is_among, is_short, is_within, le-ltb, leb, length, length-append, listed}
 use Rattle.krl.proofs.Words.{nat_lt, nat_tests, ne_eqb, ranges, refl, serial_list, serials_of, subst, sym, true, ℕ}
@@ -85,7 +85,7 @@ three_count p es a b c lt lu ha hb hc pa pb pc =
 
 -- ---- the cost of one run
 
-member_counts : (p : Run → Bool) (rs : List Run) (s : Run) → IsOneOf s rs → p s ≡ true → 1 ≤ how_many p rs
+member_counts : (p : Run → Bool) (rs : List Run) (s : Run) → IsMemberOf s rs → p s ≡ true → 1 ≤ how_many p rs
 member_counts p [] s c e = absurd c
 member_counts p (t ∷ rs) s (inl same) e = let pt : p t ≡ true = subst (λ (x : Run). p x ≡ true) (sym same) e in
     rw pt (omega arith)
@@ -191,7 +191,7 @@ in_runs_bound key from (r ∷ rs) xs h =
     once n = once_by n (is_within n r) refl
 
 pub sum_costs : (all rs : List Run) (es : List ℕ) (qs : List Run)
-    → ((r : Run) → IsOneOf r rs → IsRunOf (λ n. has es n || contains qs n) r)
+    → ((r : Run) → IsMemberOf r rs → IsRunOf (λ n. has es n || contains qs n) r)
     → least_of_all rs ≤ 8 * in_runs (λ e. e) rs es + 21 * in_runs (λ (q : Run). q.lo) rs qs
 sum_costs all [] es qs h = omega arith
 sum_costs all (r ∷ rs) es qs h =
@@ -214,7 +214,7 @@ least rs es qs h same =
 
 -- ---- ranges only
 
-runs_begin : (rs qs : List Run) → ((r : Run) → IsOneOf r rs → 1 ≤ how_many (λ (q : Run). is_within q.lo r) qs)
+runs_begin : (rs qs : List Run) → ((r : Run) → IsMemberOf r rs → 1 ≤ how_many (λ (q : Run). is_within q.lo r) qs)
     → length rs ≤ in_runs (λ (q : Run). q.lo) rs qs
 runs_begin [] qs h = omega arith
 runs_begin (r ∷ rs) qs h = let one = h r (inl refl) in let more = runs_begin rs qs (λ s c. h s (inr c)) in omega arith

@@ -8,13 +8,13 @@ use Rattle.std.specs.List.{filter_map}
 use Rattle.std.specs.List.Sorted.{IsNonDecreasing}
 use Rattle.std.proofs.lemmas.Bool.{lt-leb}
 use Rattle.std.proofs.lemmas.List.Sorted.{IsNonDecreasingBy-drop}
-use Rattle.krl.specs.Sets.{is_before, cut_run}
+use Rattle.krl.specs.Sets.{is_below_bound, cut_run}
 use Rattle.krl.proofs.Booleans.{ltb-yes}
 use Rattle.krl.proofs.Maximal.{weaken}
 
 -- whether a serial is at or above one serial and below a bound
 abbrev pub is_between : ℕ → Option ℕ → ℕ → Bool
-is_between from before n = leb from n && is_before n before
+is_between from before n = leb from n && is_below_bound n before
 
 -- a run has no serial there, or one run of serials
 abbrev pub CutCases : ℕ → Option ℕ → Run → Type 0
@@ -93,7 +93,7 @@ all_above n [] h = refl
 all_above n (x ∷ xs) h = rw (ltb-yes (h 0 (omega arith))) (all_above n xs (λ j lt. h (suc j) (omega arith)))
 
 first_later : (n : ℕ) (xs : List ℕ) → IsNonDecreasing xs
-    → list_all (λ later. ltb n later) xs ≡ is_before n (slice_get xs 0)
+    → list_all (λ later. ltb n later) xs ≡ is_below_bound n (slice_get xs 0)
 first_later n [] h = refl
 first_later n (x ∷ xs) h = elim (cases_lt n x) [
   | inl lt ↦
@@ -114,4 +114,4 @@ pub last_reached : (since : List ℕ) (k n : ℕ) → IsNonDecreasing since
 last_reached since k n h =
     ap (λ b. leb (get_or since k 0) n && b)
     (first_later n (drop (k + 1) since) (IsNonDecreasingBy-drop (λ x. x) (k + 1) since h)
-    ∙ ap (is_before n) (get_drop (k + 1) since))
+    ∙ ap (is_below_bound n) (get_drop (k + 1) since))

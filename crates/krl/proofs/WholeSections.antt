@@ -8,7 +8,7 @@ use Rattle.std.specs.Option.{is_some, option_map}
 use Rattle.std.proofs.lemmas.List.{append-nil, flat_map_more}
 use Rattle.std.specs.Prelude.{find}
 use Rattle.std.proofs.lemmas.Slice.Eq.{bytes_eq-Decides}
-use Rattle.krl.specs.Published.{IsCaPartOf}
+use Rattle.krl.specs.Published.{IsMemberOf}
 use Rattle.krl.specs.Fronts.{AreSplit, AreWhole, IsWhole, listed_bytes, part_if_any, ranges_bytes, runs_under}
 use Rattle.krl.specs.Fronts.{section_at}
 use Rattle.krl.specs.Fronts.{whole_text}
@@ -159,30 +159,30 @@ runs_later ids ca ps p fails = rw fails refl
 
 -- runs that are found are those of a part
 pub runs_found : (ids ca : List ℕ) (ps : List CaPart) (x : List ℕ × List ℕ) → runs_under ids ca ps ≡ Some x
-    → (q : CaPart) × IsCaPartOf q ps × (q.ca ≡ ca) × (x ≡ (listed_bytes q, ranges_bytes ids q))
+    → (q : CaPart) × IsMemberOf q ps × (q.ca ≡ ca) × (x ≡ (listed_bytes q, ranges_bytes ids q))
 runs_found ids ca [] x e = absurd cc
 runs_found ids ca (p ∷ ps) x e = by_test (bytes_eq p.ca ca) refl (runs_found ids ca ps x) e
   where
     by_test : (b : Bool) → bytes_eq p.ca ca ≡ b
         → (runs_under ids ca ps ≡ Some x
-        → (q : CaPart) × IsCaPartOf q ps × (q.ca ≡ ca) × (x ≡ (listed_bytes q, ranges_bytes ids q)))
+        → (q : CaPart) × IsMemberOf q ps × (q.ca ≡ ca) × (x ≡ (listed_bytes q, ranges_bytes ids q)))
         → option_map {U = List ℕ × List ℕ} (λ q. (listed_bytes q, ranges_bytes ids q))
         (cond b (Some p) (find (λ q. bytes_eq q.ca ca) ps))
-        ≡ Some x → (q : CaPart) × IsCaPartOf q (p ∷ ps) × (q.ca ≡ ca) × (x ≡ (listed_bytes q, ranges_bytes ids q))
+        ≡ Some x → (q : CaPart) × IsMemberOf q (p ∷ ps) × (q.ca ≡ ca) × (x ≡ (listed_bytes q, ranges_bytes ids q))
     by_test true holds more e = (p, inl refl, (bytes_eq-Decides p.ca ca).0 holds, sym (same_Some _ _ e))
     by_test false fails more e = let found = more e in (found.0, inr found.1, found.2, found.3)
 
 -- if none are found, the CA has no part
-pub runs_none : (ids ca : List ℕ) (ps : List CaPart) → runs_under ids ca ps ≡ None → (q : CaPart) → IsCaPartOf q ps
+pub runs_none : (ids ca : List ℕ) (ps : List CaPart) → runs_under ids ca ps ≡ None → (q : CaPart) → IsMemberOf q ps
     → q.ca ≢ ca
 runs_none ids ca [] e q c same = absurd c
 runs_none ids ca (p ∷ ps) e q c same = by_test (bytes_eq p.ca ca) refl (runs_none ids ca ps) e c
   where
     by_test : (b : Bool) → bytes_eq p.ca ca ≡ b
-        → (runs_under ids ca ps ≡ None → (q : CaPart) → IsCaPartOf q ps → q.ca ≢ ca)
+        → (runs_under ids ca ps ≡ None → (q : CaPart) → IsMemberOf q ps → q.ca ≢ ca)
         → option_map {U = List ℕ × List ℕ} (λ q. (listed_bytes q, ranges_bytes ids q))
         (cond b (Some p) (find (λ q. bytes_eq q.ca ca) ps))
-        ≡ None → IsCaPartOf q (p ∷ ps) → ⊥
+        ≡ None → IsMemberOf q (p ∷ ps) → ⊥
     by_test true holds more e c = absurd cc
     by_test false fails more e (inl is) =
         clash (bytes_eq p.ca ca) ((bytes_eq-Decides p.ca ca).1 (ap (λ (x : CaPart). x.ca) is ∙ same)) fails
@@ -190,19 +190,19 @@ runs_none ids ca (p ∷ ps) e q c same = by_test (bytes_eq p.ca ca) refl (runs_n
 
 module _ {A : Type 0} (ids ca : List ℕ) (ps : List CaPart) (o : Option A) (f : A → List ℕ × List ℕ)
     (reads : option_map f o ≡ runs_under ids ca ps) where
-  pub another_part : is_some o ≡ true → (q : CaPart) × IsCaPartOf q ps × (q.ca ≡ ca)
+  pub another_part : is_some o ≡ true → (q : CaPart) × IsMemberOf q ps × (q.ca ≡ ca)
   another_part there = by_option o there reads
     where
       by_option : (o : Option A) → is_some o ≡ true → option_map f o ≡ runs_under ids ca ps
-          → (q : CaPart) × IsCaPartOf q ps × (q.ca ≡ ca)
+          → (q : CaPart) × IsMemberOf q ps × (q.ca ≡ ca)
       by_option None there reads = absurd cc
       by_option (Some x) there reads = let found = runs_found ids ca ps (f x) (sym reads) in (found.0, found.1, found.2)
 
-  pub no_other : is_some o ≡ false → (q : CaPart) → IsCaPartOf q ps → q.ca ≢ ca
+  pub no_other : is_some o ≡ false → (q : CaPart) → IsMemberOf q ps → q.ca ≢ ca
   no_other none = by_option o none reads
     where
       by_option : (o : Option A) → is_some o ≡ false → option_map f o ≡ runs_under ids ca ps
-          → (q : CaPart) → IsCaPartOf q ps → q.ca ≢ ca
+          → (q : CaPart) → IsMemberOf q ps → q.ca ≢ ca
       by_option None none reads = runs_none ids ca ps (sym reads)
       by_option (Some x) none reads = absurd cc
 

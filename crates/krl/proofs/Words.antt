@@ -10,7 +10,8 @@ pub use Rattle.krl.specs.Published.{AreShortest, ca_section, fits, is_idle, is_s
 pub use Rattle.krl.specs.Published.{names_serial, part_fits, published_sections, ranges, serial_list, serial_parts}
 pub use Rattle.krl.specs.Published.{serials_of}
 pub use Rattle.krl.specs.Reading.{IsBytes, ReadsList}
-pub use Rattle.krl.specs.Sets.{AreRuns, AreRunsFrom, IsOneOf, IsRunOf, contains, is_among, is_last_reached, is_within}
+pub use Rattle.krl.specs.Sets.{AreRuns, AreRunsFrom, IsMemberOf, IsRunOf, contains, is_among, is_last_reached}
+pub use Rattle.krl.specs.Sets.{is_within}
 pub use Rattle.krl.specs.declared.ca_part.CaPart.{CaPart}
 pub use Rattle.krl.specs.declared.krl_fault.KrlFault.{KrlFault}
 pub use Rattle.krl.specs.declared.krl_head.KrlHead.{KrlHead}

@@ -9,11 +9,11 @@ use Rattle.krl.specs.declared.ca_part.CaPart.{CaPart}
 use Rattle.krl.specs.declared.krl_head.KrlHead.{KrlHead}
 use Rattle.krl.specs.Sets.{AreRuns, contains}
 use Rattle.krl.specs.Format.{IsString, RevocationList, revokes, section_data}
-use Rattle.krl.specs.Published.{AreDistinctCas, IsCaPartOf, ca_section, fits, is_idle, is_key_id, published_list}
+use Rattle.krl.specs.Published.{AreDistinctCas, IsMemberOf, ca_section, fits, is_idle, is_listed_key_id, composed_list}
 use Rattle.krl.specs.Published.{published_text}
 
 -- the head, the parts of the CAs that have a section, and the key ids
-pub record Contents : Type 0 where
+pub record KrlContents : Type 0 where
   pub head : KrlHead
   pub cas : List CaPart
   pub ids : List (List ℕ)
@@ -35,7 +35,7 @@ pub record IsContentsPart (ids : List (List ℕ)) (p : CaPart) : Type 0 where
   pub short : IsString (section_data (ca_section ids p))
 
 -- 64-bit numbers, at most eight CAs, all different, and ascending key ids
-pub record AreContents (c : Contents) : Type 0 where
+pub record AreContents (c : KrlContents) : Type 0 where
   pub version : c.head.version < 2 ^ 64
   pub date : c.head.date < 2 ^ 64
   pub few : length c.cas ≤ 8
@@ -46,11 +46,11 @@ pub record AreContents (c : Contents) : Type 0 where
   pub unwritten : c.cas ≡ [] → c.ids ≡ []
 
 -- the list that is written for these contents
-abbrev pub list_of : Contents → RevocationList
-list_of c = published_list c.head c.cas c.ids
+abbrev pub list_of : KrlContents → RevocationList
+list_of c = composed_list c.head c.cas c.ids
 
 -- the bytes are the text of these contents
-pub record Publishes (bytes : List ℕ) (c : Contents) : Type 0 where
+pub record Publishes (bytes : List ℕ) (c : KrlContents) : Type 0 where
   pub lawful : AreContents c
   pub text : bytes ≡ published_text c.head c.cas c.ids
 
@@ -67,7 +67,7 @@ pub record AreReadBack (head : KrlHead) (cas : List CaPart) (ids : List (List �
 
 -- the bytes are a published list
 abbrev pub IsPublished : List ℕ → Type 0
-IsPublished bytes = (c : Contents) × Publishes bytes c
+IsPublished bytes = (c : KrlContents) × Publishes bytes c
 
 -- each certificate that the old list revokes under its CA, by its serial or its key id, is revoked by the new one too
 abbrev pub ForgetsNothing : RevocationList → RevocationList → Type 0
@@ -76,18 +76,18 @@ ForgetsNothing old new =
     → revokes blob serial key_id new ≡ true
 
 -- the contents revoke the serial under the CA with this key
-abbrev pub NamesSerial : Contents → List ℕ → ℕ → Type 0
-NamesSerial c ca serial = (p : CaPart) × IsCaPartOf p c.cas × (p.ca ≡ ca) × (contains p.runs serial ≡ true)
+abbrev pub NamesSerial : KrlContents → List ℕ → ℕ → Type 0
+NamesSerial c ca serial = (p : CaPart) × IsMemberOf p c.cas × (p.ca ≡ ca) × (contains p.runs serial ≡ true)
 
 -- the contents revoke the key id under the CA with this key
-abbrev pub NamesKeyId : Contents → List ℕ → List ℕ → Type 0
-NamesKeyId c ca key_id = (p : CaPart) × IsCaPartOf p c.cas × (p.ca ≡ ca) × (is_key_id c.ids key_id ≡ true)
+abbrev pub NamesKeyId : KrlContents → List ℕ → List ℕ → Type 0
+NamesKeyId c ca key_id = (p : CaPart) × IsMemberOf p c.cas × (p.ca ≡ ca) × (is_listed_key_id c.ids key_id ≡ true)
 
 -- each pair of CA and serial, and each pair of CA and key id, is in the new contents too
-pub record KeepsEachPair (old new : Contents) : Type 0 where
+pub record KeepsEachPair (old new : KrlContents) : Type 0 where
   pub serials : (ca : List ℕ) (serial : ℕ) → NamesSerial old ca serial → NamesSerial new ca serial
   pub key_ids : (ca key_id : List ℕ) → NamesKeyId old ca key_id → NamesKeyId new ca key_id
 
 -- the key of each CA that has a section is one of these
-abbrev pub are_cas_among : List (List ℕ) → Contents → Bool
+abbrev pub are_cas_among : List (List ℕ) → KrlContents → Bool
 are_cas_among keys c = list_all (λ p. list_any (λ k. bytes_eq k p.ca) keys) c.cas

@@ -74,8 +74,8 @@ pub record RevocationList : Type 0 where
   pub header : Header
   pub sections : List Section
 
-abbrev pub list_text : RevocationList → List ℕ
-list_text l = header_text l.header ++ flat_map section_text l.sections
+abbrev pub krl_text : RevocationList → List ℕ
+krl_text l = header_text l.header ++ flat_map section_text l.sections
 
 -- ---- well-formed lists
 
@@ -109,7 +109,7 @@ IsHeader h = (h.version < 2 ^ 64) × (h.date < 2 ^ 64) × IsString h.reserved ×
 pub record IsCut (bytes : List ℕ) (l : RevocationList) : Type 0 where
   pub header : IsHeader l.header
   pub sections : AllByRecursion IsSection l.sections
-  pub text : bytes ≡ list_text l
+  pub text : bytes ≡ krl_text l
 
 -- ---- supported lists
 

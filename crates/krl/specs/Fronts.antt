@@ -13,7 +13,7 @@ use Rattle.krl.specs.declared.krl_head.KrlHead.{KrlHead}
 use Rattle.krl.specs.Sets.{AreRuns, contains}
 use Rattle.krl.specs.Format.{IsString, magic, section_text, tagged_text}
 use Rattle.krl.specs.Published.{AreDistinctCas, is_short, published_sections}
-use Rattle.krl.specs.Contents.{AreContents, Ascend, AscendBehind, Contents}
+use Rattle.krl.specs.Contents.{AreContents, Ascend, AscendBehind, KrlContents}
 use Rattle.krl.specs.Lengths.{listed_text, range_text}
 
 infixl 10 ◌>>=◌
@@ -46,13 +46,13 @@ head_at bytes = do
 
 -- ---- runs
 
-abbrev pub run_of : ℕ → ℕ → Run
-run_of lo hi = record { lo = lo; hi = hi }
+abbrev pub run_between : ℕ → ℕ → Run
+run_between lo hi = record { lo = lo; hi = hi }
 
 -- a run of one serial, or of two if the next serial follows it
 abbrev pub short_from : ℕ → List ℕ → Option (ℕ × List ℕ) → Run × List ℕ
-short_from lo rest None = (run_of lo lo, rest)
-short_from lo rest (Some next) = if next.0 == lo + 1 then (run_of lo next.0, next.1) else (run_of lo lo, rest)
+short_from lo rest None = (run_between lo lo, rest)
+short_from lo rest (Some next) = if next.0 == lo + 1 then (run_between lo next.0, next.1) else (run_between lo lo, rest)
 
 unfoldable pub short_at : List ℕ → Option (Run × List ℕ)
 short_at bytes = do
@@ -69,7 +69,7 @@ long_at bytes = do
   begun ← behind_at range_begin bytes
   lo ← u64_at begun
   hi ← u64_at lo.1
-  if is_short (run_of lo.0 hi.0) then None else Some (run_of lo.0 hi.0, hi.1)
+  if is_short (run_between lo.0 hi.0) then None else Some (run_between lo.0 hi.0, hi.1)
 
 -- the lower of a listed short run and a range, with the rest of the list and of the ranges
 abbrev pub lower : List ℕ → List ℕ → Option (Run × List ℕ) → Option (Run × List ℕ) → Option (Run × (List ℕ × List ℕ))
@@ -166,7 +166,7 @@ pub record AreIds (bytes : List ℕ) (ids : List (List ℕ)) : Type 0 where
   pub text : bytes ≡ flat_map string_text ids
 
 -- the header and the sections of a published list, and the data of its key ids
-pub record AreListed (head : KrlHead) (sections ids : List ℕ) (c : Contents) : Type 0 where
+pub record AreListed (head : KrlHead) (sections ids : List ℕ) (c : KrlContents) : Type 0 where
   pub lawful : AreContents c
   pub head_is : c.head ≡ head
   pub sections_are : sections ≡ flat_map section_text (published_sections c.cas c.ids)

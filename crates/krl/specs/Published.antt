@@ -9,7 +9,7 @@ use Rattle.krl.specs.declared.ca_part.CaPart.{CaPart}
 use Rattle.krl.specs.declared.krl_head.KrlHead.{KrlHead}
 use Rattle.krl.specs.Sets.{is_within, is_among, contains}
 use Rattle.krl.specs.Format.{Part, Serials, Range, KeyIds, OtherPart, part_text, Section, Certificates, section_data}
-use Rattle.krl.specs.Format.{section_text, Header, RevocationList, list_text, IsCut, is_supported, revokes}
+use Rattle.krl.specs.Format.{section_text, Header, RevocationList, krl_text, IsCut, is_supported, revokes}
 
 -- ---- serials
 
@@ -88,11 +88,11 @@ published_sections cas ids = flat_map (sections_of ids) cas
 abbrev pub published_header : KrlHead → Header
 published_header head = record { version = head.version; date = head.date; reserved = []; comment = [] }
 
-abbrev pub published_list : KrlHead → List CaPart → List (List ℕ) → RevocationList
-published_list head cas ids = record { header = published_header head; sections = published_sections cas ids }
+abbrev pub composed_list : KrlHead → List CaPart → List (List ℕ) → RevocationList
+composed_list head cas ids = record { header = published_header head; sections = published_sections cas ids }
 
 abbrev pub published_text : KrlHead → List CaPart → List (List ℕ) → List ℕ
-published_text head cas ids = list_text (published_list head cas ids)
+published_text head cas ids = krl_text (composed_list head cas ids)
 
 -- the text's length, which doesn't depend on the version and the date: a header of 44 bytes, and the sections
 abbrev pub published_length : List CaPart → List (List ℕ) → ℕ
@@ -106,26 +106,26 @@ abbrev pub fits : List CaPart → List (List ℕ) → Bool
 fits cas ids = list_all (part_fits ids) cas
 
 -- whether the key id is in the list
-abbrev pub is_key_id : List (List ℕ) → List ℕ → Bool
-is_key_id ids key_id = list_any (λ i. bytes_eq i key_id) ids
+abbrev pub is_listed_key_id : List (List ℕ) → List ℕ → Bool
+is_listed_key_id ids key_id = list_any (λ i. bytes_eq i key_id) ids
 
 -- the CA part is in the list
-abbrev pub IsCaPartOf : CaPart → List CaPart → Type 0
-IsCaPartOf p [] = ⊥
-IsCaPartOf p (q ∷ qs) = (q ≡ p) ⊎ IsCaPartOf p qs
+abbrev pub IsMemberOf : CaPart → List CaPart → Type 0
+IsMemberOf p [] = ⊥
+IsMemberOf p (q ∷ qs) = (q ≡ p) ⊎ IsMemberOf p qs
 
 -- no two parts have the same CA
 abbrev pub AreDistinctCas : List CaPart → Type 0
 AreDistinctCas [] = Unit {0}
-AreDistinctCas (p ∷ ps) = ((q : CaPart) → IsCaPartOf q ps → q.ca ≢ p.ca) × AreDistinctCas ps
+AreDistinctCas (p ∷ ps) = ((q : CaPart) → IsMemberOf q ps → q.ca ≢ p.ca) × AreDistinctCas ps
 
 -- the list revokes exactly what the CA parts and key ids name
 pub record RevokesExactly (l : RevocationList) (cas : List CaPart) (ids : List (List ℕ)) : Type 0 where
   -- under a CA that has a part: its serials, and each of the key ids
-  pub own : (p : CaPart) → IsCaPartOf p cas → (serial : ℕ) (key_id : List ℕ)
-      → revokes (key_blob p.ca) serial key_id l ≡ (contains p.runs serial || is_key_id ids key_id)
+  pub own : (p : CaPart) → IsMemberOf p cas → (serial : ℕ) (key_id : List ℕ)
+      → revokes (key_blob p.ca) serial key_id l ≡ (contains p.runs serial || is_listed_key_id ids key_id)
   -- under any other blob: nothing
-  pub others : (blob : List ℕ) → ((p : CaPart) → IsCaPartOf p cas → key_blob p.ca ≢ blob)
+  pub others : (blob : List ℕ) → ((p : CaPart) → IsMemberOf p cas → key_blob p.ca ≢ blob)
       → (serial : ℕ) (key_id : List ℕ) → revokes blob serial key_id l ≡ false
 
 -- the bytes can be divided in only one way, as this list, which is supported

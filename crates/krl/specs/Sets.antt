@@ -37,9 +37,9 @@ pub record IsRunOf (set : ℕ → Bool) (r : Run) : Type 0 where
   pub above : set (r.hi + 1) ≡ false
 
 -- the run is in the list
-abbrev pub IsOneOf : Run → List Run → Type 0
-IsOneOf r [] = ⊥
-IsOneOf r (s ∷ rs) = (s ≡ r) ⊎ IsOneOf r rs
+abbrev pub IsMemberOf : Run → List Run → Type 0
+IsMemberOf r [] = ⊥
+IsMemberOf r (s ∷ rs) = (s ≡ r) ⊎ IsMemberOf r rs
 
 -- whether the serial is one of the `count` serials from `from` on
 abbrev pub is_counted : ℕ → ℕ → ℕ → Bool
@@ -60,9 +60,9 @@ runs_in set from (suc count) =
     else runs_in set (from + 1) count
 
 -- whether the serial is below the bound, if there is one
-abbrev pub is_before : ℕ → Option ℕ → Bool
-is_before n None = true
-is_before n (Some bound) = nat_lt n bound
+abbrev pub is_below_bound : ℕ → Option ℕ → Bool
+is_below_bound n None = true
+is_below_bound n (Some bound) = nat_lt n bound
 
 -- whether a serial reaches the number at the place k, and no number at a later place
 abbrev pub is_last_reached : List ℕ → ℕ → ℕ → Bool

@@ -1,7 +1,7 @@
 //! Goes through the key ids of a published list.
 
 ghost use Rattle.std.specs.Prelude.{◌≡◌, ◌↔◌, [], ◌∷◌, List, ℕ, IsTrue, option_copied, true};
-ghost use Rattle.krl.specs.Published.{is_key_id};
+ghost use Rattle.krl.specs.Published.{is_listed_key_id};
 ghost use Rattle.krl.specs.Fronts.{AreIds, AscendNext};
 
 use crate::fronts::string_front;
@@ -39,7 +39,7 @@ pub(crate) fn are_key_ids(bytes: &[u8]) -> bool
 // Whether each of the old key ids is one of the new ones.
 pub(crate) fn keeps_ids(old: &[u8], new: &[u8]) -> bool
     ensures { (ids others : List (List ℕ)) → AreIds old.now ids → AreIds new.now others
-        → IsTrue result ↔ ((i : List ℕ) → is_key_id ids i ≡ true → is_key_id others i ≡ true) }
+        → IsTrue result ↔ ((i : List ℕ) → is_listed_key_id ids i ≡ true → is_listed_key_id others i ≡ true) }
 {
     let mut wanted = old;
     let mut left = new;

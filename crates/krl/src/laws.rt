@@ -2,18 +2,18 @@
 
 ghost use Rattle.std.specs.Prelude.{◌≡◌, ◌↔◌, ◌&&◌, ◌+◌, ◌≤◌, ◌^◌, Bool, List, ℕ};
 ghost use Rattle.krl.specs.declared.run.Run.{Run};
-ghost use Rattle.krl.specs.Sets.{AreRuns, IsOneOf, IsRunOf, contains, is_counted, runs_in};
+ghost use Rattle.krl.specs.Sets.{AreRuns, IsMemberOf, IsRunOf, contains, is_counted, runs_in};
 ghost use Rattle.krl.specs.Format.{RevocationList};
 ghost use Rattle.krl.specs.declared.ca_part.CaPart.{CaPart};
 ghost use Rattle.krl.specs.declared.krl_head.KrlHead.{KrlHead};
 ghost use Rattle.krl.specs.Published.{published_text};
-ghost use Rattle.krl.specs.Contents.{AreContents, AreReadBack, Contents, ForgetsNothing, IsPublished, KeepsEachPair};
+ghost use Rattle.krl.specs.Contents.{AreContents, AreReadBack, KrlContents, ForgetsNothing, IsPublished, KeepsEachPair};
 ghost use Rattle.krl.specs.Contents.{Publishes, list_of};
 
 /// The runs of a set are exactly its maximal intervals of at least one serial.
 pub fn runs_are_maximal()
-    ensures each { (rs : List Run) (r : Run) → AreRuns rs → IsOneOf r rs → IsRunOf (contains rs) r }
-    ensures all { (rs : List Run) (r : Run) → AreRuns rs → IsRunOf (contains rs) r → IsOneOf r rs }
+    ensures each { (rs : List Run) (r : Run) → AreRuns rs → IsMemberOf r rs → IsRunOf (contains rs) r }
+    ensures all { (rs : List Run) (r : Run) → AreRuns rs → IsRunOf (contains rs) r → IsMemberOf r rs }
 {}
 
 /// No two lists of runs represent the same set.
@@ -34,8 +34,8 @@ pub fn a_set_has_its_runs()
 /// Bytes are the text of at most one list: a text determines the head, the parts of the CAs that have a section, and
 /// the key ids. The list determines its text, so lists with the same contents have the same bytes.
 pub fn a_text_has_one_list()
-    ensures list { (bytes : List ℕ) (c d : Contents) → Publishes bytes c → Publishes bytes d → c ≡ d }
-    ensures text { (a b : List ℕ) (c : Contents) → Publishes a c → Publishes b c → a ≡ b }
+    ensures list { (bytes : List ℕ) (c d : KrlContents) → Publishes bytes c → Publishes bytes d → c ≡ d }
+    ensures text { (a b : List ℕ) (c : KrlContents) → Publishes a c → Publishes b c → a ≡ b }
 {}
 
 /// The text that is written for at most eight different CAs and for key ids in ascending byte order is a published
@@ -54,6 +54,6 @@ pub fn revocations_only_grow()
 
 /// Forgetting nothing means keeping each pair of CA and serial, and each pair of CA and key id.
 pub fn nothing_is_forgotten_by_pairs()
-    ensures { (old new : Contents) → AreContents old → AreContents new
+    ensures { (old new : KrlContents) → AreContents old → AreContents new
         → ForgetsNothing (list_of old) (list_of new) ↔ KeepsEachPair old new }
 {}

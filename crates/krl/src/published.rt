@@ -3,7 +3,7 @@
 ghost use Rattle.std.specs.Prelude.{◌≡◌, ◌↔◌, [], List, ℕ, IfSome, IsSome, IsTrue, option_copied};
 ghost use Rattle.std.specs.List.{flat_map, AllByRecursion};
 ghost use Rattle.krl.specs.declared.ca_part.CaPart.{CaPart};
-ghost use Rattle.krl.specs.Contents.{Contents, ForgetsNothing, IsPublished, Publishes, list_of};
+ghost use Rattle.krl.specs.Contents.{KrlContents, ForgetsNothing, IsPublished, Publishes, list_of};
 ghost use Rattle.krl.specs.Fronts.{ArePartsKept, AreSections, AreWhole, IsWhole, whole_text};
 
 use crate::fronts::head_front;
@@ -26,14 +26,14 @@ impl<'a> Model for PublishedList<'a> {
     ghost use Rattle.std.specs.Prelude.{List, ℕ, ◌++◌};
     ghost use Rattle.krl.specs.Format.{header_text};
     ghost use Rattle.krl.specs.Published.{published_header};
-    ghost use Rattle.krl.specs.Contents.{Contents};
+    ghost use Rattle.krl.specs.Contents.{KrlContents};
     ghost use Rattle.krl.specs.Fronts.{AreListed};
 
     ghost Value = { List ℕ };
 
     ghost view = { λ l. header_text (published_header l.head) ++ l.sections.now };
 
-    ghost invariant = { λ l. (c : Contents) × AreListed l.head l.sections.now l.key_ids.now c };
+    ghost invariant = { λ l. (c : KrlContents) × AreListed l.head l.sections.now l.key_ids.now c };
 }
 
 impl<'a> PublishedList<'a> {
@@ -42,14 +42,14 @@ impl<'a> PublishedList<'a> {
     /// The version and the date.
     pub fn head(&self) -> KrlHead
         ensures published { IsPublished self.now }
-        ensures head { (c : Contents) → Publishes self.now c → result ≡ c.head }
+        ensures head { (c : KrlContents) → Publishes self.now c → result ≡ c.head }
     {
         self.head
     }
 
     /// Whether each CA that has a section is one of these, given by the 32 bytes of their keys.
     pub fn has_only(&self, keys: &[[u8; 32]]) -> bool
-        ensures { (c : Contents) → Publishes self.now c → result ≡ are_cas_among keys.now c }
+        ensures { (c : KrlContents) → Publishes self.now c → result ≡ are_cas_among keys.now c }
     {
         are_among(self.sections, keys)
     }
@@ -117,7 +117,7 @@ fn keeps_sections(old: &[u8], new: &[u8]) -> bool
 /// Whether the new list revokes each pair of CA and serial, and each pair of CA and key id, that the old one revokes.
 /// Allocates no memory; the time grows with the lengths of both.
 pub fn forgets_nothing(old: &PublishedList<'_>, new: &PublishedList<'_>) -> bool
-    ensures { (o n : Contents) → Publishes old.now o → Publishes new.now n
+    ensures { (o n : KrlContents) → Publishes old.now o → Publishes new.now n
         → IsTrue result ↔ ForgetsNothing (list_of o) (list_of n) }
 {
     keeps_sections(old.sections, new.sections) && keeps_ids(old.key_ids, new.key_ids)

@@ -7,7 +7,8 @@ ghost use Rattle.std.specs.Bool.{OnTrue, OnFalse};
 ghost use Rattle.std.specs.List.{list_any, filter_map};
 ghost use Rattle.std.specs.Option.{SomeIff};
 ghost use Rattle.std.specs.List.Sorted.{IsStrictlyIncreasing, IsNonDecreasing, IsPartitionPoint};
-ghost use Rattle.krl.specs.Sets.{AreRuns, HasAll, contains, cut_run, is_among, is_before, is_last_reached, is_within};
+ghost use Rattle.krl.specs.Sets.{AreRuns, HasAll, contains, cut_run, is_among, is_below_bound, is_last_reached};
+ghost use Rattle.krl.specs.Sets.{is_within};
 
 use crate::lengths::serials_len;
 use crate::run::Run;
@@ -149,7 +150,7 @@ fn between(
     requires { AreRuns runs.now }
     ensures runs { IfOk result (λ v. AreRuns v.items) }
     ensures cut { IfOk result (λ v. (n : ℕ) → contains v.items n
-        ≡ ((nat_le from n && is_before n before) && contains runs.now n)) }
+        ≡ ((nat_le from n && is_below_bound n before) && contains runs.now n)) }
 {
     Ok(cut_runs(alloc, runs, from, before)?)
 }

@@ -11,7 +11,7 @@ ghost use Rattle.krl.specs.Sets.{AreRuns};
 ghost use Rattle.krl.specs.Format.{header_text, part_text, section_data, section_text};
 ghost use Rattle.krl.specs.Published.{ca_section, key_id_parts, listed, published_header, AreOnly};
 ghost use Rattle.krl.specs.Published.{AreShortest, RevokesExactly, AreDistinctCas, fits, part_fits};
-ghost use Rattle.krl.specs.Published.{published_length, published_list, published_sections};
+ghost use Rattle.krl.specs.Published.{published_length, composed_list, published_sections};
 ghost use Rattle.krl.specs.Published.{published_text, sections_of, serial_list, serial_parts};
 ghost use Rattle.krl.specs.Lengths.{key_id_length, listed_length, listed_text, range_text};
 
@@ -285,11 +285,11 @@ pub fn write_krl<W: Sink>(
 
     // It can be divided in only one way, as a supported list.
     ensures one_cut { OnOk result
-        (AreOnly (published_text head.now parts.now ids.now) (published_list head.now parts.now ids.now)) }
+        (AreOnly (published_text head.now parts.now ids.now) (composed_list head.now parts.now ids.now)) }
 
     // It revokes exactly the given serials and key ids, each under its CA.
     ensures exact { AreDistinctCas parts.now
-        → OnOk result (RevokesExactly (published_list head.now parts.now ids.now) parts.now ids.now) }
+        → OnOk result (RevokesExactly (composed_list head.now parts.now ids.now) parts.now ids.now) }
 
     // No other lists and ranges of serials that name the same set are shorter.
     ensures shortest { OnOk result (All (λ p. AreShortest (serial_parts p.runs) p.runs) parts.now) }

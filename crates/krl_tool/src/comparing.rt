@@ -1,7 +1,7 @@
 //! Comparing lists.
 
 ghost use Rattle.std.specs.Prelude.{◌≡◌, ◌↔◌, IfSome, IsTrue, option_copied, Some};
-ghost use Rattle.krl.specs.Contents.{Contents, ForgetsNothing, Publishes, list_of};
+ghost use Rattle.krl.specs.Contents.{KrlContents, ForgetsNothing, Publishes, list_of};
 
 use anyhow::{Context, Result, bail};
 use krl::{forgets_nothing, read_published};
@@ -10,7 +10,7 @@ use std::rt::Files;
 
 /// Whether the new list keeps everything that the old one revokes. `None` if one of the two isn't a published list.
 fn keeps(old: &[u8], new: &[u8]) -> Option<bool>
-    ensures { IfSome result (λ kept. (o n : Contents) → Publishes old.now o → Publishes new.now n
+    ensures { IfSome result (λ kept. (o n : KrlContents) → Publishes old.now o → Publishes new.now n
         → IsTrue kept ↔ ForgetsNothing (list_of o) (list_of n)) }
 {
     let old = read_published(old)?;

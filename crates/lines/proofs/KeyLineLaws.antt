@@ -15,7 +15,8 @@ use Rattle.lines.specs.KeyLines.{is_base64_word, is_key, is_comment, is_comment_
 use Rattle.lines.specs.KeyLines.{is_key_line, comment_text, key_line_head, key_line_text}
 use Rattle.text.specs.Results.{◌>>=◌, or_fault}
 use Rattle.lines.specs.Reading.{after_type, word_of, comment_of, blob_of, checked_line}
-use Rattle.lines.specs.Reading.{key_line_at, Gives, IsFault, HasWrongType, HasBadBase64, HasBadBlob, HasBadComment}
+use Rattle.lines.specs.Reading.{key_line_at, GivesKeyLine, IsLineFault, HasWrongType, HasBadBase64, HasBadBlob}
+use Rattle.lines.specs.Reading.{HasBadComment}
 use Rattle.lines.specs.declared.key_line.KeyLine.{KeyLine}
 use Rattle.lines.specs.declared.key_line.LineFault.{LineFault}
 use Rattle.lines.specs.declared.key_line.LineFault.TheVariants.{WrongType, BadBase64, BadBlob, BadComment, NoMemory}
@@ -141,7 +142,7 @@ bad_comment_again line bad =
     ap key_line_at bad.4 ∙ at_line bad.0 (Some bad.1) bad.3 ∙ cond-false _ _ (Err BadComment) bad.2
 
 -- A fault that is present in the text is reported.
-pub fault_again : (line : List ℕ) (e : LineFault) → IsBytes line → e ≢ NoMemory → IsFault line e
+pub fault_again : (line : List ℕ) (e : LineFault) → IsBytes line → e ≢ NoMemory → IsLineFault line e
     → key_line_at line ≡ Err e
 fault_again line WrongType fits other fault = wrong_type_again line fault
 fault_again line BadBase64 fits other fault = bad_base64_again line fits fault
@@ -153,7 +154,7 @@ fault_again line NoMemory fits other fault = absurd (other refl)
 
 -- A line that is read is valid and has that text, and a reported fault is present in the text.
 abbrev pub Says : List ℕ → Result KeyLine LineFault → Type 0
-Says line read = MatchResult read (λ k. IsTrue (is_key_line k) × (line ≡ key_line_text k)) (IsFault line)
+Says line read = MatchResult read (λ k. IsTrue (is_key_line k) × (line ≡ key_line_text k)) (IsLineFault line)
 
 -- a line whose key is known
 says_key : (line rest blob key : List ℕ) → IsBytes line → line ≡ key_line_head ++ rest
@@ -207,7 +208,7 @@ key_line_says line fits = elim (option_cases (after_type line)) [
 ]
 
 -- A line that was read is valid and has that text.
-pub found_from : (line : List ℕ) (r : Result KeyLine LineFault) → IsBytes line → Gives r (key_line_at line)
+pub found_from : (line : List ℕ) (r : Result KeyLine LineFault) → IsBytes line → GivesKeyLine r (key_line_at line)
     → IfOk r (λ k. IsTrue (is_key_line k) × (line ≡ key_line_text k))
 found_from line (Ok k) fits given = subst (Says line) given (key_line_says line fits)
 found_from line (Err e) fits given = tt

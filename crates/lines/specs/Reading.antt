@@ -50,10 +50,10 @@ key_line_at line = do
   checked_line key (comment_of rest)
 
 -- The result of a function is that of reading by the definitions, and memory is refused only for a valid line.
-abbrev pub Gives : Result KeyLine LineFault → Result KeyLine LineFault → Type 0
-Gives (Ok k) read = read ≡ Ok k
-Gives (Err NoMemory) read = IsOk read
-Gives (Err e) read = read ≡ Err e
+abbrev pub GivesKeyLine : Result KeyLine LineFault → Result KeyLine LineFault → Type 0
+GivesKeyLine (Ok k) read = read ≡ Ok k
+GivesKeyLine (Err NoMemory) read = IsOk read
+GivesKeyLine (Err e) read = read ≡ Err e
 
 -- ---- the faults, each as a property of the whole text
 
@@ -76,13 +76,13 @@ HasBadComment line = (key : List ℕ) × (comment : List ℕ) × (is_comment com
     × (line ≡ key_line_text (record { key = key; comment = Some comment }))
 
 -- The text is that of a valid line.
-abbrev pub IsLawful : List ℕ → Type 0
-IsLawful line = (k : KeyLine) × IsTrue (is_key_line k) × (line ≡ key_line_text k)
+abbrev pub IsLawfulLine : List ℕ → Type 0
+IsLawfulLine line = (k : KeyLine) × IsTrue (is_key_line k) × (line ≡ key_line_text k)
 
 -- the property of the text for each fault
-abbrev pub IsFault : List ℕ → LineFault → Type 0
-IsFault line WrongType = HasWrongType line
-IsFault line BadBase64 = HasBadBase64 line
-IsFault line BadBlob = HasBadBlob line
-IsFault line BadComment = HasBadComment line
-IsFault line NoMemory = IsLawful line
+abbrev pub IsLineFault : List ℕ → LineFault → Type 0
+IsLineFault line WrongType = HasWrongType line
+IsLineFault line BadBase64 = HasBadBase64 line
+IsLineFault line BadBlob = HasBadBlob line
+IsLineFault line BadComment = HasBadComment line
+IsLineFault line NoMemory = IsLawfulLine line

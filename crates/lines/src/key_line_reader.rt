@@ -3,7 +3,8 @@
 ghost use Rattle.std.specs.Prelude.{◌≡◌, ◌≢◌, ◌⊎◌, false, true, IsTrue, IfOk, IfErr, option_copied, position};
 ghost use Rattle.std.specs.List.{list_all};
 ghost use Rattle.lines.specs.KeyLines.{is_comment, is_comment_or_none, is_comment_byte, is_key_line, key_line_text};
-ghost use Rattle.lines.specs.Reading.{Gives, IsFault, after_type, blob_of, comment_of, is_space, key_line_at, word_of};
+ghost use Rattle.lines.specs.Reading.{GivesKeyLine, IsLineFault, after_type, blob_of, comment_of, is_space};
+ghost use Rattle.lines.specs.Reading.{key_line_at, word_of};
 ghost use Rattle.lines.specs.declared.key_line.KeyLine.{KeyLine};
 ghost use Rattle.lines.specs.declared.key_line.LineFault.{LineFault};
 
@@ -88,7 +89,7 @@ fn comment_in(alloc: Global, comment: Option<&[u8]>) -> Result<Option<Text>, Lin
 
 #[tactic(auto, unfolding(crate::specs::Reading::key_line_at))]
 fn read(alloc: Global, line: &[u8]) -> Result<KeyLine, LineFault>
-    ensures { Gives result (key_line_at line.now) }
+    ensures { GivesKeyLine result (key_line_at line.now) }
 {
     let Some(rest) = after_type(line) else {
         return Err(LineFault::WrongType);
@@ -111,17 +112,17 @@ fn read(alloc: Global, line: &[u8]) -> Result<KeyLine, LineFault>
 ///
 /// The first fault from the left, in the order of `LineFault`. Memory is allocated only once the line is found valid.
 pub fn read_key_line(alloc: Global, line: &[u8]) -> Result<KeyLine, LineFault>
-    ensures exact { Gives result (key_line_at line.now) }
+    ensures exact { GivesKeyLine result (key_line_at line.now) }
 
     // The line that is read is valid, and the text is its text.
     ensures found { IfOk result (λ k. IsTrue (is_key_line k) × (line.now ≡ key_line_text k)) }
 
     // The text of a valid line is read, unless memory is refused.
-    ensures only { (k : KeyLine) → IsTrue (is_key_line k) → line.now ≡ key_line_text k → Gives result (Ok k) }
+    ensures only { (k : KeyLine) → IsTrue (is_key_line k) → line.now ≡ key_line_text k → GivesKeyLine result (Ok k) }
 
     // A reported fault is present in the text, and a fault that is present is reported.
-    ensures fault { IfErr result (λ e. IsFault line.now e) }
-    ensures answered { (e : LineFault) → e ≢ LineFault.NoMemory → IsFault line.now e → result ≡ Err e }
+    ensures fault { IfErr result (λ e. IsLineFault line.now e) }
+    ensures answered { (e : LineFault) → e ≢ LineFault.NoMemory → IsLineFault line.now e → result ≡ Err e }
 {
     read(alloc, line)
 }

@@ -4,7 +4,7 @@ ghost use Rattle.std.specs.Prelude.{◌≡◌, ◌≢◌, ◌↔◌, List, ℕ, 
 ghost use Rattle.base64.specs.Engines.{standard};
 ghost use Rattle.base64.specs.GeneralPurpose.{IsBytes, encode_of};
 ghost use Rattle.lines.specs.KeyLines.{is_base64_word, is_key_line, key_line_text};
-ghost use Rattle.lines.specs.Reading.{IsFault, key_line_at};
+ghost use Rattle.lines.specs.Reading.{IsLineFault, key_line_at};
 ghost use Rattle.lines.specs.declared.key_line.KeyLine.{KeyLine};
 ghost use Rattle.lines.specs.declared.key_line.LineFault.{LineFault};
 
@@ -19,8 +19,8 @@ pub fn key_lines_are_read_again()
 /// reported.
 pub fn key_lines_are_lawful_or_faulty()
     ensures says { (line : List ℕ) → IsBytes line
-        → MatchResult (key_line_at line) (λ k. IsTrue (is_key_line k) × (line ≡ key_line_text k)) (IsFault line) }
-    ensures faults { (line : List ℕ) (e : LineFault) → IsBytes line → e ≢ LineFault.NoMemory → IsFault line e
+        → MatchResult (key_line_at line) (λ k. IsTrue (is_key_line k) × (line ≡ key_line_text k)) (IsLineFault line) }
+    ensures faults { (line : List ℕ) (e : LineFault) → IsBytes line → e ≢ LineFault.NoMemory → IsLineFault line e
         → key_line_at line ≡ Err e }
 {}
 

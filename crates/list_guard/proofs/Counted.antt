@@ -5,7 +5,7 @@ use Rattle.std.proofs.lemmas.Bool.{and_from}
 use Rattle.std.proofs.lemmas.Option.{same_Some}
 use Rattle.std.specs.List.{AllByRecursion, flat_map}
 use Rattle.krl.specs.declared.ca_part.CaPart.{CaPart}
-use Rattle.krl.specs.Contents.{Contents, IsContentsPart, Publishes}
+use Rattle.krl.specs.Contents.{KrlContents, IsContentsPart, Publishes}
 use Rattle.krl.specs.Published.{ca_section, fits, published_header, published_sections}
 use Rattle.krl.specs.Sets.{AreRuns}
 use Rattle.krl.proofs.Publishing.{lawful_sections}
@@ -120,13 +120,13 @@ all_fit (p ∷ cas) ids h =
     let fit : leb (length (section_data (ca_section ids p))) 4294967295 ≡ true = le-leb _ _ (omega (arith, short)) in
     and_from _ _ (rw h.0.busy fit) (all_fit cas ids h.1)
 
-pub its_sections : (list : List ℕ) (c : Contents) → Publishes list c
+pub its_sections : (list : List ℕ) (c : KrlContents) → Publishes list c
     → AllByRecursion IsSection (published_sections c.cas c.ids)
 its_sections list c is =
     lawful_sections c.cas c.ids (all_runs c.cas c.ids is.lawful.parts) (all_fit c.cas c.ids is.lawful.parts)
 
 -- the sections follow the 44 bytes of the header
-pub behind_head : (list : List ℕ) (c : Contents) → Publishes list c
+pub behind_head : (list : List ℕ) (c : KrlContents) → Publishes list c
     → drop 44 list ≡ flat_map section_text (published_sections c.cas c.ids)
 behind_head list c is =
     let head = header_text (published_header c.head) in
@@ -134,7 +134,7 @@ behind_head list c is =
     let long : length head ≡ 44 = omega arith in
     ap (drop 44) is.text ∙ subst (λ n. drop n (head ++ rest) ≡ rest) long (drop-append_seam head rest)
 
-pub long_enough : (list : List ℕ) (c : Contents) → Publishes list c → 44 ≤ length list
+pub long_enough : (list : List ℕ) (c : KrlContents) → Publishes list c → 44 ≤ length list
 long_enough list c is =
     let head = header_text (published_header c.head) in
     let rest = flat_map section_text (published_sections c.cas c.ids) in

@@ -2,7 +2,7 @@
 use Rattle.std.proofs.Common.{◌≡◌, ℕ, List, [], ◌∷◌, Option, None, Some, refl, sym, ap}
 use Rattle.std.proofs.Common.{subst, ◌∙◌, ◌≤◌, inl, inr, arith}
 use Rattle.std.specs.List.{AllByRecursion}
-use Rattle.krl.specs.Contents.{Contents, ForgetsNothing, IsPublished, Publishes, are_cas_among, list_of}
+use Rattle.krl.specs.Contents.{KrlContents, ForgetsNothing, IsPublished, Publishes, are_cas_among, list_of}
 use Rattle.krl.proofs.Booleans.{clash}
 use Rattle.krl.proofs.OneList.{one_list}
 use Rattle.list_guard.specs.declared.refusal.Refusal.{Refusal}
@@ -44,7 +44,7 @@ all_later a m [] between x h = tt
 all_later a m (b ∷ lists) between x h = (later_on a m b between x h.0, all_later a m lists between x h.1)
 
 -- a list that comes after the kept one is later
-next_later : (kept : List ℕ) (q : Question) (c d : Contents) → IsOfCas q c → ComesAfter q.list c kept d
+next_later : (kept : List ℕ) (q : Question) (c d : KrlContents) → IsOfCas q c → ComesAfter q.list c kept d
     → ComesLater kept q.list
 next_later kept q c d of comes x y p r =
     let base : IsLater kept q.list d c = record {
@@ -121,15 +121,15 @@ live (call ∷ calls) s t (u, comes, rest) =
 -- ---- versions that are accounted for
 
 -- an approved list is accounted for, if the kept one is
-next_accounted : (o : Option (List ℕ)) (q : Question) (c : Contents)
+next_accounted : (o : Option (List ℕ)) (q : Question) (c : KrlContents)
     → ((kept : List ℕ) → o ≡ Some kept → IsAccountedFor kept) → IsOfCas q c → IsNext o q c → IsAccountedFor q.list
 next_accounted None q c was of next x published =
-    subst (λ (y : Contents). y.head.version ≤ list_size (list_of y)) (one_list q.list c x of.published published) next.1
+    subst (λ (y : KrlContents). y.head.version ≤ list_size (list_of y)) (one_list q.list c x of.published published) next.1
 next_accounted (Some kept) q c was of (d, comes) x published =
     let before = was kept refl d comes.published in
     let grown = comes.accounted in
     let now : c.head.version ≤ list_size (list_of c) = omega arith in
-    subst (λ (y : Contents). y.head.version ≤ list_size (list_of y)) (one_list q.list c x of.published published) now
+    subst (λ (y : KrlContents). y.head.version ≤ list_size (list_of y)) (one_list q.list c x of.published published) now
 
 pub accounted : (qs : List Question) (s : State) (lists : List (List ℕ)) (t : State) → Approves s qs lists t
     → ((kept : List ℕ) → s.last ≡ Some kept → IsAccountedFor kept) → AllByRecursion IsAccountedFor lists
@@ -146,7 +146,7 @@ accounted (q ∷ qs) s lists t (inr left) was = accounted qs s lists t left.1 wa
 -- ---- one question
 
 -- a list comes after itself
-pub after_itself : (list : List ℕ) (c : Contents) → Publishes list c → ComesAfter list c list c
+pub after_itself : (list : List ℕ) (c : KrlContents) → Publishes list c → ComesAfter list c list c
 after_itself list c published = record {
   published = published;
   version = omega arith;
@@ -159,7 +159,7 @@ pub again : (s : State) (q : Question) → IsApproved s q → IsApproved (with_l
 again s q (c, of, next) = (c, of, (c, after_itself q.list c of.published))
 
 -- a list that comes after the kept one isn't refused
-not_after : (q : Question) (o : Option (List ℕ)) (c : Contents) → IsNext o q c
+not_after : (q : Question) (o : Option (List ℕ)) (c : KrlContents) → IsNext o q c
     → (IsNotNext OlderVersion o q c → ⊥) × (IsNotNext OtherBytes o q c → ⊥) × (IsNotNext Forgets o q c → ⊥)
     × (IsNotNext NotBegun o q c → ⊥) × (IsNotNext VersionJumps o q c → ⊥)
 not_after q None c next = (
@@ -171,25 +171,25 @@ not_after q None c next = (
 )
 not_after q (Some kept) c (d, comes) = (
   λ h.
-      let same = ap (λ (x : Contents). x.head.version) (old h.0 h.1) in
+      let same = ap (λ (x : KrlContents). x.head.version) (old h.0 h.1) in
       let up = comes.version in
       let down = h.2 in
       omega arith,
   λ h.
       let same = old h.0 h.1 in
-      h.2.1 (comes.bytes (ap (λ (x : Contents). x.head.version) same ∙ sym h.2.0)),
+      h.2.1 (comes.bytes (ap (λ (x : KrlContents). x.head.version) same ∙ sym h.2.0)),
   λ h. h.2.1 (subst (λ x. ForgetsNothing (list_of x) (list_of c)) (old h.0 h.1) comes.kept_revoked),
   λ h. h.2,
   λ h.
       let same = old h.0 h.1 in
-      let version = ap (λ (x : Contents). x.head.version) same in
-      let size = ap (λ (x : Contents). list_size (list_of x)) same in
+      let version = ap (λ (x : KrlContents). x.head.version) same in
+      let size = ap (λ (x : KrlContents). list_size (list_of x)) same in
       let up = comes.accounted in
       let down = h.2.2 in
       omega arith,
 )
   where
-    old : (x : Contents) → Publishes kept x → d ≡ x
+    old : (x : KrlContents) → Publishes kept x → d ≡ x
     old x p = one_list kept d x comes.published p
 
 pub not_refused : (s : State) (q : Question) (r : Refusal) → IsApproved s q → IsRefused r s q → ⊥
@@ -211,7 +211,7 @@ not_refused s q VersionJumps (c, of, next) (x, is, h) =
 -- ---- verdicts
 
 -- a verdict relative to the kept list is a verdict on the question
-pub decided_after : (v : Verdict) (s : State) (q : Question) (c : Contents) (kept : List ℕ) (d : Contents) → IsOfCas q c
+pub decided_after : (v : Verdict) (s : State) (q : Question) (c : KrlContents) (kept : List ℕ) (d : KrlContents) → IsOfCas q c
     → s.last ≡ Some kept → Publishes kept d → DecidedAfter v q.list c kept d → Decided v s q
 decided_after (verdict.Approve version) s q c kept d of is published h =
     (c, of, subst (λ o. IsNext o q c) (sym is) (d, h.0), h.1)

@@ -1,7 +1,7 @@
 -- Sequences of questions, and properties of the lists that were approved.
 use Rattle.std.specs.Prelude.{◌≡◌, ◌≤◌, ◌⊎◌, ℕ, List, [], ◌∷◌, Option, Some, None}
 use Rattle.std.specs.List.{AllByRecursion}
-use Rattle.krl.specs.Contents.{Contents, ForgetsNothing, Publishes, list_of}
+use Rattle.krl.specs.Contents.{KrlContents, ForgetsNothing, Publishes, list_of}
 use Rattle.list_guard.specs.Machine.{State, Question, IsApproved, with_last}
 use Rattle.list_guard.specs.Sizes.{list_size}
 
@@ -13,13 +13,13 @@ Approves s (q ∷ qs) lists t =
     ⊎ ((IsApproved s q → ⊥) × Approves s qs lists t)
 
 -- a later list: its version is no lower, its bytes are the same if its version is, and it revokes no less
-pub record IsLater (a b : List ℕ) (c d : Contents) : Type 0 where
+pub record IsLater (a b : List ℕ) (c d : KrlContents) : Type 0 where
   pub version : c.head.version ≤ d.head.version
   pub same : c.head.version ≡ d.head.version → a ≡ b
   pub kept_revoked : ForgetsNothing (list_of c) (list_of d)
 
 abbrev pub ComesLater : List ℕ → List ℕ → Type 0
-ComesLater a b = (c d : Contents) → Publishes a c → Publishes b d → IsLater a b c d
+ComesLater a b = (c d : KrlContents) → Publishes a c → Publishes b d → IsLater a b c d
 
 -- each list is later than each of those before it
 abbrev pub Grow : List (List ℕ) → Type 0
@@ -28,7 +28,7 @@ Grow (a ∷ lists) = AllByRecursion (ComesLater a) lists × Grow lists
 
 -- the version of a list is no higher than its size
 abbrev pub IsAccountedFor : List ℕ → Type 0
-IsAccountedFor list = (c : Contents) → Publishes list c → c.head.version ≤ list_size (list_of c)
+IsAccountedFor list = (c : KrlContents) → Publishes list c → c.head.version ≤ list_size (list_of c)
 
 -- ---- calls that fail, and crashes
 

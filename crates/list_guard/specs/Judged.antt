@@ -1,7 +1,7 @@
 -- The answer to a list, over any register.
 use Rattle.std.specs.Prelude.{◌≡◌, ◌≤◌, ℕ, List, Bool, Some, length}
 use Rattle.lines.specs.Digests.{digest_text}
-use Rattle.krl.specs.Contents.{Contents, IsPublished}
+use Rattle.krl.specs.Contents.{KrlContents, IsPublished}
 use Rattle.list_guard.specs.declared.judging.Answer.{Answer}
 use Rattle.list_guard.specs.declared.judging.Answer.TheVariants as answer
 use Rattle.list_guard.specs.declared.verdict.Verdict.{Verdict}
@@ -15,7 +15,7 @@ question cas begins list = record { cas = cas; begins = begins; list = list }
 
 -- the list is approved and has this version
 abbrev pub IsApprovedAs : ℕ → State → Question → Type 0
-IsApprovedAs version s q = (c : Contents) × IsOfCas q c × IsNext s.last q c × (version ≡ c.head.version)
+IsApprovedAs version s q = (c : KrlContents) × IsOfCas q c × IsNext s.last q c × (version ≡ c.head.version)
 
 -- the verdict is the reference model's, and says whether the list is already the kept one
 abbrev pub Decided : Verdict → State → Question → Type 0
@@ -24,7 +24,7 @@ Decided (verdict.Again version) s q = IsApprovedAs version s q × (s.last ≡ So
 Decided (verdict.Refuse r) s q = IsRefused r s q
 
 -- the verdict on a list that may come after the kept one, and has different bytes
-abbrev pub DecidedAfter : Verdict → List ℕ → Contents → List ℕ → Contents → Type 0
+abbrev pub DecidedAfter : Verdict → List ℕ → KrlContents → List ℕ → KrlContents → Type 0
 DecidedAfter (verdict.Approve version) list c kept d = ComesAfter list c kept d × (version ≡ c.head.version)
 DecidedAfter (verdict.Again version) list c kept d = ⊥
 DecidedAfter (verdict.Refuse r) list c kept d = IsRefusedAfter r list c kept d

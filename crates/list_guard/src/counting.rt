@@ -4,7 +4,7 @@ ghost use Rattle.std.specs.Prelude.{◌≡◌, ◌+◌, ◌-◌, ◌*◌, ◌^�
 ghost use Rattle.std.specs.Option.{option_map};
 ghost use Rattle.std.specs.List.{flat_map, AllByRecursion};
 ghost use Rattle.wire.specs.Texts.{string_text};
-ghost use Rattle.krl.specs.Contents.{Contents, Publishes, list_of};
+ghost use Rattle.krl.specs.Contents.{KrlContents, Publishes, list_of};
 ghost use Rattle.krl.specs.Format.{IsPart, IsSection, IsString, Part, Section, part_data, part_text, part_type};
 ghost use Rattle.krl.specs.Format.{section_data, section_text, section_type, tagged_text};
 ghost use Rattle.krl.specs.declared.run.Run.{Run};
@@ -137,7 +137,7 @@ fn sections_size(sections: &[u8]) -> u128
 
 /// The number of sections of a published list, plus the number of serials and key IDs in each.
 pub(crate) fn list_size(list: &[u8]) -> u128
-    ensures size { (c : Contents) → Publishes list.now c → result ≡ list_size (list_of c) }
+    ensures size { (c : KrlContents) → Publishes list.now c → result ≡ list_size (list_of c) }
     ensures bound { result ≤ 2 ^ 64 * length list.now }
 {
     if list.len() < HEADER_LEN {

@@ -2,7 +2,7 @@
 
 ghost use Rattle.std.specs.Prelude.{◌≡◌, ◌≢◌, ◌⊎◌, ◌+◌, nat_lt, IfErr, IfOk, IfSome, IsOk, IsSome, None, OnErr, OnOk};
 ghost use Rattle.std.specs.Prelude.{option_copied};
-ghost use Rattle.krl.specs.Contents.{Contents, Publishes, list_of};
+ghost use Rattle.krl.specs.Contents.{KrlContents, Publishes, list_of};
 ghost use Rattle.list_guard.specs.Machine.{IsApproved, IsLawful, IsOfCas, Question, State, with_last};
 ghost use Rattle.list_guard.specs.Sizes.{list_size};
 ghost use Rattle.list_guard.specs.Judged.{Answers, Decided, DecidedAfter, HasCause, IsShort, left_by};
@@ -31,7 +31,7 @@ pub enum Answer {
 
 /// Whether the version has grown by more than the list has, since the kept list, whose version is `before`.
 fn jumps(version: u64, list: &[u8], before: u64, kept: &[u8]) -> bool
-    ensures { (c d : Contents) → Publishes list.now c → Publishes kept.now d → version ≡ c.head.version
+    ensures { (c d : KrlContents) → Publishes list.now c → Publishes kept.now d → version ≡ c.head.version
         → before ≡ d.head.version
         → result ≡ nat_lt (d.head.version + list_size (list_of c)) (c.head.version + list_size (list_of d)) }
 {
@@ -40,7 +40,7 @@ fn jumps(version: u64, list: &[u8], before: u64, kept: &[u8]) -> bool
 
 /// Whether the version of a list is higher than its size.
 fn jumps_first(version: u64, list: &[u8]) -> bool
-    ensures { (c : Contents) → Publishes list.now c → version ≡ c.head.version
+    ensures { (c : KrlContents) → Publishes list.now c → version ≡ c.head.version
         → result ≡ nat_lt (list_size (list_of c)) c.head.version }
 {
     list_size(list) < version as u128
@@ -48,7 +48,7 @@ fn jumps_first(version: u64, list: &[u8]) -> bool
 
 /// The verdict on a list if none has been approved yet.
 fn first_verdict(new: &PublishedList<'_>, list: &[u8], begins: bool) -> Verdict
-    ensures { (c : Contents) (s : State) (q : Question) → Publishes new.now c → list.now ≡ new.now → s.last ≡ None
+    ensures { (c : KrlContents) (s : State) (q : Question) → Publishes new.now c → list.now ≡ new.now → s.last ≡ None
         → q.begins ≡ begins → IsOfCas q c → Decided result s q }
 {
     let version = new.head().version;
@@ -69,7 +69,7 @@ fn verdict_after(
     old: &PublishedList<'_>,
     kept: &[u8],
 ) -> Verdict
-    ensures { (c d : Contents) → Publishes new.now c → Publishes old.now d → list.now ≡ new.now → kept.now ≡ old.now
+    ensures { (c d : KrlContents) → Publishes new.now c → Publishes old.now d → list.now ≡ new.now → kept.now ≡ old.now
         → new.now ≢ old.now → DecidedAfter result new.now c old.now d }
 {
     let version = new.head().version;

@@ -2,7 +2,7 @@
 use Rattle.std.proofs.Common.{◌≡◌, ℕ, suc, ◌+◌, ◌<◌, ◌≤◌, ◌^◌, List, [], ◌∷◌, ◌++◌, ◌⊎◌, length, Option, Some, None}
 use Rattle.std.proofs.Common.{refl, sym, ap, ap₂, subst, ◌∙◌, inl, inr, arith, MatchOption}
 use Rattle.std.specs.List.{AllByRecursion}
-use Rattle.krl.specs.Contents.{Contents, Publishes, list_of}
+use Rattle.krl.specs.Contents.{KrlContents, Publishes, list_of}
 use Rattle.krl.specs.Format.{IsCut, RevocationList}
 use Rattle.krl.specs.Published.{AreOnly}
 use Rattle.krl.specs.Sets.{AreRuns}
@@ -53,7 +53,7 @@ only_list o l is low fit =
     (parts_runs s 0 s.cas (serials_fit o l is)) fit
 
 -- contents that bytes publish are the only list that the bytes can be
-same_list : (bytes : List ℕ) (c : Contents) (r : RevocationList) → AreOnly bytes r → Publishes bytes c → list_of c ≡ r
+same_list : (bytes : List ℕ) (c : KrlContents) (r : RevocationList) → AreOnly bytes r → Publishes bytes c → list_of c ≡ r
 same_list bytes c r only is =
     let cut : IsCut bytes (list_of c) = record {
       header = (is.lawful.version, is.lawful.date, omega arith, omega arith);
@@ -63,11 +63,11 @@ same_list bytes c r only is =
     only.one (list_of c) cut
 
 -- its version and its size are the office's
-record IsOf (s : Office) (c : Contents) : Type 0 where
+record IsOf (s : Office) (c : KrlContents) : Type 0 where
   version : c.head.version ≡ s.version
   size : list_size (list_of c) ≡ office_size s
 
-is_of : (s : Office) (list : List ℕ) (c : Contents) → list ≡ published_list s
+is_of : (s : Office) (list : List ℕ) (c : KrlContents) → list ≡ published_list s
     → AreOnly (published_list s) (office_list s) → Publishes list c → IsOf s c
 is_of s list c bytes only is =
     let now = subst (λ (b : List ℕ). AreOnly b (office_list s)) (sym bytes) only in
@@ -83,7 +83,7 @@ module _ (o : Opening) (l : List Arrival) (office : IsOffice o l) where
       let up = (pays_since o before since).version in
       omega (arith, low, up)
 
-  of_office : (list : List ℕ) (is : IsPublishedIn o l list) (c : Contents) → Publishes list c
+  of_office : (list : List ℕ) (is : IsPublishedIn o l list) (c : KrlContents) → Publishes list c
       → IsOf (state o is.before) c
   of_office list is c published =
       is_of (state o is.before) list c is.bytes (only_list o is.before office.opening
@@ -116,7 +116,7 @@ pays_then o l m (more, is) = subst (λ (x : List Arrival). Pays (state o l) (sta
 -- ---- one question
 
 -- the list's version is no higher than its size
-jumps_first : (o : Opening) (l : List Arrival) (c : Contents) → IsOf (state o l) c
+jumps_first : (o : Opening) (l : List Arrival) (c : KrlContents) → IsOf (state o l) c
     → list_size (list_of c) < c.head.version → ⊥
 jumps_first o l c is jumps =
     let paid = version_is_paid o l in
@@ -125,7 +125,7 @@ jumps_first o l c is jumps =
     omega (arith, paid, version, size, jumps)
 
 -- of two lists the later one's version has grown by no more than its size
-jumps_after : (o : Opening) (l m : List Arrival) (c d : Contents) → IsOf (state o m) c → IsOf (state o l) d
+jumps_after : (o : Opening) (l m : List Arrival) (c d : KrlContents) → IsOf (state o m) c → IsOf (state o l) d
     → Continues l m ⊎ Continues m l → d.head.version < c.head.version
     → d.head.version + list_size (list_of c) < c.head.version + list_size (list_of d) → ⊥
 jumps_after o l m c d new old (inl later) up jumps =

@@ -1,7 +1,7 @@
 -- The lists that an office publishes over a history, and a list guard that keeps one of them.
 use Rattle.std.specs.Prelude.{◌≡◌, ◌++◌, ℕ, List, [], ◌∷◌, MatchOption, true}
 use Rattle.krl.specs.Format.{RevocationList}
-use Rattle.krl.specs.Published.{fits, published_list as krl_list}
+use Rattle.krl.specs.Published.{fits, composed_list as krl_list}
 use Rattle.office.specs.declared.arrival.Arrival.{Arrival}
 use Rattle.office.specs.declared.opening.Opening.{Opening}
 use Rattle.office.specs.History.{state}

@@ -4,7 +4,7 @@ use Rattle.std.specs.Io.KnownBytes.{Appends}
 use Rattle.std.specs.List.{AllByRecursion}
 use Rattle.sqlite_wal.specs.Recovery.{Image}
 use Rattle.lines.specs.Digests.{digest_text}
-use Rattle.krl.specs.Contents.{Contents, Publishes}
+use Rattle.krl.specs.Contents.{KrlContents, Publishes}
 use Rattle.list_guard.specs.declared.refusal.Refusal.{Refusal}
 use Rattle.list_guard.specs.History.{Call, ComesLater, Grow, Lives, stated}
 use Rattle.list_guard.specs.Refusals.{refusal_name}
@@ -32,7 +32,7 @@ pub record Run : Type 0 where
 -- fault the line may be cut off, or missing.
 abbrev pub IsTold : Option (List ℕ) → (held holds : Option (List ℕ)) → Type 0
 IsTold (Some list) held holds =
-    (c : Contents) × Publishes list c × (moment : ℕ) × (count : ℕ)
+    (c : KrlContents) × Publishes list c × (moment : ℕ) × (count : ℕ)
     × Appends held holds (take count (statement_line (digest_text list) c.head.version moment))
 IsTold None held holds = (r : Refusal) × (count : ℕ) × Appends held holds (take count (refused_line (refusal_name r)))
 

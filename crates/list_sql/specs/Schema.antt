@@ -4,11 +4,11 @@ use Rattle.sqlite.specs.Kind.TheVariants.{Integer, Blob}
 use Rattle.sqlite.specs.Table.{Table}
 use Rattle.sqlite.specs.Schema.{Schema}
 use Rattle.sqlite.specs.Change.{created}
-use Rattle.store_sql.specs.Schema.{by_number, no_schema, optional, required}
+use Rattle.store_sql.specs.Schema.{by_number, no_schema, optional_column, required_column}
 
 abbrev pub list : Table
 list = by_number (codes "list") (
-    optional (codes "id") Integer ∷ required (codes "schema") Integer ∷ required (codes "bytes") Blob ∷ [])
+    optional_column (codes "id") Integer ∷ required_column (codes "schema") Integer ∷ required_column (codes "bytes") Blob ∷ [])
 
 -- the schema with this table only
 abbrev pub whole : Schema

@@ -12,14 +12,14 @@ use Rattle.office.specs.Decided.{written}
 use Rattle.office.specs.History.{First, judged, change, kept_row, reply_kept, due}
 use Rattle.office.specs.Shows.{Shows}
 use Rattle.office.proofs.Steps.{shows_accepted}
-use Rattle.memory_store.specs.Contents.{Contents, state_of, row_of, Writes}
+use Rattle.memory_store.specs.Contents.{MemoryContents, state_of, row_of, WritesDecision}
 
 -- a decision that was written is the specified outcome
-pub accepted : (t new : Contents) (o : Opening) (l : List Arrival) (a : Arrival) (d : Decision) (j : Result First Refusal)
+pub accepted : (t new : MemoryContents) (o : Opening) (l : List Arrival) (a : Arrival) (d : Decision) (j : Result First Refusal)
     → reply_kept t.kept a ≡ None → judged (state_of t) t.kept a ≡ j
     → d.version < 9223372036854775807
     → IsOkAnd j (λ f. (f.arrival ≡ a) × (f.reply ≡ d.reply) × (written d (state_of t) ≡ change (state_of t) f))
-    → Writes t a d new → Shows (state_of t) t.kept o l
+    → WritesDecision t a d new → Shows (state_of t) t.kept o l
     → (outcome.Accepted d.reply ≡ due o l a) × Shows (state_of new) new.kept o (l ++ a ∷ [])
 accepted t new o l a d (Err x) first e small found w m = absurd found
 accepted t new o l a d (Ok f) first e small found w m =

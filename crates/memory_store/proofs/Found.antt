@@ -11,10 +11,10 @@ use Rattle.std.proofs.lemmas.Cmp.{nat_list_eq_equiv}
 use Rattle.std.proofs.lemmas.Map.Text.{is_eq-slice_cmp}
 use Rattle.message.specs.declared.department.Department.{Department}
 use Rattle.message.specs.Values.{is_department}
-use Rattle.memory_store.specs.Departments.{entries, has_name}
+use Rattle.memory_store.specs.Departments.{entries, has_department_name}
 
 -- the department with a name is found among the entries
-pub find-entries : (name : List ℕ) (ds : List Department) → entry.find (slice_cmp nat_cmp) name (entries ds) ≡ find (λ d. has_name d name) ds
+pub find-entries : (name : List ℕ) (ds : List Department) → entry.find (slice_cmp nat_cmp) name (entries ds) ≡ find (λ d. has_department_name d name) ds
 find-entries name [] = refl
 find-entries name (d ∷ ds) =
     let here : is_eq (slice_cmp nat_cmp name d.name) ≡ bytes_eq d.name name = is_eq-slice_cmp name d.name ∙ nat_list_eq_equiv.symm name d.name in

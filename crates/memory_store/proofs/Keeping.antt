@@ -17,7 +17,7 @@ use Rattle.office.specs.Machine.{signed_at, certificate_of}
 use Rattle.memory_store.specs.Departments.{entries}
 use Rattle.office.specs.Parts.{numbers}
 use Rattle.office.proofs.Growth.{length-signed_at}
-use Rattle.memory_store.specs.Contents.{Contents, AreKept, state_of}
+use Rattle.memory_store.specs.Contents.{MemoryContents, AreKept, state_of}
 use Rattle.memory_store.proofs.Places.{all_after_put}
 
 -- an element that exists has a property that all have
@@ -27,7 +27,7 @@ all_get P (x ∷ xs) zero all = All-head P x xs all
 all_get P (x ∷ xs) (suc k) all = all_get P xs k (All-tail P x xs all)
 
 -- the certificate of a serial is valid
-pub issued_lawful : (t : Contents) (serial : ℕ) → AreKept t → IfSome (certificate_of (state_of t) serial) IsCertificate
+pub issued_lawful : (t : MemoryContents) (serial : ℕ) → AreKept t → IfSome (certificate_of (state_of t) serial) IsCertificate
 issued_lawful t serial k =
     elim (nat_lt serial t.opening.first) as (λ b. IfSome (cond b None (slice_get t.certificates (serial - t.opening.first))) IsCertificate) [
       | true ↦ tt
@@ -36,7 +36,7 @@ issued_lawful t serial k =
 
 -- ---- departments
 
-pub with_department : (t : Contents) (d : Department) (ds : List Department) → AreKept t → is_department d ≡ true
+pub with_department : (t : MemoryContents) (d : Department) (ds : List Department) → AreKept t → is_department d ≡ true
     → entries ds ≡ put (slice_cmp nat_cmp) d.name d (entries t.departments) → AreKept (record t { departments = ds })
 with_department t d ds k lawful is = record {
   opening = k.opening;
@@ -52,7 +52,7 @@ with_department t d ds k lawful is = record {
 later : (n a b : ℕ) → a ≤ b → n ≤ a → n ≤ b
 later n a b up le = omega (arith, up, le)
 
-pub with_certificate : (t : Contents) (c : Certificate) → AreKept t → IsCertificate c → t.opening.first + length t.certificates ≤ t.opening.last
+pub with_certificate : (t : MemoryContents) (c : Certificate) → AreKept t → IsCertificate c → t.opening.first + length t.certificates ≤ t.opening.last
     → AreKept (record t { certificates = t.certificates ++ c ∷ [] })
 with_certificate t c k lawful room =
     let longer : length (t.certificates ++ c ∷ []) ≡ length t.certificates + 1 = length-append t.certificates (c ∷ []) in
@@ -72,7 +72,7 @@ signed_lawful (c ∷ cs) zero (suc i) s all d there = All-tail IsCertificate c c
 signed_lawful (c ∷ cs) (suc place) zero s all d there = All-head IsCertificate c cs all
 signed_lawful (c ∷ cs) (suc place) (suc i) s all d there = signed_lawful cs place i s (All-tail IsCertificate c cs all) d (omega (arith, there))
 
-pub with_signature : (t : Contents) (place : ℕ) (s : Signature) → AreKept t → AreKept (record t { certificates = signed_at t.certificates place s })
+pub with_signature : (t : MemoryContents) (place : ℕ) (s : Signature) → AreKept t → AreKept (record t { certificates = signed_at t.certificates place s })
 with_signature t place s k =
     let same = length-signed_at t.certificates place s in
     record {
@@ -86,7 +86,7 @@ with_signature t place s k =
 
 -- ---- CAs
 
-pub with_ca : (t : Contents) (ca : Ca) → AreKept t → ca.since ≡ t.opening.first + length t.certificates → AreKept (record t { cas = t.cas ++ ca ∷ [] })
+pub with_ca : (t : MemoryContents) (ca : Ca) → AreKept t → ca.since ≡ t.opening.first + length t.certificates → AreKept (record t { cas = t.cas ++ ca ∷ [] })
 with_ca t ca k next =
     let longer : numbers (t.cas ++ ca ∷ []) ≡ numbers t.cas ++ ca.since ∷ [] = map-append (λ (x : Ca). x.since) t.cas (ca ∷ []) in
     let last : ca.since ≤ t.opening.first + length t.certificates = omega (arith, next) in

@@ -10,10 +10,10 @@ use Rattle.office.specs.History.{state}
 use Rattle.office.specs.Shows.{Shows}
 use Rattle.office.proofs.Parts.{AreIssued, parts_are_published}
 use Rattle.office.proofs.Ranges.{revoked_is_issued}
-use Rattle.memory_store.specs.Contents.{Contents, state_of}
+use Rattle.memory_store.specs.Contents.{MemoryContents, state_of}
 
 -- the published list that the lists give is that of the history
-pub shown : (t : Contents) (kept : List Kept) (o : Opening) (l : List Arrival) (r : Revoked) → r.head ≡ head_of (state_of t)
+pub shown : (t : MemoryContents) (kept : List Kept) (o : Opening) (l : List Arrival) (r : Revoked) → r.head ≡ head_of (state_of t)
     → AreParts r.parts.items t.cas t.runs → r.key_ids ≡ t.key_ids → Shows (state_of t) kept o l → AreRevoked r (state o l)
 shown t kept o l r head parts key_ids m = subst (AreRevoked r) m.is_state (record {
   head = head;

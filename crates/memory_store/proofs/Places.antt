@@ -14,7 +14,7 @@ use Rattle.std.proofs.lemmas.Bool.{and_parts, and_from}
 use Rattle.std.proofs.lemmas.Cmp.{nat_list_eq_equiv}
 use Rattle.std.proofs.lemmas.Slice.Eq.{bytes_eq-Decides}
 use Rattle.message.specs.declared.department.Department.{Department}
-use Rattle.memory_store.specs.Departments.{entry, entries, is_before, place_of, is_named}
+use Rattle.memory_store.specs.Departments.{entry, entries, is_before, place_of, is_department_named}
 
 place-cons : (d : Department) (ds : List Department) (name : List ℕ) → place_of (d ∷ ds) name ≡ cond (is_before d name) (suc (place_of ds name)) 0
 place-cons d ds name =
@@ -29,13 +29,13 @@ same_bytes : (xs ys : List ℕ) → bytes_eq xs ys ≡ true → xs ≡ ys
 same_bytes xs ys e = (bytes_eq-Decides xs ys).0 e
 
 -- if the department at the place has the name, it is replaced
-pub put_replaced : (v : Department) (ds : List Department) → is_named (slice_get ds (place_of ds v.name)) v.name ≡ true
+pub put_replaced : (v : Department) (ds : List Department) → is_department_named (slice_get ds (place_of ds v.name)) v.name ≡ true
     → entries (slice_set ds (place_of ds v.name) v) ≡ put (slice_cmp nat_cmp) v.name v (entries ds)
 put_replaced v [] is = absurd cc
 put_replaced v (d ∷ ds) is = by_case (slice_cmp nat_cmp v.name d.name) (put_replaced v ds) refl
   where
     by_case : (o : Ordering)
-        → (is_named (slice_get ds (place_of ds v.name)) v.name ≡ true → entries (slice_set ds (place_of ds v.name) v) ≡ put (slice_cmp nat_cmp) v.name v (entries ds))
+        → (is_department_named (slice_get ds (place_of ds v.name)) v.name ≡ true → entries (slice_set ds (place_of ds v.name) v) ≡ put (slice_cmp nat_cmp) v.name v (entries ds))
         → slice_cmp nat_cmp v.name d.name ≡ o → entries (slice_set (d ∷ ds) (place_of (d ∷ ds) v.name) v) ≡ put (slice_cmp nat_cmp) v.name v (entries (d ∷ ds))
     by_case Less rest e =
         let zero : place_of (d ∷ ds) v.name ≡ 0 = place-cons d ds v.name ∙ ap (λ (o : Ordering). cond (is_gt o) (suc (place_of ds v.name)) 0) e in
@@ -50,13 +50,13 @@ put_replaced v (d ∷ ds) is = by_case (slice_cmp nat_cmp v.name d.name) (put_re
         rw (more, e) (ap (λ (es : List (List ℕ × Department)). entry d ∷ es) (rest (rw more at is)))
 
 -- if it doesn't, the new one is inserted before it
-pub put_inserted : (v : Department) (ds : List Department) → is_named (slice_get ds (place_of ds v.name)) v.name ≡ false
+pub put_inserted : (v : Department) (ds : List Department) → is_department_named (slice_get ds (place_of ds v.name)) v.name ≡ false
     → entries (insert ds (place_of ds v.name) v) ≡ put (slice_cmp nat_cmp) v.name v (entries ds)
 put_inserted v [] is = refl
 put_inserted v (d ∷ ds) is = by_case (slice_cmp nat_cmp v.name d.name) (put_inserted v ds) refl
   where
     by_case : (o : Ordering)
-        → (is_named (slice_get ds (place_of ds v.name)) v.name ≡ false → entries (insert ds (place_of ds v.name) v) ≡ put (slice_cmp nat_cmp) v.name v (entries ds))
+        → (is_department_named (slice_get ds (place_of ds v.name)) v.name ≡ false → entries (insert ds (place_of ds v.name) v) ≡ put (slice_cmp nat_cmp) v.name v (entries ds))
         → slice_cmp nat_cmp v.name d.name ≡ o → entries (insert (d ∷ ds) (place_of (d ∷ ds) v.name) v) ≡ put (slice_cmp nat_cmp) v.name v (entries (d ∷ ds))
     by_case Less rest e =
         let zero : place_of (d ∷ ds) v.name ≡ 0 = place-cons d ds v.name ∙ ap (λ (o : Ordering). cond (is_gt o) (suc (place_of ds v.name)) 0) e in

@@ -13,27 +13,27 @@ use Rattle.office.specs.Messages.{message_with_text}
 use Rattle.office.specs.Machine.{Stepped, first_holding, refusals, after, reply_to}
 use Rattle.office.specs.History.{has_key, judged}
 use Rattle.office.specs.Decided.{Decided, stepped_by}
-use Rattle.memory_store.specs.Contents.{Contents, state_of, Judges}
+use Rattle.memory_store.specs.Contents.{MemoryContents, state_of, JudgesArrival}
 use Rattle.office.proofs.Judged.{step_gives}
 
 -- ---- the message
 
 -- ---- the verdict
 
-pub bad_message : (t : Contents) (a : Arrival) → message_with_text a.bytes ≡ None → judged (state_of t) t.kept a ≡ Err BadMessage
+pub bad_message : (t : MemoryContents) (a : Arrival) → message_with_text a.bytes ≡ None → judged (state_of t) t.kept a ≡ Err BadMessage
 bad_message t a is = rw is refl
 
-pub bad_moment : (t : Contents) (a : Arrival) (m : Message) → message_with_text a.bytes ≡ Some m → nat_lt LATEST_MOMENT a.moment ≡ true → judged (state_of t) t.kept a ≡ Err BadMoment
+pub bad_moment : (t : MemoryContents) (a : Arrival) (m : Message) → message_with_text a.bytes ≡ Some m → nat_lt LATEST_MOMENT a.moment ≡ true → judged (state_of t) t.kept a ≡ Err BadMoment
 bad_moment t a m is late = rw (is, late) refl
 
-pub key_reused : (t : Contents) (a : Arrival) (m : Message) → message_with_text a.bytes ≡ Some m → nat_lt LATEST_MOMENT a.moment ≡ false → list_any (has_key a) t.kept ≡ true
+pub key_reused : (t : MemoryContents) (a : Arrival) (m : Message) → message_with_text a.bytes ≡ Some m → nat_lt LATEST_MOMENT a.moment ≡ false → list_any (has_key a) t.kept ≡ true
     → judged (state_of t) t.kept a ≡ Err KeyReused
 key_reused t a m is in_time known = rw (is, in_time, known) refl
 
 -- a decision on a new arrival
-pub judges_by_decide : (r : Result Decision Stop) (t : Contents) (a : Arrival) (m : Message)
+pub judges_by_decide : (r : Result Decision Stop) (t : MemoryContents) (a : Arrival) (m : Message)
     → message_with_text a.bytes ≡ Some m → nat_lt LATEST_MOMENT a.moment ≡ false → list_any (has_key a) t.kept ≡ false
-    → Decided r (state_of t) a.caller m a.moment a.nonce → Judges r t a
+    → Decided r (state_of t) a.caller m a.moment a.nonce → JudgesArrival r t a
 judges_by_decide (Ok d) t a m is in_time new decided =
     let s = state_of t in
     let stepped : Stepped = record { state = after s m a.moment a.nonce; reply = reply_to s m a.moment a.nonce } in

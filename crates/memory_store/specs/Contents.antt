@@ -22,7 +22,7 @@ use Rattle.office.specs.Decided.{written}
 use Rattle.office.specs.History.{judged, change}
 use Rattle.memory_store.specs.Departments.{entries}
 
-pub record Contents : Type 0 where
+pub record MemoryContents : Type 0 where
   pub opening : Opening
   -- by number
   pub cas : List Ca
@@ -40,7 +40,7 @@ pub record Contents : Type 0 where
   pub date : ℕ
 
 -- the state of the reference model
-abbrev pub state_of : Contents → State
+abbrev pub state_of : MemoryContents → State
 state_of t = record {
   opening = t.opening;
   cas = t.cas;
@@ -56,19 +56,19 @@ abbrev pub row_of : Arrival → List ℕ → Kept
 row_of a reply = record { caller = a.caller; key = a.key; bytes = a.bytes; reply = reply }
 
 -- what is decided about an arrival that isn't a repeat
-abbrev pub Judges : Result Decision Stop → Contents → Arrival → Type 0
-Judges (Ok d) t a = IsOkAnd (judged (state_of t) t.kept a) (λ f. (f.arrival ≡ a) × (f.reply ≡ d.reply)
+abbrev pub JudgesArrival : Result Decision Stop → MemoryContents → Arrival → Type 0
+JudgesArrival (Ok d) t a = IsOkAnd (judged (state_of t) t.kept a) (λ f. (f.arrival ≡ a) × (f.reply ≡ d.reply)
     × (written d (state_of t) ≡ change (state_of t) f))
-Judges (Err (stop.Refused r)) t a = judged (state_of t) t.kept a ≡ Err r
-Judges (Err stop.NoMemory) t a = Unit {0}
+JudgesArrival (Err (stop.Refused r)) t a = judged (state_of t) t.kept a ≡ Err r
+JudgesArrival (Err stop.NoMemory) t a = Unit {0}
 
 -- the contents after a decision was written, with a row for the arrival
-pub record Writes (old : Contents) (a : Arrival) (d : Decision) (new : Contents) : Type 0 where
+pub record WritesDecision (old : MemoryContents) (a : Arrival) (d : Decision) (new : MemoryContents) : Type 0 where
   pub kept : new.kept ≡ old.kept ++ row_of a d.reply ∷ []
   pub state : state_of new ≡ written d (state_of old)
 
 -- the invariants: valid configuration and rows, serials in range, CAs in order, none starting after the next serial
-pub record AreKept (t : Contents) : Type 0 where
+pub record AreKept (t : MemoryContents) : Type 0 where
   pub opening : IsOpening t.opening
   pub serials : t.opening.first + length t.certificates ≤ t.opening.last + 1
   pub departments : IsTrue (list_all is_department t.departments)

@@ -21,9 +21,9 @@ abbrev pub place_of : List Department → List ℕ → ℕ
 place_of ds name = length (take_while (λ d. is_before d name) ds)
 
 -- the department has this name
-abbrev pub has_name : Department → List ℕ → Bool
-has_name d name = bytes_eq d.name name
+abbrev pub has_department_name : Department → List ℕ → Bool
+has_department_name d name = bytes_eq d.name name
 
-abbrev pub is_named : Option Department → List ℕ → Bool
-is_named (Some d) name = bytes_eq d.name name
-is_named None name = false
+abbrev pub is_department_named : Option Department → List ℕ → Bool
+is_department_named (Some d) name = bytes_eq d.name name
+is_department_named None name = false

@@ -7,7 +7,8 @@ ghost use Rattle.std.specs.List.{slice_get};
 ghost use Rattle.std.specs.FinMap.Entries.{put};
 ghost use Rattle.std.specs.Cmp.Lexicographic.{slice_cmp};
 ghost use Rattle.std.specs.Ordering.{nat_cmp};
-ghost use Rattle.memory_store.specs.Departments.{entries, is_before, place_of, is_named, has_name};
+ghost use Rattle.memory_store.specs.Departments.{entries, is_before, place_of, is_department_named};
+ghost use Rattle.memory_store.specs.Departments.{has_department_name};
 
 use message::Department;
 use std::mem::replace;
@@ -30,7 +31,7 @@ fn place_of(departments: &[Department], name: &[u8]) -> usize
 }
 
 fn is_at(departments: &[Department], place: usize, name: &[u8]) -> bool
-    ensures { result ≡ is_named (slice_get departments.now place) name.now }
+    ensures { result ≡ is_department_named (slice_get departments.now place) name.now }
 {
     match departments.get(place) {
         Some(department) => department.name.is(name),
@@ -39,14 +40,14 @@ fn is_at(departments: &[Department], place: usize, name: &[u8]) -> bool
 }
 
 fn has_name(department: &Department, name: &[u8]) -> bool
-    ensures { result ≡ has_name department.now name.now }
+    ensures { result ≡ has_department_name department.now name.now }
 {
     department.name.is(name)
 }
 
 /// The department with a name.
 pub(crate) fn named<'a>(departments: &'a [Department], name: &[u8]) -> Option<&'a Department>
-    ensures { option_copied result ≡ find (λ d. has_name d name.now) departments.now }
+    ensures { option_copied result ≡ find (λ d. has_department_name d name.now) departments.now }
 {
     departments.iter().find(|d| has_name(d, name))
 }

@@ -10,7 +10,7 @@ ghost use Rattle.office.specs.Messages.{message_with_text};
 ghost use Rattle.office.specs.declared.view.Stop.TheVariants.{NoMemory};
 ghost use Rattle.office.specs.History.{has_key, is_repeat, reply_kept};
 ghost use Rattle.office.specs.Decided.{Decided, HasRoom, IsLawfulChange};
-ghost use Rattle.memory_store.specs.Contents.{Judges, state_of};
+ghost use Rattle.memory_store.specs.Contents.{JudgesArrival, state_of};
 
 use crate::store::PlainStore;
 use message::{Message, MessageFault, read_message};
@@ -53,7 +53,7 @@ fn is_known(kept: &[Kept], arrival: &Arrival) -> bool
 impl PlainStore {
     /// The decision about an arrival that isn't a repeat.
     pub(crate) fn judge(&self, alloc: Global, arrival: &Arrival) -> Result<Decision, Stop>
-        ensures judges { Judges result self.now arrival.now }
+        ensures judges { JudgesArrival result self.now arrival.now }
         ensures room { IfOk result (λ d. HasRoom d.change (state_of self.now)) }
         ensures change { IfOk result (λ d. IsLawfulChange d.change) }
         ensures version { IfOk result (λ d. d.version ≤ LAST_VERSION) }
@@ -73,7 +73,7 @@ impl PlainStore {
     fn admit(&self, alloc: Global, arrival: &Arrival, message: &Message) -> Result<Decision, Stop>
         requires message { IsTrue (is_message message.now) }
         requires read { message_with_text arrival.now.bytes ≡ Some message.now }
-        ensures judges { Judges result self.now arrival.now }
+        ensures judges { JudgesArrival result self.now arrival.now }
         ensures room { IfOk result (λ d. HasRoom d.change (state_of self.now)) }
         ensures change { IfOk result (λ d. IsLawfulChange d.change) }
         ensures version { IfOk result (λ d. d.version ≤ LAST_VERSION) }

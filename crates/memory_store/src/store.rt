@@ -36,9 +36,9 @@ pub struct PlainStore {
 }
 
 impl Model for PlainStore {
-    ghost use Rattle.memory_store.specs.Contents.{Contents, AreKept};
+    ghost use Rattle.memory_store.specs.Contents.{MemoryContents, AreKept};
 
-    ghost Value = { Contents };
+    ghost Value = { MemoryContents };
 
     ghost view = { λ s. record {
       opening = s.opening;

@@ -4,7 +4,7 @@
 
 ghost use Rattle.std.specs.Prelude.{◌≡◌, ◌++◌, ◌∷◌, [], IfOk, OnOk, OnErr};
 ghost use Rattle.office.specs.Decided.{HasRoom, IsLawfulChange, changed};
-ghost use Rattle.memory_store.specs.Contents.{Writes, row_of, state_of};
+ghost use Rattle.memory_store.specs.Contents.{WritesDecision, row_of, state_of};
 
 use crate::departments::put_department;
 use crate::issued::sign;
@@ -63,7 +63,7 @@ impl PlainStore {
     fn write(&mut self, alloc: Global, arrival: Arrival, decision: Decision) -> Result<(), NoMemory>
         requires room { HasRoom decision.change (state_of self.old) }
         requires lawful { IsLawfulChange decision.change }
-        ensures ok { OnOk result (Writes self.old arrival decision self.new) }
+        ensures ok { OnOk result (WritesDecision self.old arrival decision self.new) }
         ensures err { OnErr result (self.new ≡ self.old) }
     {
         let Decision {
@@ -89,7 +89,7 @@ impl PlainStore {
         requires room { HasRoom decision.change (state_of self.old) }
         requires lawful { IsLawfulChange decision.change }
         ensures reply { IfOk result (λ reply. reply ≡ decision.reply) }
-        ensures ok { OnOk result (Writes self.old arrival decision self.new) }
+        ensures ok { OnOk result (WritesDecision self.old arrival decision self.new) }
         ensures err { OnErr result (self.new ≡ self.old) }
     {
         match decision.reply.copied(alloc) {

@@ -7,7 +7,7 @@ use Rattle.values.specs.declared.kind.Kind.{Kind}
 use Rattle.values.specs.declared.kind.Kind.TheVariants.{Host}
 use Rattle.message.specs.declared.department.Department.{Department}
 use Rattle.message.specs.Values.{fits_kind}
-use Rattle.message.specs.Reading.{kind_of, department_in}
+use Rattle.message.specs.Reading.{kind_of_line, department_in}
 use Rattle.message.proofs.Lines.{chosen}
 use Rattle.message.proofs.Readings.{IsField, IsLine, IsReading, and_then, same_values}
 use Rattle.message.proofs.Choices.{line_then}
@@ -18,7 +18,7 @@ use Rattle.message.proofs.Elements.{extension_names_lack, namespaces_lack}
 use Rattle.message.proofs.Numbers.{number_field, longest_life_small}
 
 -- the line of the kind
-kind_field : IsField kind_of (λ k. codes "kind " ++ kind_text k) (λ _. Unit {0})
+kind_field : IsField kind_of_line (λ k. codes "kind " ++ kind_text k) (λ _. Unit {0})
 kind_field = record {
   found = λ l k fits e. (tt, kind_found l k e);
   again = λ k _. again k;
@@ -26,7 +26,7 @@ kind_field = record {
   is_line = λ k _. line k;
 }
   where
-    kind_found : (l : List ℕ) (k : Kind) → kind_of l ≡ Some k → l ≡ codes "kind " ++ kind_text k
+    kind_found : (l : List ℕ) (k : Kind) → kind_of_line l ≡ Some k → l ≡ codes "kind " ++ kind_text k
     kind_found l k e = elim (chosen (bytes_eq l (codes "kind user")) (Some User) _ (Some k) e) [
       | inl user ↦ (bytes_eq-Decides l (codes "kind user")).0 user.0
           ∙ ap (λ (k : Kind). codes "kind " ++ kind_text k) (same_Some User k user.1)
@@ -35,7 +35,7 @@ kind_field = record {
           (bytes_eq-Decides l (codes "kind host")).0 host.0 ∙ ap (λ (k : Kind). codes "kind " ++ kind_text k) host.1
     ]
 
-    again : (k : Kind) → kind_of (codes "kind " ++ kind_text k) ≡ Some k
+    again : (k : Kind) → kind_of_line (codes "kind " ++ kind_text k) ≡ Some k
     again User = refl
     again Host = refl
 

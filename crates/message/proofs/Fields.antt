@@ -1,6 +1,6 @@
 -- Values after a word: a text is read as a value exactly when it is the value's text.
 use Rattle.message.proofs.Words.{All-append, All-cons, All-nil, AllByRecursion, Bool, IsBytes, IsBytes-drop, Lacks}
-use Rattle.message.proofs.Words.{List, None, Option, Some, [], after, and_parts, ap, append-nil, arith}
+use Rattle.message.proofs.Words.{List, None, Option, Some, [], rest_after, and_parts, ap, append-nil, arith}
 use Rattle.message.proofs.Words.{bytes_eq-Decides, cond-true, cond_some, drop, drop-append_seam, eqb, eqb-true, false}
 use Rattle.message.proofs.Words.{join_with_byte, join_with_byte-slice_split, length, length-slice_split, list_all}
 use Rattle.message.proofs.Words.{list_line, not, not-true, option_and_then, option_and_then_some, refl, same_Some}
@@ -9,7 +9,7 @@ use Rattle.std.proofs.Math.Seq.{take-append_seam}
 use Rattle.std.proofs.lemmas.List.{take-append-drop}
 use Rattle.std.proofs.lemmas.List.Sums.{AllPass-from_list_all}
 use Rattle.values.proofs.Lacking.{slice_split-join_with_byte}
-use Rattle.message.specs.Reading.{passing, listed}
+use Rattle.message.specs.Reading.{passing, texts_in_list}
 use Rattle.message.proofs.Readings.{IsField, IsLine}
 
 -- ---- texts that lack a byte
@@ -44,7 +44,7 @@ lacks_joined byte by (t ∷ u ∷ ts) other h =
 
 -- ---- values after a word
 
-pub after_found : (head l t : List ℕ) → after head l ≡ Some t → (l ≡ head ++ t) × (t ≡ drop (length head) l)
+pub after_found : (head l t : List ℕ) → rest_after head l ≡ Some t → (l ≡ head ++ t) × (t ≡ drop (length head) l)
 after_found head l t e =
     let both = cond_some _ (drop (length head) l) t e in
     let front : take (length head) l ≡ head = (bytes_eq-Decides _ _).0 both.0 in (
@@ -53,7 +53,7 @@ after_found head l t e =
       sym both.1,
     )
 
-pub after_again : (head t : List ℕ) → after head (head ++ t) ≡ Some t
+pub after_again : (head t : List ℕ) → rest_after head (head ++ t) ≡ Some t
 after_again head t =
     cond-true _ (Some (drop (length head) (head ++ t))) None ((bytes_eq-Decides _ _).1 (take-append_seam head t))
     ∙ ap (λ (x : List ℕ). Some x) (drop-append_seam head t)
@@ -81,12 +81,12 @@ value_passing read text test found again is_line = record {
   is_line = is_line;
 }
 
--- a value after a word that `after` can compute with
+-- a value after a word that `rest_after` can compute with
 pub value_after : {X : Type 0} (head : List ℕ) (read : List ℕ → Option X) (text : X → List ℕ) (IsLawful : X → Type 0)
-    → IsHead head → after head [] ≡ None → IsValue read text IsLawful
-    → IsField (λ l. option_and_then read (after head l)) (λ x. head ++ text x) IsLawful
+    → IsHead head → rest_after head [] ≡ None → IsValue read text IsLawful
+    → IsField (λ l. option_and_then read (rest_after head l)) (λ x. head ++ text x) IsLawful
 value_after head read text IsLawful line empty value = record {
-  found = λ l x fits e. option_and_then_some read (after head l) x e
+  found = λ l x fits e. option_and_then_some read (rest_after head l) x e
       (λ t behind read_so.
       let at = after_found head l t behind in
       let fits_behind : IsBytes t = subst IsBytes (sym at.1) (IsBytes-drop (length head) l fits) in
@@ -111,23 +111,23 @@ and_then_assoc f g (Some x) = refl
 
 -- a value after a word, if it passes a test
 pub field_passing : {X : Type 0} (head : List ℕ) (read : List ℕ → Option X) (text : X → List ℕ) (test : X → Bool)
-    → IsHead head → after head [] ≡ None
+    → IsHead head → rest_after head [] ≡ None
     → ((t : List ℕ) (x : X) → IsBytes t → read t ≡ Some x → t ≡ text x)
     → ((x : X) → test x ≡ true → read (text x) ≡ Some x)
     → ((x : X) → test x ≡ true → IsLine (text x))
-    → IsField (λ l. option_and_then (passing test) (option_and_then read (after head l))) (λ x. head ++ text x)
+    → IsField (λ l. option_and_then (passing test) (option_and_then read (rest_after head l))) (λ x. head ++ text x)
     (λ x. test x ≡ true)
 field_passing head read text test line empty found again is_line =
-    same_field (λ l. option_and_then (λ t. option_and_then (passing test) (read t)) (after head l))
-    (λ l. option_and_then (passing test) (option_and_then read (after head l))) (λ x. head ++ text x)
-    (λ x. test x ≡ true) (λ l. and_then_assoc read (passing test) (after head l))
+    same_field (λ l. option_and_then (λ t. option_and_then (passing test) (read t)) (rest_after head l))
+    (λ l. option_and_then (passing test) (option_and_then read (rest_after head l))) (λ x. head ++ text x)
+    (λ x. test x ≡ true) (λ l. and_then_assoc read (passing test) (rest_after head l))
     (value_after head (λ t. option_and_then (passing test) (read t)) text (λ x. test x ≡ true) line empty
     (value_passing read text test found again is_line))
 
 -- a text after a word, if it passes a test
-pub text_field : (head : List ℕ) (test : List ℕ → Bool) → IsHead head → after head [] ≡ None
+pub text_field : (head : List ℕ) (test : List ℕ → Bool) → IsHead head → rest_after head [] ≡ None
     → ((t : List ℕ) → test t ≡ true → IsLine t)
-    → IsField (λ l. option_and_then (passing test) (after head l)) (λ t. head ++ t) (λ t. test t ≡ true)
+    → IsField (λ l. option_and_then (passing test) (rest_after head l)) (λ t. head ++ t) (λ t. test t ≡ true)
 text_field head test line empty is_line =
     value_after head (passing test) (λ t. t) (λ t. test t ≡ true) line empty (record {
       found = λ t x fits e. passing_some test t x e;
@@ -163,13 +163,13 @@ cut_text text [] e = absurd (omega (arith, length-slice_split (λ c. eqb c 44) t
 cut_text text (t ∷ ts) e =
     ap (λ (x : List ℕ). 32 ∷ x) (sym (join_with_byte-slice_split 44 text) ∙ ap (join_with_byte 44) e)
 
-listed_found : (t : List ℕ) (ts : List (List ℕ)) → listed t ≡ Some ts → t ≡ listed_text ts
+listed_found : (t : List ℕ) (ts : List (List ℕ)) → texts_in_list t ≡ Some ts → t ≡ listed_text ts
 listed_found [] ts e = ap listed_text (same_Some [] ts e)
 listed_found (b ∷ text) ts e =
     let both = cond_some _ (slice_split (λ c. eqb c 44) text) ts e in
     ap (λ (x : ℕ). x ∷ text) (eqb-true _ _ both.0) ∙ cut_text text ts both.1
 
-listed_again : (ts : List (List ℕ)) → AllLack 44 ts → listed (listed_text ts) ≡ Some ts
+listed_again : (ts : List (List ℕ)) → AllLack 44 ts → texts_in_list (listed_text ts) ≡ Some ts
 listed_again [] h = refl
 listed_again (t ∷ ts) h = ap (λ (xs : List (List ℕ)). Some xs) (split_joined t ts h)
 
@@ -179,11 +179,11 @@ listed_line (t ∷ ts) h =
     All-cons (λ b. eqb b 10 ≡ false) 32 (join_with_byte 44 (t ∷ ts)) refl (lacks_joined 10 44 (t ∷ ts) refl h)
 
 -- a list after its word, if it passes a test
-pub list_field : (word : List ℕ) (test : List (List ℕ) → Bool) → IsHead word → after word [] ≡ None
+pub list_field : (word : List ℕ) (test : List (List ℕ) → Bool) → IsHead word → rest_after word [] ≡ None
     → ((ts : List (List ℕ)) → test ts ≡ true → AllLack 44 ts × AllLack 10 ts)
-    → IsField (λ l. option_and_then (passing test) (option_and_then listed (after word l))) (list_line word)
+    → IsField (λ l. option_and_then (passing test) (option_and_then texts_in_list (rest_after word l))) (list_line word)
     (λ ts. test ts ≡ true)
 list_field word test line empty lack =
     same_text _ (λ ts. word ++ listed_text ts) (list_line word) (λ ts. test ts ≡ true) (list_text word)
-    (field_passing word listed listed_text test line empty (λ t ts fits e. listed_found t ts e)
+    (field_passing word texts_in_list listed_text test line empty (λ t ts fits e. listed_found t ts e)
     (λ ts passes. listed_again ts (lack ts passes).0) (λ ts passes. listed_line ts (lack ts passes).1))

@@ -1,6 +1,6 @@
 -- The public-key lines in messages: none has a line feed, and each is read from its text alone.
 use Rattle.message.proofs.Words.{All-append, All-cons, All-nil, AllByRecursion, KeyLine, List, None, Ok, Option, Some}
-use Rattle.message.proofs.Words.{[], after, and_parts, ap, comment_text, encode_of, eqb, false, is_key_line}
+use Rattle.message.proofs.Words.{[], rest_after, and_parts, ap, comment_text, encode_of, eqb, false, is_key_line}
 use Rattle.message.proofs.Words.{key_line_after, key_line_text, lacks_from, length, ok_of, refl, replicate, result_ok}
 use Rattle.message.proofs.Words.{standard, true, ℕ, ◌++◌, ◌+◌, ◌∷◌, ◌≡◌}
 use Rattle.std.proofs.Common.{◌*◌, ◌/◌, ◌%◌, slice_index}
@@ -52,7 +52,7 @@ key_is_line k is =
     (base64_line (key_blob k.key)) (comment_line k.comment (and_parts _ _ is).1))
 
 -- a public-key line after a word
-pub key_field : (head : List ℕ) → IsHead head → after head [] ≡ None
+pub key_field : (head : List ℕ) → IsHead head → rest_after head [] ≡ None
     → IsField (key_line_after head) (λ k. head ++ key_line_text k) (λ k. is_key_line k ≡ true)
 key_field head line empty =
     value_after head (λ t. result_ok (key_line_at t)) key_line_text (λ k. is_key_line k ≡ true) line empty (record {

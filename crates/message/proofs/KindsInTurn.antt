@@ -1,5 +1,5 @@
 -- Messages of several kinds, with the kind given by the first line.
-use Rattle.message.proofs.Words.{Bool, Err, List, None, Result, Some, [], after, and_parts, ap, bytes_eq}
+use Rattle.message.proofs.Words.{Bool, Err, List, None, Result, Some, [], rest_after, and_parts, ap, bytes_eq}
 use Rattle.message.proofs.Words.{bytes_eq-Decides, cases_Bool, cond, cond-false, drop, eq-eqb, eqb, false, inl, inr}
 use Rattle.message.proofs.Words.{is_some, length, line_of, list_all, made, not, not-true, or_cases, refl, subst, suc}
 use Rattle.message.proofs.Words.{sym, take, true, ℕ, ◌++◌, ◌||◌, ◌∙◌, ◌∷◌, ◌≡◌}
@@ -11,7 +11,7 @@ use Rattle.message.proofs.Readings.{IsReading, fault_as, read_as, same_reading}
 
 -- whether a line begins with these bytes
 abbrev pub has_head : List ℕ → List ℕ → Bool
-has_head head line = is_some (after head line)
+has_head head line = is_some (rest_after head line)
 
 -- The answer is whether line 1 of a text begins with these bytes.
 abbrev pub Heads : List ℕ → Bool → List (List ℕ) → Type 0

@@ -2,7 +2,7 @@
 use Rattle.message.proofs.Words.{Message, [], ap, codes, decimal, delivery_lines, department_lines, false, is_delivery}
 use Rattle.message.proofs.Words.{is_department, is_issue, is_key_id, is_key_line, is_message, is_range, is_renewal}
 use Rattle.message.proofs.Words.{is_serial, issue_lines, key_id_after, key_line_after, key_line_text, line, message_in}
-use Rattle.message.proofs.Words.{message_lines, number_after, range_after, range_text, refl, renewal_lines, true, ◌∙◌}
+use Rattle.message.proofs.Words.{message_lines, number_after, range_after, range_words, refl, renewal_lines, true, ◌∙◌}
 use Rattle.message.proofs.Words.{◌∷◌, ◌≡◌}
 use Rattle.message.specs.declared.kinds.Message.TheVariants as message
 use Rattle.message.specs.Reading.{delivery_in, department_in, issue_in, one_line_in, one_line_message_in, renewal_in}
@@ -42,7 +42,7 @@ some_read = (
     (λ n. (_, _, refl)) (
     kind_or message_lines (codes "revoke-range ") (λ r. message.RevokeRange r)
     (one_line_in (range_after (codes "revoke-range ")))
-    (λ r. is_range r ≡ true) (λ r. line (codes "revoke-range") (range_text r) ∷ []) (λ r. refl) range_reads
+    (λ r. is_range r ≡ true) (λ r. line (codes "revoke-range") (range_words r) ∷ []) (λ r. refl) range_reads
     (λ r. (_, _, refl)) (
     kind_or message_lines (codes "revoke-keyid ") (λ k. message.RevokeKeyId k)
     (one_line_in (key_id_after (codes "revoke-keyid ")))

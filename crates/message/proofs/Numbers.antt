@@ -1,8 +1,9 @@
 -- Numbers and ranges of serials in lines.
-use Rattle.message.proofs.Words.{All-append, All-cons, Bool, IsBytes, List, None, Option, Some, [], after, and_parts}
+use Rattle.message.proofs.Words.{All-append, All-cons, Bool, IsBytes, List, None, Option, Some, [], rest_after}
+use Rattle.message.proofs.Words.{and_parts}
 use Rattle.message.proofs.Words.{ap, arith, comment_of, comment_of-text, comment_text, decimal, eqb, false, is_end}
 use Rattle.message.proofs.Words.{is_longest_life, is_range, leb-true, number_after, option_and_then}
-use Rattle.message.proofs.Words.{option_and_then_some, range_after, range_text, recursion_from_All, refl, same_Some}
+use Rattle.message.proofs.Words.{option_and_then_some, range_after, range_words, recursion_from_All, refl, same_Some}
 use Rattle.message.proofs.Words.{serial_small, text_is, true, word_of, word_of-text, ℕ, ◌++◌, ◌<◌, ◌∙◌, ◌∷◌, ◌≡◌, ◌≤◌}
 use Rattle.std.proofs.Common.{◌^◌, leb}
 use Rattle.values.specs.Decimals.{number_of}
@@ -14,7 +15,7 @@ use Rattle.message.proofs.Readings.{IsField, IsLine}
 use Rattle.message.proofs.Fields.{IsHead, field_passing}
 
 -- a number after a word, if it passes a test
-pub number_field : (test : ℕ → Bool) (head : List ℕ) → IsHead head → after head [] ≡ None
+pub number_field : (test : ℕ → Bool) (head : List ℕ) → IsHead head → rest_after head [] ≡ None
     → ((n : ℕ) → test n ≡ true → n < 2 ^ 64)
     → IsField (number_after test head) (λ n. head ++ decimal n) (λ n. test n ≡ true)
 number_field test head line empty small =
@@ -40,7 +41,7 @@ between_found (Some lo) (Some hi) r e =
     (ap (λ (r : SerialRange). Some r.lo) same, ap (λ (r : SerialRange). Some r.hi) same)
 
 -- a range is read from its text alone
-range_found : (t : List ℕ) (r : SerialRange) → IsBytes t → range_of t ≡ Some r → t ≡ range_text r
+range_found : (t : List ℕ) (r : SerialRange) → IsBytes t → range_of t ≡ Some r → t ≡ range_words r
 range_found t r fits e =
     option_and_then_some (λ last. range_between (number_of (word_of t)) (number_of last)) (comment_of t) r e
     (λ last there both.
@@ -50,19 +51,19 @@ range_found t r fits e =
     ∙ ap (λ (w : List ℕ). decimal r.lo ++ 32 ∷ w) (number_spelled last r.hi is.1))
 
 -- a valid range is read back from its text
-range_again : (r : SerialRange) → is_range r ≡ true → range_of (range_text r) ≡ Some r
+range_again : (r : SerialRange) → is_range r ≡ true → range_of (range_words r) ≡ Some r
 range_again r is =
     let lo : r.lo < 2 ^ 64 = serial_small r.lo (and_parts _ _ is).0 in
     let hi : r.hi < 2 ^ 64 = serial_small r.hi (and_parts _ _ (and_parts _ _ is).1).0 in
     let free = recursion_from_All (λ b. eqb b 32 ≡ false) (decimal r.lo) (decimal_lacks 32 r.lo refl lo) in
-    let first : word_of (range_text r) ≡ decimal r.lo = word_of-text (decimal r.lo) (Some (decimal r.hi)) free in
-    let last : comment_of (range_text r) ≡ Some (decimal r.hi) =
+    let first : word_of (range_words r) ≡ decimal r.lo = word_of-text (decimal r.lo) (Some (decimal r.hi)) free in
+    let last : comment_of (range_words r) ≡ Some (decimal r.hi) =
     comment_of-text (decimal r.lo) (Some (decimal r.hi)) free in
-    ap (option_and_then (λ l. range_between (number_of (word_of (range_text r))) (number_of l))) last
+    ap (option_and_then (λ l. range_between (number_of (word_of (range_words r))) (number_of l))) last
     ∙ ap (λ (o : Option ℕ). range_between o (number_of (decimal r.hi))) (ap number_of first ∙ number_of-decimal r.lo lo)
     ∙ ap (range_between (Some r.lo)) (number_of-decimal r.hi hi)
 
-range_is_line : (r : SerialRange) → is_range r ≡ true → IsLine (range_text r)
+range_is_line : (r : SerialRange) → is_range r ≡ true → IsLine (range_words r)
 range_is_line r is =
     let lo : r.lo < 2 ^ 64 = serial_small r.lo (and_parts _ _ is).0 in
     let hi : r.hi < 2 ^ 64 = serial_small r.hi (and_parts _ _ (and_parts _ _ is).1).0 in
@@ -70,7 +71,7 @@ range_is_line r is =
     (All-cons (λ b. eqb b 10 ≡ false) 32 (decimal r.hi) refl (decimal_lacks 10 r.hi refl hi))
 
 -- a range after a word
-pub range_field : (head : List ℕ) → IsHead head → after head [] ≡ None
-    → IsField (range_after head) (λ r. head ++ range_text r) (λ r. is_range r ≡ true)
+pub range_field : (head : List ℕ) → IsHead head → rest_after head [] ≡ None
+    → IsField (range_after head) (λ r. head ++ range_words r) (λ r. is_range r ≡ true)
 range_field head line empty =
-    field_passing head range_of range_text is_range line empty range_found range_again range_is_line
+    field_passing head range_of range_words is_range line empty range_found range_again range_is_line

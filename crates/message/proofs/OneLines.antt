@@ -1,7 +1,8 @@
 -- Messages of one line: revocations, and rollovers.
-use Rattle.message.proofs.Words.{Err, List, None, Option, Result, Some, [], after, codes, decimal, false, is_key_id}
+use Rattle.message.proofs.Words.{Err, List, None, Option, Result, Some, [], rest_after, codes, decimal, false}
+use Rattle.message.proofs.Words.{is_key_id}
 use Rattle.message.proofs.Words.{is_key_line, is_range, is_serial, is_some, key_id_after, key_line_after, key_line_text}
-use Rattle.message.proofs.Words.{line, line_of, number_after, option_and_then, or_fault, range_after, range_text, refl}
+use Rattle.message.proofs.Words.{line, line_of, number_after, option_and_then, or_fault, range_after, range_words, refl}
 use Rattle.message.proofs.Words.{serial_small, true, ℕ, ◌>>=◌, ◌∷◌, ◌≡◌}
 use Rattle.message.specs.Reading.{one_line_in}
 use Rattle.message.proofs.Elements.{key_id_line}
@@ -17,7 +18,7 @@ pub serial_reads : IsReading 0 (one_line_in (number_after is_serial (codes "revo
 serial_reads = one_line _ _ _ (number_field is_serial (codes "revoke-serial ") refl refl serial_small) 1 refl
 
 pub range_reads : IsReading 0 (one_line_in (range_after (codes "revoke-range "))) (λ r. is_range r ≡ true)
-    (λ r. line (codes "revoke-range") (range_text r) ∷ [])
+    (λ r. line (codes "revoke-range") (range_words r) ∷ [])
 range_reads = one_line _ _ _ (range_field (codes "revoke-range ") refl refl) (record { lo = 1; hi = 1 }) refl
 
 pub key_id_reads : IsReading 0 (one_line_in (key_id_after (codes "revoke-keyid "))) (λ k. is_key_id k ≡ true)
@@ -38,4 +39,4 @@ none_after f g (Some t) e = absurd cc
 pub no_rollover : (ps : List (List ℕ)) → has_head (codes "rollover ") (line_of 1 ps) ≡ false
     → one_line_in (key_line_after (codes "rollover ")) ps ≡ Err 1
 unfolding one_line_in
-no_rollover ps e = none_after _ _ (after (codes "rollover ") (line_of 1 ps)) e
+no_rollover ps e = none_after _ _ (rest_after (codes "rollover ") (line_of 1 ps)) e

@@ -14,9 +14,9 @@ use Rattle.values.specs.Networks.{Network, IsNetwork, network_text, are_networks
 use Rattle.values.specs.Options.{is_flag, is_option_value, is_command}
 use Rattle.values.proofs.NetworkLaws.{network_lacks, networks_found}
 use Rattle.values.proofs.OptionLemmas.{critical_cases}
-use Rattle.message.specs.Texts.{option_text}
-use Rattle.message.specs.Values.{is_option}
-use Rattle.message.specs.Reading.{pair_of}
+use Rattle.message.specs.Texts.{option_words}
+use Rattle.message.specs.Values.{is_critical_option}
+use Rattle.message.specs.Reading.{option_in}
 use Rattle.message.proofs.Lines.{chosen}
 use Rattle.message.proofs.Readings.{IsField, IsLine}
 use Rattle.message.proofs.Fields.{AllLack, lacks_joined, field_passing}
@@ -25,11 +25,11 @@ use Rattle.message.proofs.Elements.{known_lacks_space, known_line}
 -- ---- the text of an option
 
 -- the text of a flag is its name
-flag_text : (p : Pair) → is_flag p.name ≡ true → option_text p ≡ p.name
+flag_text : (p : Pair) → is_flag p.name ≡ true → option_words p ≡ p.name
 flag_text p is = cond-true _ p.name (p.name ++ 32 ∷ p.value) is
 
 -- the text of any other option has its value
-value_text : (p : Pair) → is_flag p.name ≡ false → option_text p ≡ p.name ++ 32 ∷ p.value
+value_text : (p : Pair) → is_flag p.name ≡ false → option_words p ≡ p.name ++ 32 ∷ p.value
 value_text p is = cond-false _ p.name (p.name ++ 32 ∷ p.value) is
 
 abbrev flag : List ℕ → Pair
@@ -43,45 +43,45 @@ pair_by name None = cond (is_flag name) (Some (flag name)) None
 pair_by name (Some value) = cond (is_flag name) None (Some (valued name value))
 
 pair_by_found : (name : List ℕ) (o : Option (List ℕ)) (p : Pair) → pair_by name o ≡ Some p → name ++ comment_text o
-    ≡ option_text p
+    ≡ option_words p
 pair_by_found name None p e =
     let both = cond_some _ (flag name) p e in
-    append-nil name ∙ sym (flag_text (flag name) both.0) ∙ ap option_text both.1
+    append-nil name ∙ sym (flag_text (flag name) both.0) ∙ ap option_words both.1
 pair_by_found name (Some value) p e = elim (chosen (is_flag name) None (Some (valued name value)) (Some p) e) [
   | inl is ↦ absurd (none-some p is.1)
-  | inr other ↦ sym (value_text (valued name value) other.0) ∙ ap option_text (same_Some _ _ other.1)
+  | inr other ↦ sym (value_text (valued name value) other.0) ∙ ap option_words (same_Some _ _ other.1)
 ]
 
 -- an option is read from its text alone
-pair_found : (text : List ℕ) (p : Pair) → pair_of text ≡ Some p → text ≡ option_text p
+pair_found : (text : List ℕ) (p : Pair) → option_in text ≡ Some p → text ≡ option_words p
 pair_found text p e = text_is text ∙ pair_by_found (word_of text) (comment_of text) p e
 
 -- reading a name without spaces, alone or with a value
 pair_behind : (name : List ℕ) (o : Option (List ℕ)) → Lacks 32 name
-    → pair_of (name ++ comment_text o) ≡ pair_by name o
+    → option_in (name ++ comment_text o) ≡ pair_by name o
 pair_behind name o lacks =
     let free = recursion_from_All (λ b. eqb b 32 ≡ false) name lacks in
     ap (λ (n : List ℕ). pair_by n (comment_of (name ++ comment_text o))) (word_of-text name o free)
     ∙ ap (pair_by name) (comment_of-text name o free)
 
 -- an option with a value is read back from its text
-valued_again : (p : Pair) → is_flag p.name ≡ false → Lacks 32 p.name → pair_of (option_text p) ≡ Some p
+valued_again : (p : Pair) → is_flag p.name ≡ false → Lacks 32 p.name → option_in (option_words p) ≡ Some p
 valued_again p other lacks =
-    ap pair_of (value_text p other) ∙ pair_behind p.name (Some p.value) lacks
+    ap option_in (value_text p other) ∙ pair_behind p.name (Some p.value) lacks
     ∙ cond-false _ None (Some (valued p.name p.value)) other
 
 -- a flag is read back from its text
-flag_again : (p : Pair) → is_flag p.name ≡ true → p.value ≡ [] → Lacks 32 p.name → pair_of (option_text p) ≡ Some p
+flag_again : (p : Pair) → is_flag p.name ≡ true → p.value ≡ [] → Lacks 32 p.name → option_in (option_words p) ≡ Some p
 flag_again p is none lacks =
-    ap pair_of (flag_text p is ∙ sym (append-nil p.name)) ∙ pair_behind p.name None lacks
+    ap option_in (flag_text p is ∙ sym (append-nil p.name)) ∙ pair_behind p.name None lacks
     ∙ cond-true _ (Some (flag p.name)) None is ∙ ap (λ (v : List ℕ). Some (valued p.name v)) (sym none)
 
 -- the value of an option with this name is valid for the name
-value_at : (name : List ℕ) (p : Pair) → p.name ≡ name → is_option p ≡ true → is_option_value name p.value ≡ true
+value_at : (name : List ℕ) (p : Pair) → p.name ≡ name → is_critical_option p ≡ true → is_option_value name p.value ≡ true
 value_at name p same is = ap (λ (n : List ℕ). is_option_value n p.value) (sym same) ∙ (and_parts _ _ is).1
 
 -- a valid option is read back from its text
-pair_again : (p : Pair) → is_option p ≡ true → pair_of (option_text p) ≡ Some p
+pair_again : (p : Pair) → is_critical_option p ≡ true → option_in (option_words p) ≡ Some p
 pair_again p is =
     let known = (and_parts _ _ is).0 in
     let lacks : Lacks 32 p.name = known_lacks_space CriticalOptions p.name known in
@@ -114,7 +114,7 @@ command_line : (t : List ℕ) → is_command t ≡ true → IsLine t
 command_line t is = lacks_from _ 10 t refl (and_parts _ _ is).1
 
 -- the text of a valid option has no line feed
-option_is_line : (p : Pair) → is_option p ≡ true → IsLine (option_text p)
+option_is_line : (p : Pair) → is_critical_option p ≡ true → IsLine (option_words p)
 option_is_line p is =
     let name : IsLine p.name = known_line CriticalOptions p.name (and_parts _ _ is).0 in
     elim (critical_cases p.name (and_parts _ _ is).0) [
@@ -127,7 +127,7 @@ option_is_line p is =
       ]
     ]
   where
-    with_value : (p : Pair) → IsLine p.name → is_flag p.name ≡ false → IsLine p.value → IsLine (option_text p)
+    with_value : (p : Pair) → IsLine p.name → is_flag p.name ≡ false → IsLine p.value → IsLine (option_words p)
     with_value p name other value =
         subst IsLine (sym (value_text p other)) (All-append (λ b. eqb b 10 ≡ false) p.name (32 ∷ p.value) name
         (All-cons (λ b. eqb b 10 ≡ false) 32 p.value refl value))
@@ -135,7 +135,7 @@ option_is_line p is =
 -- the line of an option that may follow earlier ones
 pub option_field : (before : List Pair) → IsField (option_after before) option_line (λ p. is_new_option before p ≡ true)
 option_field before =
-    field_passing (codes "option ") pair_of option_text (is_new_option before) refl refl
+    field_passing (codes "option ") option_in option_words (is_new_option before) refl refl
     (λ t p fits e. pair_found t p e) (λ p is. pair_again p (and_parts _ _ is).0)
     (λ p is. option_is_line p (and_parts _ _ is).0)
 
@@ -187,7 +187,7 @@ together before p (q ∷ ps) none other =
     and_from _ _ (not_from_false _ other) (together before p ps both.1 parts.1)
 
 -- options that may follow one another are valid and have distinct names
-new_found : (before ps : List Pair) → AreNew before ps → (list_all is_option ps ≡ true)
+new_found : (before ps : List Pair) → AreNew before ps → (list_all is_critical_option ps ≡ true)
     × ((are_distinct (names ps) ≡ true) × (none_before before ps ≡ true))
 new_found before [] is = (refl, (refl, refl))
 new_found before (p ∷ ps) is =
@@ -196,7 +196,7 @@ new_found before (p ∷ ps) is =
     let others = apart before p ps rest.1.1 in
     (and_from _ _ this.0 rest.0, (and_from _ _ (not_from_false _ others.1) rest.1.0, and_from _ _ this.1 others.0))
 
-new_from : (before ps : List Pair) → list_all is_option ps ≡ true → are_distinct (names ps) ≡ true
+new_from : (before ps : List Pair) → list_all is_critical_option ps ≡ true → are_distinct (names ps) ≡ true
     → none_before before ps ≡ true → AreNew before ps
 new_from before [] lawful distinct none = tt
 new_from before (p ∷ ps) lawful distinct none =
@@ -212,10 +212,10 @@ none_first [] = refl
 none_first (p ∷ ps) = none_first ps
 
 -- valid options with distinct names may follow one another
-pub options_are_new : (ps : List Pair) → (list_all is_option ps && are_distinct (map (λ p. p.name) ps)) ≡ true
+pub options_are_new : (ps : List Pair) → (list_all is_critical_option ps && are_distinct (map (λ p. p.name) ps)) ≡ true
     → AreNew [] ps
 options_are_new ps is = let both = and_parts _ _ is in new_from [] ps both.0 both.1 (none_first ps)
 
-pub new_are_options : (ps : List Pair) → AreNew [] ps → (list_all is_option ps && are_distinct (map (λ p. p.name) ps))
+pub new_are_options : (ps : List Pair) → AreNew [] ps → (list_all is_critical_option ps && are_distinct (map (λ p. p.name) ps))
     ≡ true
 new_are_options ps is = let found = new_found [] ps is in and_from _ _ found.0 found.1.0

@@ -1,5 +1,6 @@
 -- Signatures within lines.
-use Rattle.message.proofs.Words.{IsBytes, IsBytes-drop, IsBytes_from, List, None, Option, Signature, Some, [], after}
+use Rattle.message.proofs.Words.{IsBytes, IsBytes-drop, IsBytes_from, List, None, Option, Signature, Some, []}
+use Rattle.message.proofs.Words.{rest_after}
 use Rattle.message.proofs.Words.{all_bytes, and_from, and_parts, ap, arith, bytes_eq-Decides, cases_Bool, cond-false}
 use Rattle.message.proofs.Words.{cond-true, cond_some, drop, encode_of, eq-eqb, eqb, eqb-true, inl, inr, is_signature}
 use Rattle.message.proofs.Words.{length, length-drop, ok_of, option_and_then, option_and_then_some, refl, replicate}
@@ -83,7 +84,7 @@ signature_again s is =
     ∙ rw (base64_again blob (blob_is_bytes s.bytes size fits)) (rw (blob_again s.bytes size) refl)
 
 -- a signature after a word
-pub signature_field : (head : List ℕ) → IsHead head → after head [] ≡ None
+pub signature_field : (head : List ℕ) → IsHead head → rest_after head [] ≡ None
     → IsField (signature_after head) (λ s. head ++ signature_text s) (λ s. is_signature s ≡ true)
 signature_field head line empty =
     value_after head signature_at signature_text (λ s. is_signature s ≡ true) line empty (record {

@@ -9,10 +9,11 @@ pub use Rattle.lines.specs.KeyLines.{comment_text, is_key_line, key_line_text}
 pub use Rattle.lines.specs.Reading.{comment_of, word_of}
 pub use Rattle.lines.specs.declared.key_line.KeyLine.{KeyLine}
 pub use Rattle.lines.specs.declared.signature.Signature.{Signature}
-pub use Rattle.message.specs.Reading.{after, ends_after, is_new_option, key_id_after, key_line_after, line_of, made}
+pub use Rattle.message.specs.Reading.{rest_after, ends_after, is_new_option, key_id_after, key_line_after, line_of}
+pub use Rattle.message.specs.Reading.{made}
 pub use Rattle.message.specs.Reading.{message_in, number_after, option_after, range_after}
 pub use Rattle.message.specs.Texts.{delivery_lines, department_lines, issue_lines, kind_text, line, lines_text}
-pub use Rattle.message.specs.Texts.{list_line, message_lines, message_text, option_line, range_text, renewal_lines}
+pub use Rattle.message.specs.Texts.{list_line, message_lines, message_text, option_line, range_words, renewal_lines}
 pub use Rattle.message.specs.Texts.{signature_text}
 pub use Rattle.message.specs.Values.{are_administrators, are_extension_names, are_namespaces, are_option_names}
 pub use Rattle.message.specs.Values.{are_principals, are_rules, is_delivery, is_department, is_end, is_issue}

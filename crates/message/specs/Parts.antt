@@ -6,7 +6,7 @@ use Rattle.lines.specs.declared.key_line.KeyLine.{KeyLine}
 use Rattle.values.specs.declared.kind.Kind.{Kind}
 use Rattle.message.specs.declared.department.Department.{Department}
 use Rattle.message.specs.declared.issue.Issue.{Issue}
-use Rattle.message.specs.Reading.{ends_after, kind_of, line_of, list_after, number_after, options_from}
+use Rattle.message.specs.Reading.{ends_after, kind_of_line, line_of, list_after, number_after, options_from}
 use Rattle.message.specs.Values.{are_administrators, are_extension_names, are_namespaces, are_option_names}
 use Rattle.message.specs.Values.{are_rules, fits_kind, is_longest_life}
 
@@ -27,7 +27,7 @@ namespaces_in kind ps = do
 -- the profile in the lines of a department from line 2 on
 abbrev pub profile_in : List (List ℕ) → Result Profile ℕ
 profile_in ps =
-    or_fault 2 (kind_of (line_of 2 ps)) >>= (λ kind. both (Ok kind)
+    or_fault 2 (kind_of_line (line_of 2 ps)) >>= (λ kind. both (Ok kind)
     (both (both (both (or_fault 3 (list_after are_administrators (codes "admins") (line_of 3 ps)))
     (or_fault 4 (list_after are_rules (codes "principals") (line_of 4 ps))))
     (both (or_fault 5 (list_after (λ ts. are_option_names ts && fits_kind kind ts) (codes "options") (line_of 5 ps)))
@@ -35,8 +35,8 @@ profile_in ps =
     (list_after (λ ts. are_extension_names ts && fits_kind kind ts) (codes "extensions") (line_of 6 ps)))))
     (both (or_fault 7 (number_after is_longest_life (codes "maxlife ") (line_of 7 ps))) (namespaces_in kind ps))))
 
-abbrev pub department_of : List ℕ → Profile → Department
-department_of name profile = record {
+abbrev pub department_with : List ℕ → Profile → Department
+department_with name profile = record {
   name = name;
   kind = profile.0;
   administrators = profile.1.0.0.0;

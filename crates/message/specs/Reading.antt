@@ -38,7 +38,7 @@ use Rattle.message.specs.Values.{
   fits_kind,
   is_longest_life,
   is_end,
-  is_option,
+  is_critical_option,
   is_digest,
   is_range,
 }
@@ -70,50 +70,50 @@ ends_after n ps = length ps == n + 1 && list_any (λ p. length p == 0) (drop n p
 -- ---- the contents of a line
 
 -- the rest of the line after these bytes
-abbrev pub after : List ℕ → List ℕ → Option (List ℕ)
-after head line = if bytes_eq (take (length head) line) head then Some (drop (length head) line) else None
+abbrev pub rest_after : List ℕ → List ℕ → Option (List ℕ)
+rest_after head line = if bytes_eq (take (length head) line) head then Some (drop (length head) line) else None
 
 abbrev pub name_after : List ℕ → List ℕ → Option (List ℕ)
-name_after head line = option_and_then (passing is_name) (after head line)
+name_after head line = option_and_then (passing is_name) (rest_after head line)
 
 abbrev pub key_id_after : List ℕ → List ℕ → Option (List ℕ)
-key_id_after head line = option_and_then (passing is_key_id) (after head line)
+key_id_after head line = option_and_then (passing is_key_id) (rest_after head line)
 
 abbrev pub key_line_after : List ℕ → List ℕ → Option KeyLine
-key_line_after head line = option_and_then (λ text. result_ok (key_line_at text)) (after head line)
+key_line_after head line = option_and_then (λ text. result_ok (key_line_at text)) (rest_after head line)
 
 -- a number after these bytes that passes a test
 abbrev pub number_after : (ℕ → Bool) → List ℕ → List ℕ → Option ℕ
-number_after test head line = option_and_then (passing test) (option_and_then number_of (after head line))
+number_after test head line = option_and_then (passing test) (option_and_then number_of (rest_after head line))
 
 -- nothing, or a space and texts separated by commas
-abbrev pub listed : List ℕ → Option (List (List ℕ))
-listed [] = Some []
-listed (b ∷ text) = if b == 32 then Some (slice_split (λ c. c == 44) text) else None
+abbrev pub texts_in_list : List ℕ → Option (List (List ℕ))
+texts_in_list [] = Some []
+texts_in_list (b ∷ text) = if b == 32 then Some (slice_split (λ c. c == 44) text) else None
 
 -- a list after these bytes that passes a test
 abbrev pub list_after : (List (List ℕ) → Bool) → List ℕ → List ℕ → Option (List (List ℕ))
-list_after test head line = option_and_then (passing test) (option_and_then listed (after head line))
+list_after test head line = option_and_then (passing test) (option_and_then texts_in_list (rest_after head line))
 
-abbrev pub kind_of : List ℕ → Option Kind
-kind_of line = if bytes_eq line (codes "kind user") then Some User else
+abbrev pub kind_of_line : List ℕ → Option Kind
+kind_of_line line = if bytes_eq line (codes "kind user") then Some User else
     (if bytes_eq line (codes "kind host") then Some Host else None)
 
 -- an option: the name of a flag alone, or any other name, a space and a value
-abbrev pub pair_of : List ℕ → Option Pair
-pair_of text = elim (comment_of text) [
+abbrev pub option_in : List ℕ → Option Pair
+option_in text = elim (comment_of text) [
   | None ↦ if is_flag (word_of text) then Some (record { name = word_of text; value = [] }) else None
   | Some value ↦ if is_flag (word_of text) then None else Some (record { name = word_of text; value = value })
 ]
 
 -- whether an option may follow the earlier ones
 abbrev pub is_new_option : List Pair → Pair → Bool
-is_new_option before p = is_option p && not (list_any (λ q. bytes_eq q.name p.name) before)
+is_new_option before p = is_critical_option p && not (list_any (λ q. bytes_eq q.name p.name) before)
 
 -- the option in a line, if it may follow the earlier ones
 abbrev pub option_after : List Pair → List ℕ → Option Pair
 option_after before line =
-    option_and_then (passing (is_new_option before)) (option_and_then pair_of (after (codes "option ") line))
+    option_and_then (passing (is_new_option before)) (option_and_then option_in (rest_after (codes "option ") line))
 
 -- these options from before line n, followed by those in at most k lines from line n on
 unfoldable pub options_from : ℕ → ℕ → List Pair → List (List ℕ) → List Pair
@@ -124,7 +124,7 @@ options_from (suc k) n before ps = elim (option_after before (line_of n ps)) [
 ]
 
 abbrev pub digest_after : List ℕ → List ℕ → Option (List ℕ)
-digest_after head line = option_and_then (passing is_digest) (after head line)
+digest_after head line = option_and_then (passing is_digest) (rest_after head line)
 
 -- the signature whose blob the 112 base64 characters encode
 abbrev pub signature_at : List ℕ → Option Signature
@@ -135,7 +135,7 @@ signature_at text =
     else None
 
 abbrev pub signature_after : List ℕ → List ℕ → Option Signature
-signature_after head line = option_and_then signature_at (after head line)
+signature_after head line = option_and_then signature_at (rest_after head line)
 
 -- the serials from one number to another
 abbrev pub range_between : Option ℕ → Option ℕ → Option SerialRange
@@ -147,7 +147,7 @@ range_of text =
     option_and_then (λ last. range_between (number_of (word_of text)) (number_of last)) (comment_of text)
 
 abbrev pub range_after : List ℕ → List ℕ → Option SerialRange
-range_after head line = option_and_then (passing is_range) (option_and_then range_of (after head line))
+range_after head line = option_and_then (passing is_range) (option_and_then range_of (rest_after head line))
 
 -- ---- messages
 
@@ -155,7 +155,7 @@ range_after head line = option_and_then (passing is_range) (option_and_then rang
 unfoldable pub department_in : List (List ℕ) → Result Department ℕ
 department_in ps = do
   name ← or_fault 1 (name_after (codes "department ") (line_of 1 ps))
-  kind ← or_fault 2 (kind_of (line_of 2 ps))
+  kind ← or_fault 2 (kind_of_line (line_of 2 ps))
   administrators ← or_fault 3 (list_after are_administrators (codes "admins") (line_of 3 ps))
   rules ← or_fault 4 (list_after are_rules (codes "principals") (line_of 4 ps))
   options ← or_fault 5 (list_after (λ ts. are_option_names ts && fits_kind kind ts) (codes "options") (line_of 5 ps))
@@ -230,7 +230,7 @@ one_line_in read ps = do
 
 -- whether line 1 begins with these bytes
 abbrev pub begins : List ℕ → List (List ℕ) → Bool
-begins head ps = is_some (after head (line_of 1 ps))
+begins head ps = is_some (rest_after head (line_of 1 ps))
 
 -- the message made from a value
 abbrev pub made : {A B : Type 0} → (A → B) → Result A ℕ → Result B ℕ

@@ -39,12 +39,12 @@ kind_text User = codes "user"
 kind_text Host = codes "host"
 
 -- the name of an option and, unless it is a flag, a space and the value
-abbrev pub option_text : Pair → List ℕ
-option_text p = if is_flag p.name then p.name else line p.name p.value
+abbrev pub option_words : Pair → List ℕ
+option_words p = if is_flag p.name then p.name else line p.name p.value
 
 -- the line of an option
 abbrev pub option_line : Pair → List ℕ
-option_line p = line (codes "option") (option_text p)
+option_line p = line (codes "option") (option_words p)
 
 -- the lines of a department
 abbrev pub department_lines : Department → List (List ℕ)
@@ -79,8 +79,8 @@ delivery_lines d =
     ∷ line (codes "signature") (signature_text d.signature) ∷ []
 
 -- the first serial, a space and the last
-abbrev pub range_text : SerialRange → List ℕ
-range_text r = line (decimal r.lo) (decimal r.hi)
+abbrev pub range_words : SerialRange → List ℕ
+range_words r = line (decimal r.lo) (decimal r.hi)
 
 -- the lines of a message
 abbrev pub message_lines : Message → List (List ℕ)
@@ -89,7 +89,7 @@ message_lines (message.Issue i) = issue_lines i
 message_lines (message.Renew r) = renewal_lines r
 message_lines (message.Deliver d) = delivery_lines d
 message_lines (message.RevokeSerial serial) = line (codes "revoke-serial") (decimal serial) ∷ []
-message_lines (message.RevokeRange r) = line (codes "revoke-range") (range_text r) ∷ []
+message_lines (message.RevokeRange r) = line (codes "revoke-range") (range_words r) ∷ []
 message_lines (message.RevokeKeyId key_id) = line (codes "revoke-keyid") key_id ∷ []
 message_lines (message.Rollover key) = line (codes "rollover") (key_line_text key) ∷ []
 

@@ -61,12 +61,12 @@ abbrev pub is_end : ℕ → Bool
 is_end n = nat_le n 253402300799
 
 -- a known critical option with a valid value
-abbrev pub is_option : Pair → Bool
-is_option p = is_known CriticalOptions p.name && is_option_value p.name p.value
+abbrev pub is_critical_option : Pair → Bool
+is_critical_option p = is_known CriticalOptions p.name && is_option_value p.name p.value
 
 -- 0 to 3 critical options with distinct names
 abbrev pub are_options : List Pair → Bool
-are_options ps = nat_le (length ps) 3 && (list_all is_option ps && are_distinct (map (λ p. p.name) ps))
+are_options ps = nat_le (length ps) 3 && (list_all is_critical_option ps && are_distinct (map (λ p. p.name) ps))
 
 -- a department with a valid name and a valid profile
 abbrev pub is_department : Department → Bool

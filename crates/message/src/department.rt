@@ -2,8 +2,8 @@
 
 ghost use Rattle.std.specs.Prelude.{◌≡◌, IfOk, codes, map};
 ghost use Rattle.text.specs.Results.{or_fault};
-ghost use Rattle.message.specs.Parts.{department_of, namespaces_in, profile_in};
-ghost use Rattle.message.specs.Reading.{Gives, department_in, kind_of, line_of, made, number_after};
+ghost use Rattle.message.specs.Parts.{department_with, namespaces_in, profile_in};
+ghost use Rattle.message.specs.Reading.{Gives, department_in, kind_of_line, line_of, made, number_after};
 ghost use Rattle.message.specs.declared.kinds.Message.TheVariants as message;
 ghost use Rattle.message.specs.Values.{fits_kind, is_longest_life};
 
@@ -63,7 +63,7 @@ impl Department {
 
 /// The kind on line 2.
 fn kind_in(pieces: &[&[u8]]) -> Result<Kind, MessageFault>
-    ensures { Gives result (or_fault 2 (kind_of (line_of 2 (map (λ x. x.now) pieces.now)))) }
+    ensures { Gives result (or_fault 2 (kind_of_line (line_of 2 (map (λ x. x.now) pieces.now)))) }
 {
     let line = line(pieces, 2);
     if line == b"kind user".as_slice() {
@@ -129,7 +129,7 @@ fn profile_in(alloc: Global, pieces: &[&[u8]]) -> Result<Profile, MessageFault>
 
 /// The department with this name and this profile.
 fn department_of(name: Text, profile: Profile) -> Department
-    ensures { result ≡ department_of name profile }
+    ensures { result ≡ department_with name profile }
 {
     let (kind, (((administrators, rules), (options, extensions)), (longest_life, namespaces))) =
         profile;

@@ -3,7 +3,7 @@
 ghost use Rattle.std.specs.Prelude.{◌≡◌, ◌≤◌, map, IfOk, option_copied};
 ghost use Rattle.std.specs.Option.{option_and_then};
 ghost use Rattle.values.specs.Decimals.{number_of};
-ghost use Rattle.message.specs.Reading.{after, ends_after, line_of, listed};
+ghost use Rattle.message.specs.Reading.{rest_after, ends_after, line_of, texts_in_list};
 
 use std::alloc::Global;
 use text::{NoMemory, Text, Texts, cut};
@@ -31,14 +31,14 @@ pub(crate) fn ends_after(pieces: &[&[u8]], n: usize) -> bool
 
 /// The rest of the line after these bytes.
 pub(crate) fn after<'a>(line: &'a [u8], head: &[u8]) -> Option<&'a [u8]>
-    ensures { option_copied result ≡ after head.now line.now }
+    ensures { option_copied result ≡ rest_after head.now line.now }
 {
     line.strip_prefix(head)
 }
 
 /// A number after these bytes.
 pub(crate) fn number_after(line: &[u8], head: &[u8]) -> Option<u64>
-    ensures { result ≡ option_and_then number_of (after head.now line.now) }
+    ensures { result ≡ option_and_then number_of (rest_after head.now line.now) }
 {
     read_decimal(after(line, head)?)
 }
@@ -54,7 +54,7 @@ fn texts(alloc: Global, parts: &[&[u8]]) -> Result<Texts, NoMemory>
 }
 
 fn listed(alloc: Global, text: &[u8]) -> Result<Option<Texts>, NoMemory>
-    ensures { IfOk result (λ o. o ≡ listed text.now) }
+    ensures { IfOk result (λ o. o ≡ texts_in_list text.now) }
 {
     match text {
         [] => Ok(Some(Texts::new(alloc))),
@@ -68,7 +68,7 @@ fn listed(alloc: Global, text: &[u8]) -> Result<Option<Texts>, NoMemory>
 
 /// The texts after this word: none if the word is alone, else those after a space, separated by commas.
 pub(crate) fn list_after(alloc: Global, line: &[u8], word: &[u8]) -> Result<Option<Texts>, NoMemory>
-    ensures { IfOk result (λ o. o ≡ option_and_then listed (after word.now line.now)) }
+    ensures { IfOk result (λ o. o ≡ option_and_then texts_in_list (rest_after word.now line.now)) }
 {
     let Some(text) = after(line, word) else {
         return Ok(None);

@@ -1,8 +1,8 @@
 //! Option lines.
 
 ghost use Rattle.std.specs.Prelude.{◌≡◌, IfOk};
-ghost use Rattle.message.specs.Reading.{is_new_option, option_after, pair_of};
-ghost use Rattle.message.specs.Values.{is_option};
+ghost use Rattle.message.specs.Reading.{is_new_option, option_after, option_in};
+ghost use Rattle.message.specs.Values.{is_critical_option};
 
 use crate::line::after;
 use lines::word_and_rest;
@@ -22,7 +22,7 @@ fn copied(alloc: Global, name: &[u8], value: &[u8]) -> Result<Pair, NoMemory>
 
 /// The option in a text: the name of a flag alone, or any other name, a space and a value.
 fn pair_of(alloc: Global, text: &[u8]) -> Result<Option<Pair>, NoMemory>
-    ensures { IfOk result (λ o. o ≡ pair_of text.now) }
+    ensures { IfOk result (λ o. o ≡ option_in text.now) }
 {
     let (name, value) = word_and_rest(text);
     match value {
@@ -43,7 +43,7 @@ fn pair_of(alloc: Global, text: &[u8]) -> Result<Option<Pair>, NoMemory>
 
 /// Whether this is a known critical option with a valid value.
 pub fn is_option(option: &Pair) -> bool
-    ensures { result ≡ is_option option.now }
+    ensures { result ≡ is_critical_option option.now }
 {
     let name = option.name.as_slice();
     is_known(OptionField::CriticalOptions, name) && is_option_value(name, option.value.as_slice())

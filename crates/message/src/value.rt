@@ -7,7 +7,7 @@ ghost use Rattle.text.specs.Results.{or_fault};
 ghost use Rattle.message.specs.Kinds.{is_text};
 ghost use Rattle.message.specs.Reading.{
   Gives,
-  after,
+  rest_after,
   digest_after,
   key_line_after,
   line_of,
@@ -41,7 +41,7 @@ pub(crate) fn text_after(
 ) -> Result<Text, MessageFault>
     requires { 1 ≤ n }
     ensures { Gives result (or_fault n
-        (option_and_then (passing (is_text kind)) (after head.now (line_of n (map (λ x. x.now) pieces.now))))) }
+        (option_and_then (passing (is_text kind)) (rest_after head.now (line_of n (map (λ x. x.now) pieces.now))))) }
 {
     match after(line(pieces, n), head) {
         Some(text) if is_text(kind, text) => Ok(Text::from_slice(alloc, text)?),

@@ -12,7 +12,7 @@ ghost use Rattle.message.specs.Texts.{
   list_line,
   message_text,
   option_line,
-  range_text,
+  range_words,
   renewal_lines,
   signature_text,
 };
@@ -156,7 +156,7 @@ fn put_delivery(out: &mut Vec<u8>, delivery: &Delivery) -> Result<(), NoMemory>
 
 fn put_range(out: &mut Vec<u8>, range: SerialRange) -> Result<(), NoMemory>
     ensures { OnOk result (out.new.items ≡ out.old.items
-        ++ lines_text (line (codes "revoke-range") (range_text range) ∷ [])) }
+        ++ lines_text (line (codes "revoke-range") (range_words range) ∷ [])) }
 {
     out.extend_from_slice(b"revoke-range ")?;
     put_decimal(out, range.lo)?;

@@ -6,11 +6,11 @@ use Rattle.std.specs.Str.{bytes_eq}
 use Rattle.office.specs.State.{State}
 use Rattle.office.specs.declared.certificate.Certificate.{Certificate}
 use Rattle.office.specs.declared.listing.Revocations.{Revocations}
-use Rattle.office.specs.Listing.{AreRevocations, is_among}
+use Rattle.office.specs.Listing.{AreRevocations, is_certificate_among}
 use Rattle.office.specs.Publication.{is_certificate_revoked}
 
 -- a certificate is among the state's revocations exactly when the state revokes it
-pub among_is : (r : Revocations) (s : State) (c : Certificate) → AreRevocations r s → is_among r c ≡ is_certificate_revoked s c
+pub among_is : (r : Revocations) (s : State) (c : Certificate) → AreRevocations r s → is_certificate_among r c ≡ is_certificate_revoked s c
 among_is r s c are =
     ap₂ (λ (b : Bool) (ids : List (List _)). b || list_any (λ k. bytes_eq k c.fields.key_id) ids)
     (are.serials c.fields.serial) are.key_ids

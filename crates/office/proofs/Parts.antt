@@ -9,7 +9,7 @@ use Rattle.krl.specs.Sets.{AreRuns, contains, is_counted, is_last_reached, runs_
 use Rattle.krl.proofs.Counting.{are_counted, runs_in_only}
 use Rattle.office.specs.declared.ca.Ca.{Ca}
 use Rattle.office.specs.State.{State, next_serial}
-use Rattle.office.specs.Parts.{AreParts, AreSplit, numbers, zipped}
+use Rattle.office.specs.Parts.{AreParts, AreSplitByCa, numbers, zipped}
 use Rattle.office.specs.Publication.{is_revoked_under, parts_from, published_parts}
 
 -- only serials that were handed out are revoked
@@ -27,7 +27,7 @@ abbrev runs_under : State → ℕ → List Run
 runs_under s k = runs_in (is_revoked_under s k) s.opening.first (length s.certificates)
 
 -- the ranges in a split are those of the published part
-run_of_part : (s : State) (serials : List Run) (split : List (List Run)) (k : ℕ) → AreSplit split s.cas serials
+run_of_part : (s : State) (serials : List Run) (split : List (List Run)) (k : ℕ) → AreSplitByCa split s.cas serials
     → ((n : ℕ) → contains serials n ≡ s.revoked n) → AreIssued s → k < length s.cas
     → AreRuns (slice_index_or split k []) → slice_index_or split k [] ≡ runs_under s k
 run_of_part s serials split k are of issued there runs =

@@ -4,13 +4,13 @@ use Rattle.office.specs.declared.store_fault.StoreFault.TheVariants.{AlreadyAnOf
 use Rattle.office.specs.declared.store_fault.StoreFault.TheVariants.{Device, NoMemory}
 
 -- a failure of the database is reported only if there was one
-abbrev pub HasCause : StoreFault → Type 0 → Type 0
-HasCause Device failed = failed
-HasCause AlreadyAnOffice failed = Unit {0}
-HasCause NotAnOffice failed = Unit {0}
-HasCause WrongSchema failed = Unit {0}
-HasCause Damaged failed = Unit {0}
-HasCause NoMemory failed = Unit {0}
+abbrev pub HasRegisterCause : StoreFault → Type 0 → Type 0
+HasRegisterCause Device failed = failed
+HasRegisterCause AlreadyAnOffice failed = Unit {0}
+HasRegisterCause NotAnOffice failed = Unit {0}
+HasRegisterCause WrongSchema failed = Unit {0}
+HasRegisterCause Damaged failed = Unit {0}
+HasRegisterCause NoMemory failed = Unit {0}
 
 -- a register that means a history fails only for lack of memory or because the database failed
 abbrev pub IsOfARegister : StoreFault → Type 0

@@ -19,8 +19,8 @@ abbrev pub is_named : Revocations → (serial : ℕ) → (key_id : List ℕ) →
 is_named r serial key_id = contains r.serials serial || list_any (λ k. bytes_eq k key_id) r.key_ids.items
 
 -- the certificate's serial or its key ID is among these revocations
-abbrev pub is_among : Revocations → Certificate → Bool
-is_among r c = is_named r c.fields.serial c.fields.key_id
+abbrev pub is_certificate_among : Revocations → Certificate → Bool
+is_certificate_among r c = is_named r c.fields.serial c.fields.key_id
 
 -- up to 1000 certificates by serial, from this place on
 abbrev pub batch_of : State → ℕ → List Certificate
@@ -28,7 +28,7 @@ batch_of s place = take 1000 (drop place s.certificates)
 
 -- the row of a certificate if it is neither signed nor among these revocations, and otherwise nothing
 abbrev pub waiting_row : Revocations → Certificate → List Pending
-waiting_row r c = if is_none c.signature && not (is_among r c) then pending_row c ∷ [] else []
+waiting_row r c = if is_none c.signature && not (is_certificate_among r c) then pending_row c ∷ [] else []
 
 -- the rows of those certificates that are neither signed nor among these revocations
 abbrev pub waiting_rows : Revocations → List Certificate → List Pending

@@ -18,7 +18,7 @@ abbrev pub zipped : List Ca → List (List Run) → List CaPart
 zipped cas split = map part_with (zip cas split)
 
 -- a list of ranges for each CA: those serials from its first serial on that come before every later CA's first serial
-pub record AreSplit (split : List (List Run)) (cas : List Ca) (serials : List Run) : Type 0 where
+pub record AreSplitByCa (split : List (List Run)) (cas : List Ca) (serials : List Run) : Type 0 where
   pub size : length split ≡ length cas
   pub runs : All AreRuns split
   pub each : (k n : ℕ) → k < length cas
@@ -26,4 +26,4 @@ pub record AreSplit (split : List (List Run)) (cas : List Ca) (serials : List Ru
 
 -- the parts are zipped from such a split
 abbrev pub AreParts : List CaPart → List Ca → List Run → Type 0
-AreParts parts cas serials = (split : List (List Run)) × AreSplit split cas serials × (parts ≡ zipped cas split)
+AreParts parts cas serials = (split : List (List Run)) × AreSplitByCa split cas serials × (parts ≡ zipped cas split)

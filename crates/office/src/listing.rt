@@ -3,7 +3,7 @@
 ghost use Rattle.std.specs.Prelude.{◌≡◌, ◌+◌, ◌++◌, IfOk, OnOk, length};
 ghost use Rattle.std.specs.List.{list_any};
 ghost use Rattle.std.specs.Str.{bytes_eq};
-ghost use Rattle.office.specs.Listing.{is_among, is_named, waiting_row, waiting_rows};
+ghost use Rattle.office.specs.Listing.{is_certificate_among, is_named, waiting_row, waiting_rows};
 
 use crate::certificate::Certificate;
 use crate::publication::Pending;
@@ -31,7 +31,7 @@ impl Revocations {
 
     /// Whether the certificate's serial or its key ID is among these revocations.
     pub fn has(&self, certificate: &Certificate) -> bool
-        ensures { result ≡ is_among self.now certificate.now }
+        ensures { result ≡ is_certificate_among self.now certificate.now }
     {
         let fields = &certificate.fields;
         self.names(fields.serial, fields.key_id.as_slice())

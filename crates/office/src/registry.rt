@@ -8,7 +8,7 @@ ghost use Rattle.office.specs.Listing.{AreRevocations, batch_of};
 ghost use Rattle.office.specs.Publication.{AreRevoked, departments_of, issued_of, pending_of};
 ghost use Rattle.office.specs.History.{due, state};
 ghost use Rattle.office.specs.Shows.{IsOffice};
-ghost use Rattle.office.specs.Faults.{HasCause};
+ghost use Rattle.office.specs.Faults.{HasRegisterCause};
 ghost use Rattle.office.specs.Registers.{AnswersBy, FailsAsARegister, FailsWithin, FailuresPersist, MeansOneMore};
 ghost use Rattle.office.specs.Registers.{MeansTheSame, Preserves};
 
@@ -59,7 +59,7 @@ pub trait Registry {
         ensures next { is_honest self.new → OnOk result (MeansOneMore means arrival self.old self.new) }
         ensures fault { is_honest self.new → OnErr result (MeansTheSame means self.old self.new) }
         ensures before { is_honest self.new → is_open self.new → OnErr result (is_as_before self.old self.new) }
-        ensures cause { IfErr result (λ e. HasCause e (stops self.old self.new arrival)) }
+        ensures cause { IfErr result (λ e. HasRegisterCause e (stops self.old self.new arrival)) }
         ensures only { is_honest self.new → FailsAsARegister means self.old result };
 
     /// The CAs by number.
@@ -67,7 +67,7 @@ pub trait Registry {
         ensures preserves { Preserves is_honest is_open is_as_before means self.old self.new }
         ensures stays_open { is_honest self.new → OnOk result (is_open self.new) }
         ensures row { is_honest self.new → AnswersBy means self.old result (λ o l cas. cas.items ≡ (state o l).cas) }
-        ensures cause { IfErr result (λ e. HasCause e (fails self.old self.new)) }
+        ensures cause { IfErr result (λ e. HasRegisterCause e (fails self.old self.new)) }
         ensures only { is_honest self.new → FailsAsARegister means self.old result };
 
     /// The body (the unsigned certificate) for a serial, or `None` if the serial wasn't issued.
@@ -76,7 +76,7 @@ pub trait Registry {
         ensures stays_open { is_honest self.new → OnOk result (is_open self.new) }
         ensures row { is_honest self.new → AnswersBy means self.old result
             (λ o l body. body ≡ body_of (state o l) serial) }
-        ensures cause { IfErr result (λ e. HasCause e (fails self.old self.new)) }
+        ensures cause { IfErr result (λ e. HasRegisterCause e (fails self.old self.new)) }
         ensures only { is_honest self.new → FailsAsARegister means self.old result };
 
     /// The certificate for a serial, or `None` if the serial wasn't issued.
@@ -85,7 +85,7 @@ pub trait Registry {
         ensures stays_open { is_honest self.new → OnOk result (is_open self.new) }
         ensures row { is_honest self.new → AnswersBy means self.old result
             (λ o l issued. issued ≡ issued_of (state o l) serial) }
-        ensures cause { IfErr result (λ e. HasCause e (fails self.old self.new)) }
+        ensures cause { IfErr result (λ e. HasRegisterCause e (fails self.old self.new)) }
         ensures only { is_honest self.new → FailsAsARegister means self.old result };
 
     /// The contents of the published list.
@@ -94,7 +94,7 @@ pub trait Registry {
         ensures stays_open { is_honest self.new → OnOk result (is_open self.new) }
         ensures row { is_honest self.new → AnswersBy means self.old result
             (λ o l revoked. AreRevoked revoked (state o l)) }
-        ensures cause { IfErr result (λ e. HasCause e (fails self.old self.new)) }
+        ensures cause { IfErr result (λ e. HasRegisterCause e (fails self.old self.new)) }
         ensures only { is_honest self.new → FailsAsARegister means self.old result };
 
     /// The departments by name.
@@ -103,7 +103,7 @@ pub trait Registry {
         ensures stays_open { is_honest self.new → OnOk result (is_open self.new) }
         ensures row { is_honest self.new → AnswersBy means self.old result
             (λ o l rows. rows.items ≡ departments_of (state o l)) }
-        ensures cause { IfErr result (λ e. HasCause e (fails self.old self.new)) }
+        ensures cause { IfErr result (λ e. HasRegisterCause e (fails self.old self.new)) }
         ensures only { is_honest self.new → FailsAsARegister means self.old result };
 
     /// The serials and the key IDs that are revoked.
@@ -112,7 +112,7 @@ pub trait Registry {
         ensures stays_open { is_honest self.new → OnOk result (is_open self.new) }
         ensures row { is_honest self.new → AnswersBy means self.old result
             (λ o l revocations. AreRevocations revocations (state o l)) }
-        ensures cause { IfErr result (λ e. HasCause e (fails self.old self.new)) }
+        ensures cause { IfErr result (λ e. HasRegisterCause e (fails self.old self.new)) }
         ensures only { is_honest self.new → FailsAsARegister means self.old result };
 
     /// Certificates by serial, the first at place 0: at most 1000 of them from this place on, and none at the end.
@@ -121,7 +121,7 @@ pub trait Registry {
         ensures stays_open { is_honest self.new → OnOk result (is_open self.new) }
         ensures row { is_honest self.new → AnswersBy means self.old result
             (λ o l rows. rows.items ≡ batch_of (state o l) place) }
-        ensures cause { IfErr result (λ e. HasCause e (fails self.old self.new)) }
+        ensures cause { IfErr result (λ e. HasRegisterCause e (fails self.old self.new)) }
         ensures only { is_honest self.new → FailsAsARegister means self.old result };
 
     /// The certificates that are neither signed nor revoked, by serial. The default implementation looks through all
@@ -131,7 +131,7 @@ pub trait Registry {
         ensures stays_open { is_honest self.new → OnOk result (is_open self.new) }
         ensures row { is_honest self.new → AnswersBy means self.old result
             (λ o l rows. rows.items ≡ pending_of (state o l)) }
-        ensures cause { is_honest self.new → IfErr result (λ e. HasCause e (FailsWithin means fails self.old self.new)) }
+        ensures cause { is_honest self.new → IfErr result (λ e. HasRegisterCause e (FailsWithin means fails self.old self.new)) }
         ensures only { is_honest self.new → FailsAsARegister means self.old result }
     {
         let revocations = self.revocations(alloc)?;

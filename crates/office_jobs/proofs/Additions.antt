@@ -19,11 +19,11 @@ use Rattle.office_jobs.specs.declared.job_fault.JobFault.TheVariants as fault
 use Rattle.office_jobs.specs.declared.reporting.Report.{Report}
 use Rattle.office_jobs.specs.declared.reporting.Report.TheVariants as report
 use Rattle.office_jobs.specs.Applying.{Applies}
-use Rattle.office_jobs.specs.Jobs.{Does}
-use Rattle.office_jobs.specs.Listing.{Lists}
-use Rattle.office_jobs.specs.Making.{Makes, Migrates}
+use Rattle.office_jobs.specs.Jobs.{DoesOfficeJob}
+use Rattle.office_jobs.specs.Listing.{ListingEnds}
+use Rattle.office_jobs.specs.Making.{MakingEnds, MigratingEnds}
 use Rattle.office_jobs.specs.Reporting.{IsReport}
-use Rattle.office_jobs.specs.Serving.{Heard, Serves}
+use Rattle.office_jobs.specs.Serving.{Heard, ServingEnds}
 
 -- tables that represent what they represented before add nothing
 adds_none : (old new : State) → KeepsTelling old new → AddsArrivals old new
@@ -44,7 +44,7 @@ module _ (old new : State) (was : IsTrue old.is_open) where
   not_new : old.now.schema ≢ whole → AddsArrivals old new
   not_new none o l told = absurd (none (told.rows was).now.schema)
 
-  made : (opening : Opening) (r : Result Unit JobFault) → Makes opening old new r → AddsArrivals old new
+  made : (opening : Opening) (r : Result Unit JobFault) → MakingEnds opening old new r → AddsArrivals old new
   made opening (Ok done) h = not_new h.unlike
   made opening (Err fault.NoMemory) h = adds_none old new h.tells
   made opening (Err (fault.Store e)) h = adds_none old new h.tells
@@ -59,7 +59,7 @@ module _ (old new : State) (was : IsTrue old.is_open) where
   made opening (Err (fault.List x)) h = absurd h
   made opening (Err fault.Fault) h = absurd h
 
-  moved : (r : Result Unit JobFault) → Migrates old new r → AddsArrivals old new
+  moved : (r : Result Unit JobFault) → MigratingEnds old new r → AddsArrivals old new
   moved (Ok done) h = not_new h.unlike
   moved (Err fault.NoMemory) h = adds_none old new h.tells
   moved (Err (fault.Store e)) h = adds_none old new h.tells
@@ -94,7 +94,7 @@ module _ (old new : State) (was : IsTrue old.is_open) where
   applied exchanges held holds (Err (fault.Opening x)) h = absurd h
   applied exchanges held holds (Err (fault.List x)) h = absurd h
 
-  listed : (held holds : Option (List ℕ)) (r : Result Unit JobFault) → Lists old new held holds r → AddsArrivals old new
+  listed : (held holds : Option (List ℕ)) (r : Result Unit JobFault) → ListingEnds old new held holds r → AddsArrivals old new
   listed held holds (Ok done) h = adds_none old new (λ o l told. (h.1.2 o l told).1.tells)
   listed held holds (Err fault.Write) h = adds_none old new (λ o l told. (h.1 o l told).tells)
   listed held holds (Err fault.NoMemory) h = adds_none old new h.1.tells
@@ -126,7 +126,7 @@ module _ (old new : State) (was : IsTrue old.is_open) where
   reported which held holds (Err fault.Fault) h = absurd h
 
   pub done : (job : OfficeJob) (held holds : Option (List ℕ)) (r : Result Unit JobFault)
-      → Does job old new held holds r → AddsArrivals old new
+      → DoesOfficeJob job old new held holds r → AddsArrivals old new
   done (job.Init opening) held holds r h = made opening.now r h.0
   done (job.Apply exchanges) held holds r h = applied exchanges.now held holds r h
   done job.Krl held holds r h = listed held holds r h
@@ -135,7 +135,7 @@ module _ (old new : State) (was : IsTrue old.is_open) where
   done job.Migrate held holds r h = moved r h.0
 
   pub served : (connections : ℕ) (source : Option (List ℕ)) (heard : Heard) (held holds : Option (List ℕ))
-      (r : Result ℕ JobFault) → Serves connections source heard old new held holds r → AddsArrivals old new
+      (r : Result ℕ JobFault) → ServingEnds connections source heard old new held holds r → AddsArrivals old new
   served connections source heard held holds (Ok status) h =
       λ o l told. let more = h.4.served o l told in (more.more, more.history)
   served connections source heard held holds (Err fault.Socket) h = adds_none old new h.2

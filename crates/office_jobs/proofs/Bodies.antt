@@ -5,7 +5,7 @@ use Rattle.std.proofs.lemmas.Bool.{cond-true, lt-ltb}
 use Rattle.http_requests.specs.declared.response.MediaType.TheVariants.{PlainText}
 use Rattle.http_requests.specs.Responses.{phrase, response_text}
 use Rattle.values.proofs.Lacking.{after_first-append, before_first-append, decimal_lacks}
-use Rattle.exchanges.specs.Reading.{after, cut_of}
+use Rattle.exchanges.specs.Reading.{rest_after, cut_of}
 
 -- the bytes before the digits of the body's length
 abbrev pub head : List ℕ
@@ -21,8 +21,8 @@ in_parts body = ap (λ (t : List ℕ). head ++ t) (append_assoc (decimal (length
 
 -- the length and the rest follow the head
 pub sized_found : (response body : List ℕ) → response ≡ response_text 200 PlainText body
-    → after head response ≡ Some (decimal (length body) ++ 13 ∷ (end ++ body))
-sized_found response body same = ap (after head) (same ∙ in_parts body)
+    → rest_after head response ≡ Some (decimal (length body) ++ 13 ∷ (end ++ body))
+sized_found response body same = ap (rest_after head) (same ∙ in_parts body)
 
 abbrev Cut : Type 0
 Cut = List ℕ × List ℕ

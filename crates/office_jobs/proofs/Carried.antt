@@ -14,7 +14,7 @@ use Rattle.store.specs.Meaning.{DiskFailed, KeepsTelling}
 use Rattle.headline.specs.Headline.{OfficePrints, OfficeRuns}
 use Rattle.office_jobs.specs.declared.job_fault.JobFault.{JobFault}
 use Rattle.office_jobs.specs.Faults.{of_store, run_result}
-use Rattle.office_jobs.specs.Opening.{IsLeft, IsOpened, IsUnopened}
+use Rattle.office_jobs.specs.Opening.{IsUnprinted, IsOpened, IsUnopened}
 use Rattle.office_jobs.specs.Applying.{Applies}
 
 -- ---- unchanged databases
@@ -49,7 +49,7 @@ of_a_register A store.Damaged h = h
 -- a database that wasn't opened is left as it was
 pub unopened_left : (old new : State) (held holds : Option (List ℕ)) (e : StoreFault) → IsUnopened old new e
     → holds ≡ held
-    → IsLeft old new held holds e
+    → IsUnprinted old new held holds e
 unopened_left old new held holds e u same = record {
   unprinted = same;
   tells = u.tells;
@@ -58,7 +58,7 @@ unopened_left old new held holds e u same = record {
 
 -- what a fault leaves of an opened office, it leaves of the database
 pub left_from : (old mid new : State) (held holds : Option (List ℕ)) (e : StoreFault) → IsOpened old mid
-    → IsLeft mid new held holds e → IsLeft old new held holds e
+    → IsUnprinted mid new held holds e → IsUnprinted old new held holds e
 left_from old mid new held holds e opened left = record {
   unprinted = left.unprinted;
   tells = λ o l m. left.tells o l (opened.tells o l m);
@@ -86,7 +86,7 @@ runs_from old mid new es tells r = (r.0, λ o l m. r.1 o l (tells o l m))
 
 -- nothing was run over an opened office
 unrun : (old mid new : State) (held holds : Option (List ℕ)) → IsOpened old mid → new ≡ mid → holds ≡ held
-    → IsAsBefore old new × IsLeft old new held holds store.NoMemory
+    → IsAsBefore old new × IsUnprinted old new held holds store.NoMemory
 unrun old mid new held holds opened stays silent = (
   subst (λ (s : State). IsAsBefore old s) (sym stays) opened.before,
   record {

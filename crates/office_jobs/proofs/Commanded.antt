@@ -7,13 +7,13 @@ use Rattle.command_line.specs.declared.job.Job.{Job}
 use Rattle.command_line.specs.declared.job.Job.TheVariants as job
 use Rattle.office_jobs.specs.declared.world.World.{Ghosts}
 use Rattle.office_jobs.specs.declared.job_fault.JobFault.{JobFault}
-use Rattle.office_jobs.specs.Commands.{DoesJob, Ends, Runs}
+use Rattle.office_jobs.specs.Commands.{DoesJob, EndsCommand, Runs}
 
 pub not_served : {W File Tables Incoming Reader Writer : Type 0} (store : store.Ghosts Tables)
     (world : Ghosts W File (Held Tables) Incoming Reader Writer) (remaining : File → Option (List ℕ))
     (book : Incoming → Option Book) (w w' : W) (asked : Job) (held holds : Option (List ℕ)) (result : Result ℕ JobFault)
     → ((db : _) (port connections : ℕ) (nonces : _) → asked ≡ job.Serve db port connections nonces → ⊥)
-    → Ends (DoesJob store world remaining book w w' asked held) holds result
+    → EndsCommand (DoesJob store world remaining book w w' asked held) holds result
     → Runs store world remaining book w w' asked held holds result
 not_served store world remaining book w w' (job.Serve db port connections nonces) held holds result never h =
     absurd (never db port connections nonces refl)

@@ -36,13 +36,13 @@ use Rattle.office_jobs.specs.declared.job_fault.JobFault.{JobFault}
 use Rattle.office_jobs.specs.declared.job_fault.JobFault.TheVariants as fault
 use Rattle.office_jobs.specs.declared.reporting.Report.TheVariants as report
 use Rattle.office_jobs.specs.Applying.{Applies}
-use Rattle.office_jobs.specs.Asked.{AsksExchanges, AsksOffice, AsksResource, AsksServing, IsShown, asked_by}
+use Rattle.office_jobs.specs.Asked.{AsksExchanges, AsksOffice, AsksResource, AsksServing, IsShown, asked_in_visits}
 use Rattle.office_jobs.specs.Asked.{founding_asked, nothing_asked}
-use Rattle.office_jobs.specs.Jobs.{Does, IsLawful, IsMaking}
-use Rattle.office_jobs.specs.Listing.{Lists}
-use Rattle.office_jobs.specs.Making.{IsUnmade, Makes, Migrates}
+use Rattle.office_jobs.specs.Jobs.{DoesOfficeJob, IsLawfulJob, IsMaking}
+use Rattle.office_jobs.specs.Listing.{ListingEnds}
+use Rattle.office_jobs.specs.Making.{IsUnmade, MakingEnds, MigratingEnds}
 use Rattle.office_jobs.specs.Reporting.{IsReport}
-use Rattle.office_jobs.specs.Serving.{Heard, Serves}
+use Rattle.office_jobs.specs.Serving.{Heard, ServingEnds}
 use Rattle.office_jobs.proofs.Asking.{asks_list, asks_signers, asks_table}
 
 -- ---- exchanges that were not run
@@ -218,7 +218,7 @@ module _ (old new : State) where
       unrun (x ∷ []) r refuses tells,
     )
 
-  listed : (held holds : Option (List ℕ)) (r : Result (Unit {0}) JobFault) → Refuses r → Lists old new held holds r
+  listed : (held holds : Option (List ℕ)) (r : Result (Unit {0}) JobFault) → Refuses r → ListingEnds old new held holds r
       → Shown RevocationList Bytes held holds r
   listed held holds (Ok done) refuses h =
       showed RevocationList Bytes list_get asks_list done held holds h.1.0 h.1.1 refuses (λ o l told.
@@ -296,7 +296,7 @@ module _ (old new : State) where
 
   -- ---- migrated tables
 
-  moved : IsTrue old.is_open → (r : Result (Unit {0}) JobFault) → Migrates old new r → KeepsTelling old new
+  moved : IsTrue old.is_open → (r : Result (Unit {0}) JobFault) → MigratingEnds old new r → KeepsTelling old new
   moved was (Ok done) h = λ o l told. absurd (h.unlike (told.rows was).now.schema)
   moved was (Err fault.NoMemory) h = h.tells
   moved was (Err (fault.Store e)) h = h.tells
@@ -331,7 +331,7 @@ module _ (old new : State) where
       );
     }
 
-    founded : (r : Result (Unit {0}) JobFault) → Makes opening old new r → DoesAsked (founding_asked opening) old new
+    founded : (r : Result (Unit {0}) JobFault) → MakingEnds opening old new r → DoesAsked (founding_asked opening) old new
     founded (Ok done) h = record {
       office = λ o l told. absurd (h.unlike (told.rows was).now.schema);
       none = λ blank. (
@@ -368,8 +368,8 @@ module _ (old new : State) where
 
   module _ (clean : HasCleanDisk new) (was : IsTrue old.is_open)
       (settled : (trees : Trees) → IsTrue new.is_open → new.may_leave trees → trees ≡ new.committed.trees) where
-    pub does_asked : (job : OfficeJob) (held holds : Option (List ℕ)) (r : Result (Unit {0}) JobFault) → IsLawful job
-        → ((IsMaking job → ⊥) → Refuses r) → Does job old new held holds r → Did job held holds r
+    pub does_asked : (job : OfficeJob) (held holds : Option (List ℕ)) (r : Result (Unit {0}) JobFault) → IsLawfulJob job
+        → ((IsMaking job → ⊥) → Refuses r) → DoesOfficeJob job old new held holds r → Did job held holds r
     does_asked (job.Init opening) held holds r lawful refuses h =
         (founding_asked opening.now, refl, founded clean was settled opening.now lawful r h.0)
     does_asked (job.Apply exchanges) held holds r lawful refuses h =
@@ -389,11 +389,11 @@ module _ (old new : State) where
 
   pub serves_asked : HasCleanDisk new → (connections : ℕ) (nonces : Option (List ℕ)) (heard : Heard)
       (held holds : Option (List ℕ)) (r : Result ℕ JobFault) → Refuses r
-      → Serves connections nonces heard old new held holds r → DidServe connections nonces heard r
+      → ServingEnds connections nonces heard old new held holds r → DidServe connections nonces heard r
   serves_asked clean n nonces heard held holds (Ok zero) refuses h =
       let met = h.4.met refl in
       let visits = met.2.visits in (
-        asked_by visits,
+        asked_in_visits visits,
         record {
           book = h.0;
           port = h.1;
@@ -409,7 +409,7 @@ module _ (old new : State) where
           };
           unmet = λ failed. absurd (omega (arith, failed));
         },
-        ran (asked_by visits).exchanges (asked_by visits).given
+        ran (asked_in_visits visits).exchanges (asked_in_visits visits).given
             (λ o l told. let s = met.2.served clean o l told in (s.0, s.1, s.2)) (not_blank zero refuses),
       )
   serves_asked clean n nonces heard held holds (Ok (suc k)) refuses h =

@@ -7,12 +7,12 @@ use Rattle.office_jobs.specs.declared.job_fault.JobFault.{JobFault}
 use Rattle.office_jobs.specs.declared.job_fault.JobFault.TheVariants.{Write}
 use Rattle.office_jobs.specs.Faults.{of_selftest, test_result}
 use Rattle.office_jobs.specs.Steps.{Follows}
-use Rattle.office_jobs.specs.Whole.{Prints}
+use Rattle.office_jobs.specs.Whole.{PrintsText}
 
 pub told : (text : List ℕ) (held holds : Option (List ℕ)) (done result : Result Unit JobFault)
     → IfErr done (λ e. result ≡ Err e) → IfErr done (λ _. holds ≡ held) → OnOk result (Appends held holds text)
     → (IsOk done → IfErr result (λ e. e ≡ Write))
-    → Follows (λ _. Prints text held holds) (holds ≡ held) done result
+    → Follows (λ _. PrintsText text held holds) (holds ≡ held) done result
 told text held holds (Err e) result fault silent ok only = (fault, silent)
 told text held holds (Ok x) (Ok y) fault silent ok only = ok
 told text held holds (Ok x) (Err e) fault silent ok only = only refl
@@ -22,7 +22,7 @@ pub test_told : (text : List ℕ) (held holds : Option (List ℕ)) (tested : Res
     (result : Result Unit JobFault) → IfErr tested (λ e. result ≡ Err (of_selftest e))
     → IfErr tested (λ _. holds ≡ held) → OnOk result (Appends held holds text)
     → (IsOk tested → IfErr result (λ e. e ≡ Write))
-    → Follows (λ _. Prints text held holds) (holds ≡ held) (test_result tested) result
+    → Follows (λ _. PrintsText text held holds) (holds ≡ held) (test_result tested) result
 test_told text held holds (Err e) result fault silent ok only = (fault, silent)
 test_told text held holds (Ok x) (Ok y) fault silent ok only = ok
 test_told text held holds (Ok x) (Err e) fault silent ok only = only refl

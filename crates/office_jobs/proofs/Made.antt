@@ -10,10 +10,10 @@ use Rattle.store.specs.Migrating.{IsExcused}
 use Rattle.store.specs.Meaning.{DiskFailed, IsBlank, KeepsTelling}
 use Rattle.office_jobs.specs.declared.job_fault.JobFault.{JobFault}
 use Rattle.office_jobs.specs.Faults.{of_store}
-use Rattle.office_jobs.specs.Making.{IsMadeWhole, IsUnmade, Makes}
+use Rattle.office_jobs.specs.Making.{IsMadeWhole, IsUnmade, MakingEnds}
 
 makes_not : (e : StoreFault) (opening : Opening) (old new : State) → IsUnmade opening old new e
-    → Makes opening old new (Err (of_store e))
+    → MakingEnds opening old new (Err (of_store e))
 makes_not store.NoMemory opening old new u = u
 makes_not store.Device opening old new u = u
 makes_not store.AlreadyAnOffice opening old new u = u
@@ -24,9 +24,9 @@ makes_not store.Damaged opening old new u = u
 pub unmade : (e : StoreFault) (f : JobFault) (opening : Opening) (old new : State) → f ≡ of_store e
     → IsAsBefore old new → (IsBlank old → IsTrue new.is_open → IsBlank new)
     → (IsBlank old → IsExcused (DiskFailed old new) e) → KeepsTelling old new → IsMadeWhole opening old new
-    → Makes opening old new (Err f)
+    → MakingEnds opening old new (Err f)
 unmade e f opening old new same before blank only tells crash =
-    subst (λ (f : JobFault). Makes opening old new (Err f)) (sym same)
+    subst (λ (f : JobFault). MakingEnds opening old new (Err f)) (sym same)
     (makes_not e opening old new (record {
       before = before;
       blank = blank;

@@ -9,13 +9,13 @@ use Rattle.office.specs.declared.store_fault.StoreFault.{StoreFault}
 use Rattle.office.specs.declared.store_fault.StoreFault.TheVariants as store
 use Rattle.web.specs.Runs.{Serves as AllServed}
 use Rattle.server.specs.Books.{Book}
-use Rattle.server.specs.Connections.{AreServed, Extends, Meets, Visit, exchange_of, given_of}
+use Rattle.server.specs.Connections.{AreServed, Extends, Visited, Visit, exchange_of, given_of}
 use Rattle.server.specs.Names.{listening_line}
 use Rattle.store.specs.Transactions.{IsAsBefore}
 use Rattle.store.specs.Meaning.{KeepsTelling, Tells}
 use Rattle.office_jobs.specs.Faults.{of_store}
 use Rattle.office_jobs.specs.Opening.{IsUnopened}
-use Rattle.office_jobs.specs.Serving.{MeetsOver, Serves}
+use Rattle.office_jobs.specs.Serving.{MeetsOver, ServingEnds}
 use Rattle.office_jobs.specs.Whole.{heard_of}
 use Rattle.office_jobs.proofs.Carried.{before_again}
 use Rattle.office_jobs.specs.declared.job_fault.JobFault.{JobFault}
@@ -27,7 +27,7 @@ pub met_over : {S : Type 0} (n : ℕ) (book book' : Option Book) (nonces nonces'
     (old new : State)
     → ((visits : List Visit) → AreServed r a b visits → HasCleanDisk new → AllServed (Tells old) (Tells new)
     (λ o l. Tells new o l × IsTrue new.is_open) (map exchange_of visits) (map given_of visits))
-    → Meets n book book' nonces nonces' r a b → MeetsOver n book book' nonces nonces' old new
+    → Visited n book book' nonces nonces' r a b → MeetsOver n book book' nonces nonces' old new
 met_over n book book' nonces nonces' r a b old new carry x = record {
   visits = x.visits;
   all = x.all;
@@ -57,7 +57,7 @@ pub served_at : (n port status : ℕ) (book book' : Option Book) (source first l
     (held listening holds : Option (List ℕ)) → Appends held listening (listening_line port) → holds ≡ listening
     → first ≡ source → (status ≡ 0 → MeetsOver n book book' first left old new) → (status ≡ 1 → new ≡ old)
     → Extends n (Tells old) (Tells new) → status ≤ 1
-    → Serves n source (Some (Ok (book, port))) old new held holds (Ok status)
+    → ServingEnds n source (Some (Ok (book, port))) old new held holds (Ok status)
 served_at n port status book book' source first left old new held listening holds printed quiet same met unmet served
     low = (
       book,
@@ -79,7 +79,7 @@ served_at n port status book book' source first left old new held listening hold
 -- connections served after an opening are served over the database that was opened
 served_from : (n : ℕ) (source : Option (List ℕ)) (heard : Result (Option Book × ℕ) ErrorKind) (old mid new : State)
     (held holds : Option (List ℕ)) (r : Result ℕ JobFault) → IsAsBefore old mid → KeepsTelling old mid
-    → Serves n source (Some heard) mid new held holds r → Serves n source (Some heard) old new held holds r
+    → ServingEnds n source (Some heard) mid new held holds r → ServingEnds n source (Some heard) old new held holds r
 served_from n source heard old mid new held holds (Ok status) before tells h = (
   h.0,
   h.1,
@@ -114,8 +114,8 @@ served_from n source heard old mid new held holds (Err fault.Fault) before tells
 pub served_of : {Incoming : Type 0} (n : ℕ) (source : Option (List ℕ)) (book : Incoming → Option Book)
     (heard : Result (Incoming × ℕ) ErrorKind) (old mid new : State) (held holds : Option (List ℕ))
     (r : Result ℕ JobFault) → IsAsBefore old mid → KeepsTelling old mid
-    → Serves n source (heard_of book (Some heard)) mid new held holds r
-    → Serves n source (heard_of book (Some heard)) old new held holds r
+    → ServingEnds n source (heard_of book (Some heard)) mid new held holds r
+    → ServingEnds n source (heard_of book (Some heard)) old new held holds r
 served_of n source book (Ok at) old mid new held holds r before tells h =
     served_from n source (Ok (book at.0, at.1)) old mid new held holds r before tells h
 served_of n source book (Err kind) old mid new held holds r before tells h =
@@ -123,7 +123,7 @@ served_of n source book (Err kind) old mid new held holds r before tells h =
 
 -- if the office can't be opened, nobody listens
 unopened : (n : ℕ) (source : Option (List ℕ)) (old new : State) (held holds : Option (List ℕ)) (e : StoreFault)
-    → IsUnopened old new e → holds ≡ held → Serves n source None old new held holds (Err (of_store e))
+    → IsUnopened old new e → holds ≡ held → ServingEnds n source None old new held holds (Err (of_store e))
 unopened n source old new held holds store.NoMemory h same = (refl, h, same)
 unopened n source old new held holds store.Device h same = (refl, h, same)
 unopened n source old new held holds store.NotAnOffice h same = (refl, h, same)
@@ -133,7 +133,7 @@ unopened n source old new held holds store.Damaged h same = (refl, h, same)
 
 pub unheard : (n : ℕ) (source : Option (List ℕ)) (old new : State) (held holds : Option (List ℕ)) (e : StoreFault)
     (f : JobFault) → f ≡ of_store e → IsUnopened old new e → holds ≡ held
-    → Serves n source None old new held holds (Err f)
+    → ServingEnds n source None old new held holds (Err f)
 unheard n source old new held holds e f told h same =
-    subst (λ (f : JobFault). Serves n source None old new held holds (Err f)) (sym told)
+    subst (λ (f : JobFault). ServingEnds n source None old new held holds (Err f)) (sym told)
     (unopened n source old new held holds e h same)

@@ -17,8 +17,8 @@ use Rattle.office_jobs.specs.declared.job_fault.JobFault.{JobFault}
 use Rattle.office_jobs.specs.declared.job_fault.JobFault.TheVariants.{NoMemory, Store, Write}
 use Rattle.office_jobs.specs.declared.reporting.Report.{Report}
 use Rattle.office_jobs.specs.Faults.{of_store, publish_result}
-use Rattle.office_jobs.specs.Opening.{IsLeft, IsOpened, IsUnopened}
-use Rattle.office_jobs.specs.Listing.{Lists}
+use Rattle.office_jobs.specs.Opening.{IsUnprinted, IsOpened, IsUnopened}
+use Rattle.office_jobs.specs.Listing.{ListingEnds}
 use Rattle.office_jobs.specs.Reporting.{IsReport, Reports}
 use Rattle.office_jobs.proofs.Carried.{before_again, before_open, left_from, unopened_left}
 
@@ -26,7 +26,7 @@ use Rattle.office_jobs.proofs.Carried.{before_again, before_open, left_from, uno
 
 -- what a fault of the register leaves of a database
 of_fault : (e : StoreFault) (old new : State) (held holds : Option (List ℕ)) → IsAsBefore old new
-    → IsLeft old new held holds e → Lists old new held holds (Err (of_store e))
+    → IsUnprinted old new held holds e → ListingEnds old new held holds (Err (of_store e))
 of_fault store.NoMemory old new held holds before left = (before, left)
 of_fault store.Device old new held holds before left = (before, left)
 of_fault store.AlreadyAnOffice old new held holds before left = (before, left)
@@ -35,14 +35,14 @@ of_fault store.WrongSchema old new held holds before left = (before, left)
 of_fault store.Damaged old new held holds before left = (before, left)
 
 pub unlisted : (e : StoreFault) (f : JobFault) (old new : State) (held holds : Option (List ℕ))
-    → f ≡ of_store e → IsUnopened old new e → holds ≡ held → Lists old new held holds (Err f)
+    → f ≡ of_store e → IsUnopened old new e → holds ≡ held → ListingEnds old new held holds (Err f)
 unlisted e f old new held holds same u silent =
-    subst (λ (f : JobFault). Lists old new held holds (Err f)) (sym same)
+    subst (λ (f : JobFault). ListingEnds old new held holds (Err f)) (sym same)
     (of_fault e old new held holds u.before (unopened_left old new held holds e u silent))
 
 -- an open office after a fault of the register
 pub left : (mid new : State) (held holds : Option (List ℕ)) (e : StoreFault) → holds ≡ held → KeepsTelling mid new
-    → ((o : Opening) (l : List Arrival) → Tells mid o l → IsOfARegister e) → IsLeft mid new held holds e
+    → ((o : Opening) (l : List Arrival) → Tells mid o l → IsOfARegister e) → IsUnprinted mid new held holds e
 left mid new held holds e silent tells only = record {
   unprinted = silent;
   tells = tells;
@@ -59,34 +59,34 @@ pub listed : (r : Result Unit PublishFault) (done : Result Unit JobFault) (old m
     → (IsTrue new.is_open → IsAsBefore mid new)
     → IfErr r (λ e. e ≢ publish.Write → holds ≡ held)
     → IfErr r (OfStore (λ e. (o : Opening) (l : List Arrival) → Tells mid o l → IsOfARegister e))
-    → Lists old new held holds done
+    → ListingEnds old new held holds done
 listed (Ok x) done old mid new held holds same opened list tells found before silent only =
-    subst (λ (d : Result Unit JobFault). Lists old new held holds d) (sym same) (
+    subst (λ (d : Result Unit JobFault). ListingEnds old new held holds d) (sym same) (
       before_again old mid new opened.before (before_open mid new before),
       (list.0, list.1, λ o l m. (list.2 o l (opened.tells o l m), found o l (opened.tells o l m))),
     )
 listed (Err publish.Write) done old mid new held holds same opened list tells found before silent only =
-    subst (λ (d : Result Unit JobFault). Lists old new held holds d) (sym same) (
+    subst (λ (d : Result Unit JobFault). ListingEnds old new held holds d) (sym same) (
       before_again old mid new opened.before (before_open mid new before),
       λ o l m. found o l (opened.tells o l m),
     )
 listed (Err (publish.Store e)) done old mid new held holds same opened list tells found before silent only =
-    subst (λ (d : Result Unit JobFault). Lists old new held holds d) (sym same)
+    subst (λ (d : Result Unit JobFault). ListingEnds old new held holds d) (sym same)
     (of_fault e old new held holds (before_again old mid new opened.before (before_open mid new before))
     (left_from old mid new held holds e opened (left mid new held holds e (silent (λ is_write. cc)) tells only)))
 
 pub lists_as : (old new newer : State) (held is_held holds is_holds : Option (List ℕ)) (r : Result Unit JobFault)
-    → newer ≡ new → is_held ≡ held → is_holds ≡ holds → Lists old new held holds r → Lists old newer is_held is_holds r
+    → newer ≡ new → is_held ≡ held → is_holds ≡ holds → ListingEnds old new held holds r → ListingEnds old newer is_held is_holds r
 lists_as old new newer held is_held holds is_holds r same before after lists =
-    subst (λ (s : State). Lists old s is_held is_holds r) (sym same)
-    (subst (λ (h : Option (List ℕ)). Lists old new h is_holds r) (sym before)
-    (subst (λ (h : Option (List ℕ)). Lists old new held h r) (sym after) lists))
+    subst (λ (s : State). ListingEnds old s is_held is_holds r) (sym same)
+    (subst (λ (h : Option (List ℕ)). ListingEnds old new h is_holds r) (sym before)
+    (subst (λ (h : Option (List ℕ)). ListingEnds old new held h r) (sym after) lists))
 
 -- ---- reports
 
 -- a fault of the register, as the result of a report
 pub report_fault : (report : Report) (e : StoreFault) (old new : State) (held holds : Option (List ℕ))
-    → IsLeft old new held holds e → IsReport report old new held holds (Err (of_store e))
+    → IsUnprinted old new held holds e → IsReport report old new held holds (Err (of_store e))
 report_fault report store.NoMemory old new held holds left = left
 report_fault report store.Device old new held holds left = left
 report_fault report store.AlreadyAnOffice old new held holds left = left

@@ -11,13 +11,13 @@ use Rattle.office.specs.declared.arrival.Arrival.{Arrival}
 use Rattle.office.specs.declared.store_fault.StoreFault.TheVariants as store
 use Rattle.office.specs.History.{state}
 use Rattle.store.specs.Meaning.{Stores, Tells}
-use Rattle.web.specs.Answers.{Answers, IsOfTheRegister, answer_text, with_ask}
+use Rattle.web.specs.Answers.{AnswersAsk, IsOfTheRegister, answer_text, with_ask}
 use Rattle.headline.specs.Headline.{OfficeAnswers}
 use Rattle.office_jobs.specs.declared.job_fault.JobFault.{JobFault}
 use Rattle.office_jobs.specs.declared.job_fault.JobFault.TheVariants.{Write}
 use Rattle.office_jobs.specs.declared.reporting.Report.{Report}
 use Rattle.office_jobs.specs.declared.reporting.Report.TheVariants.{Signers, Table}
-use Rattle.office_jobs.specs.Opening.{IsLeft}
+use Rattle.office_jobs.specs.Opening.{IsUnprinted}
 use Rattle.office_jobs.specs.Reporting.{IsReport, report_text, resource_of}
 use Rattle.office_jobs.proofs.Bodies.{found_is, not_found}
 
@@ -44,7 +44,7 @@ of_report Table o l moment nonce response keeps is = (is.0, is.1 tt)
 
 answered : (report : Report) (o : Opening) (l : List Arrival) (request : List ℕ) (moment : ℕ) (nonce response : List ℕ)
     (means keeps : List Arrival → Type 0) → OneAsk → Asks request (get (resource_of report))
-    → Answers o l request moment nonce response means keeps
+    → AnswersAsk o l request moment nonce response means keeps
     → (response ≡ response_text 200 PlainText (report_text report (state o l))) × keeps l
 answered report o l request moment nonce response means keeps one asks is =
     of_report report o l moment nonce response keeps
@@ -94,7 +94,7 @@ reported report old new held holds request moment nonce response looked body
 pub unfound : (report : Report) (old new : State) (held : Option (List ℕ)) (request : List ℕ) (moment : ℕ)
     (nonce response looked : List ℕ) → OneAsk → Asks request (get (resource_of report))
     → OfficeAnswers old new request moment nonce response → looked ≡ response → length response < 2 ^ 64
-    → Finds None looked → IsLeft old new held held store.Damaged
+    → Finds None looked → IsUnprinted old new held held store.Damaged
 unfound report old new held request moment nonce response looked one asks answers same short finds =
     let none : (A : Type 0) (o : Opening) (l : List Arrival) → Tells old o l → A = λ A o l m.
     not_found A (report_text report (state o l))

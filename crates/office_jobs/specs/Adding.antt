@@ -5,8 +5,8 @@ use Rattle.sqlite.specs.Held.{Held, state}
 use Rattle.restart.specs.Runs.{AddsArrivals}
 use Rattle.office_jobs.specs.declared.job.OfficeJob.{OfficeJob}
 use Rattle.office_jobs.specs.declared.job_fault.JobFault.{JobFault}
-use Rattle.office_jobs.specs.Jobs.{Does}
-use Rattle.office_jobs.specs.Serving.{Heard, Serves}
+use Rattle.office_jobs.specs.Jobs.{DoesOfficeJob}
+use Rattle.office_jobs.specs.Serving.{Heard, ServingEnds}
 
 module _ {S : Type 0} (g : Ghosts S) (new : Held S) where
   -- For a job over an open connection: each history that the tables represented is represented with arrivals after it.
@@ -14,12 +14,12 @@ module _ {S : Type 0} (g : Ghosts S) (new : Held S) where
   JobsAddArrivals =
       (old : Held S) → IsTrue (state g old).is_open
       → (job : OfficeJob) (held holds : Option (List ℕ)) (r : Result (Unit {0}) JobFault)
-      → Does job (state g old) (state g new) held holds r → AddsArrivals (state g old) (state g new)
+      → DoesOfficeJob job (state g old) (state g new) held holds r → AddsArrivals (state g old) (state g new)
 
   -- the same for a server
   abbrev pub ServersAddArrivals : Type 0
   ServersAddArrivals =
       (old : Held S) → IsTrue (state g old).is_open
       → (connections : ℕ) (nonces : Option (List ℕ)) (heard : Heard) (held holds : Option (List ℕ))
-      (r : Result ℕ JobFault) → Serves connections nonces heard (state g old) (state g new) held holds r
+      (r : Result ℕ JobFault) → ServingEnds connections nonces heard (state g old) (state g new) held holds r
       → AddsArrivals (state g old) (state g new)

@@ -7,7 +7,7 @@ use Rattle.store.specs.Transactions.{IsAsBefore}
 use Rattle.headline.specs.Headline.{OfficePrints, OfficeRuns}
 use Rattle.office_jobs.specs.declared.job_fault.JobFault.{JobFault}
 use Rattle.office_jobs.specs.declared.job_fault.JobFault.TheVariants.{Fault, NoMemory, Store, Write}
-use Rattle.office_jobs.specs.Opening.{IsLeft, IsUnopened}
+use Rattle.office_jobs.specs.Opening.{IsUnprinted, IsUnopened}
 
 -- The outcome. Each exchange gets its specified response, or some get a fault, and this is printed. Or the output
 -- failed, and all were run. Or nothing was run or printed: memory was refused, or the office wasn't opened.
@@ -16,6 +16,6 @@ abbrev pub Applies : List Exchange → (old new : State) → (held holds : Optio
 Applies exchanges old new held holds (Ok done) = OfficePrints old new exchanges held holds false
 Applies exchanges old new held holds (Err Fault) = OfficePrints old new exchanges held holds true
 Applies exchanges old new held holds (Err Write) = OfficeRuns old new exchanges
-Applies exchanges old new held holds (Err NoMemory) = IsAsBefore old new × IsLeft old new held holds store.NoMemory
+Applies exchanges old new held holds (Err NoMemory) = IsAsBefore old new × IsUnprinted old new held holds store.NoMemory
 Applies exchanges old new held holds (Err (Store e)) = IsUnopened old new e × (holds ≡ held)
 Applies exchanges old new held holds (Err other) = ⊥

@@ -76,8 +76,8 @@ AsksOffice Migrate held holds r asked = asked ≡ nothing_asked
 -- ---- servers
 
 -- what visits asked and got
-abbrev pub asked_by : List Visit → Asked
-asked_by visits = record { founds = None; exchanges = map exchange_of visits; given = map given_of visits }
+abbrev pub asked_in_visits : List Visit → Asked
+asked_in_visits visits = record { founds = None; exchanges = map exchange_of visits; given = map given_of visits }
 
 -- These were the visits of `connections` connections, as in the listener's book, with the source's next nonces.
 pub record AreVisited (connections : ℕ) (book : Option Book) (nonces : Option (List ℕ)) (asked : Asked)
@@ -88,7 +88,7 @@ pub record AreVisited (connections : ℕ) (book : Option Book) (nonces : Option 
   pub told : TellsAll visits book after
   pub left : Option (List ℕ)
   pub drawn : Consumes nonces left (flat_map drawn_of visits)
-  pub are_its : asked ≡ asked_by visits
+  pub are_its : asked ≡ asked_in_visits visits
 
 -- Connections were served: each of them if the status is 0, otherwise none.
 pub record AsksServer (connections : ℕ) (nonces : Option (List ℕ)) (heard : Heard) (status : ℕ) (asked : Asked)

@@ -22,11 +22,11 @@ use Rattle.office_jobs.specs.Asked.{AsksOffice}
 use Rattle.office_jobs.specs.Checking.{ChecksFile}
 use Rattle.office_jobs.specs.Faults.{of_store, test_result}
 use Rattle.office_jobs.specs.Finding.{OpensThere, WithFile}
-use Rattle.office_jobs.specs.Jobs.{Does, told_text}
+use Rattle.office_jobs.specs.Jobs.{DoesOfficeJob, told_text}
 use Rattle.office_jobs.specs.Steps.{Follows}
 use Rattle.office_jobs.specs.Trial.{TriesFile}
 use Rattle.office_jobs.specs.Words.{AnswersWords}
-use Rattle.office_jobs.specs.Whole.{AppliesIn, DoesIn, FoundsIn, IsKeyOf, Prints, ServesIn}
+use Rattle.office_jobs.specs.Whole.{AppliesIn, DoesIn, FoundsIn, IsKeyOf, PrintsText, ServesIn}
 
 -- the job is a server
 abbrev pub IsServing : Job → Type 0
@@ -39,7 +39,7 @@ IsFlushed (Ok done) result = (result ≡ Ok 0) ⊎ (result ≡ Err Write)
 IsFlushed (Err e) result = result ≡ Err e
 
 -- This was done and printed, and then the output was flushed.
-pub record Ends (Did : (between : Option (List ℕ)) → Result (Unit {0}) JobFault → Type 0) (holds : Option (List ℕ))
+pub record EndsCommand (Did : (between : Option (List ℕ)) → Result (Unit {0}) JobFault → Type 0) (holds : Option (List ℕ))
     (result : Result ℕ JobFault) : Type 0 where
   pub between : Option (List ℕ)
   pub done : Result (Unit {0}) JobFault
@@ -60,7 +60,7 @@ module _ {W File Conn Incoming Reader Writer : Type 0} (world : Ghosts W File Co
     TestsItself held holds result =
         ((e : StoreFault) × (result ≡ Err (of_store e)) × (w' ≡ w) × (holds ≡ held))
         ⊎ ((tested : Result (Unit {0}) SelftestFault) × world.tests w tested w'
-        × Follows (λ _. Prints (codes "selftest ok\n") held holds) (holds ≡ held) (test_result tested) result)
+        × Follows (λ _. PrintsText (codes "selftest ok\n") held holds) (holds ≡ held) (test_result tested) result)
 
 -- The same, with `remaining` for the bytes that a file has left to read.
 module _ {W File Conn Incoming Reader Writer : Type 0} (world : Ghosts W File Conn Incoming Reader Writer)
@@ -83,7 +83,7 @@ module _ {W File Tables Incoming Reader Writer : Type 0} (store : store.Ghosts T
   -- a job that asks the office in a database, which has to exist
   abbrev pub Asks : OfficeJob → (db : List ℕ) → (held holds : Option (List ℕ)) → Result (Unit {0}) JobFault → Type 0
   Asks asked db held holds result =
-      DoesIn store world book w w' (OpensThere world db) (Does asked) (AsksOffice asked) (told_text asked) held holds result
+      DoesIn store world book w w' (OpensThere world db) (DoesOfficeJob asked) (AsksOffice asked) (told_text asked) held holds result
 
   -- The effect of each job except a server.
   abbrev pub DoesJob : Job → (held holds : Option (List ℕ)) → Result (Unit {0}) JobFault → Type 0
@@ -115,7 +115,7 @@ module _ {W File Tables Incoming Reader Writer : Type 0} (store : store.Ghosts T
       WithFile world remaining w w' (string_bytes nonces)
       (λ source opened. ServesIn store world book opened w' (string_bytes db) port connections source held holds)
       (holds ≡ held) result
-  Runs other held holds result = Ends (DoesJob other held) holds result
+  Runs other held holds result = EndsCommand (DoesJob other held) holds result
 
   -- the same, with the status
   pub record RunsJob (job : Job) (held holds : Option (List ℕ)) (status : ℕ) : Type 0 where

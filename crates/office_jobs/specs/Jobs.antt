@@ -9,14 +9,14 @@ use Rattle.office_jobs.specs.declared.job.OfficeJob.{OfficeJob}
 use Rattle.office_jobs.specs.declared.job.OfficeJob.TheVariants.{Init, Apply, Krl, Signers, Table, Migrate}
 use Rattle.office_jobs.specs.declared.reporting.Report.TheVariants as report
 use Rattle.office_jobs.specs.Applying.{Applies}
-use Rattle.office_jobs.specs.Listing.{Lists}
-use Rattle.office_jobs.specs.Making.{Makes, Migrates, ready_text}
+use Rattle.office_jobs.specs.Listing.{ListingEnds}
+use Rattle.office_jobs.specs.Making.{MakingEnds, MigratingEnds, ready_text}
 use Rattle.office_jobs.specs.Reporting.{Reports}
 
 -- an office is made with a valid initial configuration
-abbrev pub IsLawful : OfficeJob → Type 0
-IsLawful (Init opening) = IsOpening opening.now
-IsLawful other = Unit {0}
+abbrev pub IsLawfulJob : OfficeJob → Type 0
+IsLawfulJob (Init opening) = IsOpening opening.now
+IsLawfulJob other = Unit {0}
 
 -- an office is to be made
 abbrev pub IsMaking : OfficeJob → Type 0
@@ -28,13 +28,13 @@ abbrev pub RefusesNone : {A C : Type 0} → (conn last : C) → Result A JobFaul
 RefusesNone conn last r = (r ≡ Err (Store NotAnOffice)) × (last ≡ conn)
 
 -- The effect of a job on the tables and on the output, with this result.
-abbrev pub Does : OfficeJob → (old new : State) → (held holds : Option (List ℕ)) → Result (Unit {0}) JobFault → Type 0
-Does (Init opening) old new held holds r = Makes opening.now old new r × (holds ≡ held)
-Does (Apply exchanges) old new held holds r = Applies exchanges.now old new held holds r
-Does Krl old new held holds r = Lists old new held holds r
-Does Signers old new held holds r = Reports report.Signers old new held holds r
-Does Table old new held holds r = Reports report.Table old new held holds r
-Does Migrate old new held holds r = Migrates old new r × (holds ≡ held)
+abbrev pub DoesOfficeJob : OfficeJob → (old new : State) → (held holds : Option (List ℕ)) → Result (Unit {0}) JobFault → Type 0
+DoesOfficeJob (Init opening) old new held holds r = MakingEnds opening.now old new r × (holds ≡ held)
+DoesOfficeJob (Apply exchanges) old new held holds r = Applies exchanges.now old new held holds r
+DoesOfficeJob Krl old new held holds r = ListingEnds old new held holds r
+DoesOfficeJob Signers old new held holds r = Reports report.Signers old new held holds r
+DoesOfficeJob Table old new held holds r = Reports report.Table old new held holds r
+DoesOfficeJob Migrate old new held holds r = MigratingEnds old new r × (holds ≡ held)
 
 -- the text that is printed once the job is done and its database is closed
 abbrev pub told_text : OfficeJob → List ℕ

@@ -10,7 +10,7 @@ use Rattle.store.specs.Meaning.{Stores, Tells}
 use Rattle.headline.specs.Headline.{IsList}
 use Rattle.office_jobs.specs.declared.job_fault.JobFault.{JobFault}
 use Rattle.office_jobs.specs.declared.job_fault.JobFault.TheVariants.{NoMemory, Store, Write}
-use Rattle.office_jobs.specs.Opening.{IsLeft}
+use Rattle.office_jobs.specs.Opening.{IsUnprinted}
 
 -- the printed bytes are the list of the history that the tables represent, and they durably represent that history
 abbrev pub IsListed : (old new : State) → (held holds : Option (List ℕ)) → Type 0
@@ -23,9 +23,9 @@ abbrev pub IsStored : (old new : State) → Type 0
 IsStored old new = (o : Opening) (l : List Arrival) → Tells old o l → Stores new o l
 
 -- the outcome, in which no table has changed
-abbrev pub Lists : (old new : State) → (held holds : Option (List ℕ)) → Result (Unit {0}) JobFault → Type 0
-Lists old new held holds (Ok done) = IsAsBefore old new × IsListed old new held holds
-Lists old new held holds (Err Write) = IsAsBefore old new × IsStored old new
-Lists old new held holds (Err NoMemory) = IsAsBefore old new × IsLeft old new held holds store.NoMemory
-Lists old new held holds (Err (Store e)) = IsAsBefore old new × IsLeft old new held holds e
-Lists old new held holds (Err other) = ⊥
+abbrev pub ListingEnds : (old new : State) → (held holds : Option (List ℕ)) → Result (Unit {0}) JobFault → Type 0
+ListingEnds old new held holds (Ok done) = IsAsBefore old new × IsListed old new held holds
+ListingEnds old new held holds (Err Write) = IsAsBefore old new × IsStored old new
+ListingEnds old new held holds (Err NoMemory) = IsAsBefore old new × IsUnprinted old new held holds store.NoMemory
+ListingEnds old new held holds (Err (Store e)) = IsAsBefore old new × IsUnprinted old new held holds e
+ListingEnds old new held holds (Err other) = ⊥

@@ -32,7 +32,7 @@ IsMadeWhole opening old new =
     Survives old new (Leaves (λ _. IsBare no_schema) (λ (_ : Unit {0}). office_contents opening []) old)
 
 -- the tables weren't those of schema 2; if there were none, they are now those of an office with an empty history
-pub record IsMade (opening : Opening) (old new : State) : Type 0 where
+pub record IsOfficeMade (opening : Opening) (old new : State) : Type 0 where
   pub unlike : old.now.schema ≢ whole
   pub made : IsBlank old → Tells new opening []
   pub is_open : IsTrue new.is_open
@@ -47,11 +47,11 @@ pub record IsUnmade (opening : Opening) (old new : State) (e : StoreFault) : Typ
   pub tells : KeepsTelling old new
   pub crash : IsMadeWhole opening old new
 
-abbrev pub Makes : Opening → (old new : State) → Result (Unit {0}) JobFault → Type 0
-Makes opening old new (Ok done) = IsMade opening old new
-Makes opening old new (Err NoMemory) = IsUnmade opening old new store.NoMemory
-Makes opening old new (Err (Store e)) = IsUnmade opening old new e
-Makes opening old new (Err other) = ⊥
+abbrev pub MakingEnds : Opening → (old new : State) → Result (Unit {0}) JobFault → Type 0
+MakingEnds opening old new (Ok done) = IsOfficeMade opening old new
+MakingEnds opening old new (Err NoMemory) = IsUnmade opening old new store.NoMemory
+MakingEnds opening old new (Err (Store e)) = IsUnmade opening old new e
+MakingEnds opening old new (Err other) = ⊥
 
 -- its serials, and the fingerprint of its CA
 abbrev pub ready_text : Opening → List ℕ
@@ -84,8 +84,8 @@ pub record IsUnmoved (old new : State) (e : StoreFault) : Type 0 where
   pub tells : KeepsTelling old new
   pub crash : IsMovedWhole old new
 
-abbrev pub Migrates : (old new : State) → Result (Unit {0}) JobFault → Type 0
-Migrates old new (Ok done) = IsMoved old new
-Migrates old new (Err NoMemory) = IsUnmoved old new store.NoMemory
-Migrates old new (Err (Store e)) = IsUnmoved old new e
-Migrates old new (Err other) = ⊥
+abbrev pub MigratingEnds : (old new : State) → Result (Unit {0}) JobFault → Type 0
+MigratingEnds old new (Ok done) = IsMoved old new
+MigratingEnds old new (Err NoMemory) = IsUnmoved old new store.NoMemory
+MigratingEnds old new (Err (Store e)) = IsUnmoved old new e
+MigratingEnds old new (Err other) = ⊥

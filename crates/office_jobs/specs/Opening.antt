@@ -27,7 +27,7 @@ pub record IsUnopened (old new : State) (e : StoreFault) : Type 0 where
 
 -- This fault occurred before anything was printed. The tables represent what they represented, and if that is a
 -- history, the fault is lack of memory or `Device`.
-pub record IsLeft (old new : State) (held holds : Option (List ℕ)) (e : StoreFault) : Type 0 where
+pub record IsUnprinted (old new : State) (held holds : Option (List ℕ)) (e : StoreFault) : Type 0 where
   pub unprinted : holds ≡ held
   pub tells : KeepsTelling old new
   pub only : IsTrue old.is_open → (o : Opening) (l : List Arrival) → Tells old o l → IsOfARegister e

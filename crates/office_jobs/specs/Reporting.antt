@@ -16,7 +16,7 @@ use Rattle.office_jobs.specs.declared.job_fault.JobFault.{JobFault}
 use Rattle.office_jobs.specs.declared.job_fault.JobFault.TheVariants.{NoMemory, Store, Write}
 use Rattle.office_jobs.specs.declared.reporting.Report.{Report}
 use Rattle.office_jobs.specs.declared.reporting.Report.TheVariants.{Signers, Table}
-use Rattle.office_jobs.specs.Opening.{IsLeft}
+use Rattle.office_jobs.specs.Opening.{IsUnprinted}
 use Rattle.office_jobs.specs.Listing.{IsStored}
 
 -- the resource of a report; the report is the body of its response
@@ -40,8 +40,8 @@ abbrev pub IsReport : Report → (old new : Connection) → (held holds : Option
     → Type 0
 IsReport report old new held holds (Ok done) = IsReported report old new held holds
 IsReport report old new held holds (Err Write) = IsStored old new
-IsReport report old new held holds (Err NoMemory) = IsLeft old new held holds store.NoMemory
-IsReport report old new held holds (Err (Store e)) = IsLeft old new held holds e
+IsReport report old new held holds (Err NoMemory) = IsUnprinted old new held holds store.NoMemory
+IsReport report old new held holds (Err (Store e)) = IsUnprinted old new held holds e
 IsReport report old new held holds (Err other) = ⊥
 
 -- No table has changed, whatever the tables mean, and this is the outcome of the report.

@@ -4,7 +4,7 @@ ghost use Rattle.std.specs.Prelude.{◌≡◌, false};
 ghost use Rattle.std.specs.List.{list_any};
 ghost use Rattle.store_sql.specs.Look.{is_office_table};
 ghost use Rattle.store_sql.specs.Honest.{IsOutside, IsUnlimited, On, StaysClean, tables_of};
-ghost use Rattle.office_jobs.specs.Jobs.{Does, IsLawful, IsMaking, RefusesNone};
+ghost use Rattle.office_jobs.specs.Jobs.{DoesOfficeJob, IsLawfulJob, IsMaking, RefusesNone};
 
 use crate::applying::apply_over;
 use crate::founding::make_over;
@@ -55,8 +55,8 @@ pub fn do_on<S: Alter, W: Write>(
 ) -> Done<S, W>
     requires outside { IsOutside S.Store conn }
     requires unlimited { IsUnlimited S.Store conn }
-    requires lawful { IsLawful job.now }
-    ensures does { On S.Store (λ old new. Does job.now old new (W.contents out) (W.contents result.out))
+    requires lawful { IsLawfulJob job.now }
+    ensures does { On S.Store (λ old new. DoesOfficeJob job.now old new (W.contents out) (W.contents result.out))
         conn result.conn result.outcome }
     ensures honest { StaysClean S.Store conn result.conn }
 

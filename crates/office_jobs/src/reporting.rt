@@ -6,7 +6,7 @@ ghost use Rattle.std.specs.Prelude.{position};
 ghost use Rattle.http_requests.specs.declared.response.MediaType.TheVariants.{PlainText};
 ghost use Rattle.http_requests.specs.Asks.{Asks, get};
 ghost use Rattle.http_requests.specs.Responses.{response_text};
-ghost use Rattle.exchanges.specs.Reading.{after, cut_of};
+ghost use Rattle.exchanges.specs.Reading.{rest_after, cut_of};
 ghost use Rattle.office_jobs.specs.Reporting.{Reports, resource_of};
 ghost use Rattle.std.specs.List.{list_any};
 ghost use Rattle.store_sql.specs.Look.{is_office_table};
@@ -44,7 +44,7 @@ impl Report {
 
 // The bytes after this prefix.
 fn after<'a>(text: &'a [u8], head: &[u8]) -> Option<&'a [u8]>
-    ensures { option_copied result ≡ after head.now text.now }
+    ensures { option_copied result ≡ rest_after head.now text.now }
 {
     text.strip_prefix(head)
 }

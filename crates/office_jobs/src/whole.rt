@@ -7,9 +7,9 @@ ghost use Rattle.std.specs.Prelude.{◌≤◌, IfOk};
 ghost use Rattle.office.specs.Openings.{IsOpening};
 ghost use Rattle.office_jobs.specs.Asked.{AsksOffice};
 ghost use Rattle.office_jobs.specs.Finding.{OpensFor};
-ghost use Rattle.office_jobs.specs.Jobs.{Does, IsLawful, told_text};
+ghost use Rattle.office_jobs.specs.Jobs.{DoesOfficeJob, IsLawfulJob, told_text};
 ghost use Rattle.office_jobs.specs.Making.{due_opening};
-ghost use Rattle.office_jobs.specs.Whole.{AppliesIn, Begins, DoesIn, FoundsIn, KeepsDatabases, ServesIn};
+ghost use Rattle.office_jobs.specs.Whole.{AppliesIn, BeginsOffice, DoesIn, FoundsIn, KeepsDatabases, ServesIn};
 
 use crate::database_opening::{open_for, open_there};
 use crate::ending::{closed, finish};
@@ -32,9 +32,9 @@ pub(crate) fn do_in<S: Alter, W: World<Conn = Connection<S>> + AllocGlobal, O: W
     out: O,
 ) -> (Result<(), JobFault>, O)
     requires keeps { KeepsDatabases S.Store W.World }
-    requires lawful { IsLawful job.now }
+    requires lawful { IsLawfulJob job.now }
     ensures { DoesIn S.Store W.World W.Incoming.book world.old world.new
-        (OpensFor W.World db.now job.now) (Does job.now) (AsksOffice job.now) (told_text job.now)
+        (OpensFor W.World db.now job.now) (DoesOfficeJob job.now) (AsksOffice job.now) (told_text job.now)
         (O.contents out) (O.contents result.1) result.0 }
 {
     let alloc = world.alloc();
@@ -72,7 +72,7 @@ fn opening_from<R: Read + Drop>(
     ca: R,
     founding: &Founding<'_>,
 ) -> Result<Opening, JobFault>
-    ensures begins { Begins (R.remaining ca) (due_opening founding.now) result }
+    ensures begins { BeginsOffice (R.remaining ca) (due_opening founding.now) result }
     ensures lawful { IfOk result IsOpening }
 {
     match read_key(alloc, ca) {

@@ -8,7 +8,7 @@ use Rattle.std.proofs.lemmas.Bool.{le-leb}
 use Rattle.lines.specs.Keys.{key_blob}
 use Rattle.krl.specs.declared.ca_part.CaPart.{CaPart}
 use Rattle.krl.specs.Sets.{AreRuns, contains, is_counted, is_last_reached}
-use Rattle.krl.specs.Published.{published_list as krl_list, IsCaPartOf, AreDistinctCas, fits}
+use Rattle.krl.specs.Published.{composed_list as krl_list, IsMemberOf, AreDistinctCas, fits}
 use Rattle.krl.proofs.Publishing.{only_cut, revokes_exactly}
 use Rattle.krl.proofs.Counting.{runs_in_runs, contains_runs_in, are_counted}
 use Rattle.office.specs.declared.opening.Opening.{Opening}
@@ -32,7 +32,7 @@ use Rattle.office_laws.proofs.Signers.{served_signs}
 
 -- ---- the parts of a list
 
-part_there : (s : State) (from : ℕ) (cas : List Ca) (place k : ℕ) (ca : Ca) → slice_get cas place ≡ Some ca → k ≡ from + place → IsCaPartOf (part_of s k ca) (parts_from s from cas)
+part_there : (s : State) (from : ℕ) (cas : List Ca) (place k : ℕ) (ca : Ca) → slice_get cas place ≡ Some ca → k ≡ from + place → IsMemberOf (part_of s k ca) (parts_from s from cas)
 part_there s from [] place k ca e at = absurd cc
 part_there s from (c ∷ cas) zero k ca e at =
     let same : c ≡ ca = cc in
@@ -40,7 +40,7 @@ part_there s from (c ∷ cas) zero k ca e at =
     inl (ap (λ (n : ℕ). part_of s n c) here ∙ ap (part_of s k) same)
 part_there s from (c ∷ cas) (suc place) k ca e at = inr (part_there s (suc from) cas place k ca e (omega arith))
 
-part_others : (s : State) (from : ℕ) (cas : List Ca) (x : List ℕ) → AllByRecursion (λ c. c.key ≢ x) cas → (q : CaPart) → IsCaPartOf q (parts_from s from cas) → q.ca ≢ x
+part_others : (s : State) (from : ℕ) (cas : List Ca) (x : List ℕ) → AllByRecursion (λ c. c.key ≢ x) cas → (q : CaPart) → IsMemberOf q (parts_from s from cas) → q.ca ≢ x
 part_others s from [] x all q there = absurd there
 part_others s from (c ∷ cas) x all q (inl same) = λ e. all.0 (ap (λ (p : CaPart). p.ca) same ∙ e)
 part_others s from (c ∷ cas) x all q (inr there) = part_others s (suc from) cas x all.1 q there
@@ -50,7 +50,7 @@ parts_distinct s from [] d = tt
 parts_distinct s from (c ∷ cas) d = (part_others s (suc from) cas c.key d.0, parts_distinct s (suc from) cas d.1)
 
 -- each part belongs to a CA
-part_of_ca : (s : State) (from : ℕ) (cas : List Ca) (q : CaPart) → IsCaPartOf q (parts_from s from cas) → (place : ℕ) × (ca : Ca) × (slice_get cas place ≡ Some ca) × (q.ca ≡ ca.key)
+part_of_ca : (s : State) (from : ℕ) (cas : List Ca) (q : CaPart) → IsMemberOf q (parts_from s from cas) → (place : ℕ) × (ca : Ca) × (slice_get cas place ≡ Some ca) × (q.ca ≡ ca.key)
 part_of_ca s from [] q there = absurd there
 part_of_ca s from (c ∷ cas) q (inl same) = (0, c, refl, sym (ap (λ (p : CaPart). p.ca) same))
 part_of_ca s from (c ∷ cas) q (inr there) =

@@ -19,7 +19,7 @@ use Rattle.office.specs.declared.certificate.Certificate.{Certificate}
 use Rattle.office.specs.State.{State, is_range_revoked, is_key_id_revoked, has_any}
 use Rattle.office.specs.Machine.{opened, after, renewed, with_one_more, put_text}
 use Rattle.office.specs.History.{First, first_accepted, state}
-use Rattle.office_laws.specs.Named.{names_serial, names_key_id, is_serial_named, is_key_id_named}
+use Rattle.office_laws.specs.Named.{revokes_serial, names_key_id, is_serial_named, is_key_id_named}
 use Rattle.office.proofs.Histories.{after_all, after_more}
 use Rattle.office.proofs.Ranges.{has_all-each}
 use Rattle.krl.proofs.Gathering.{within_one}
@@ -64,7 +64,7 @@ module _ (get : State → Bool) (s : State) where
 
 -- a message revokes the serials that it names
 revoked_after : (n : ℕ) (s : State) (m : Message) (moment : ℕ) (nonce : List ℕ)
-    → (after s m moment nonce).revoked n ≡ (s.revoked n || names_serial n m)
+    → (after s m moment nonce).revoked n ≡ (s.revoked n || revokes_serial n m)
 revoked_after n s (message.Renew r) moment nonce = one_more (λ t. t.revoked n) s (renewed s r nonce) (λ c. refl)
 revoked_after n s (message.RevokeSerial serial) moment nonce =
     named (λ t. t.revoked n) s (s.revoked serial) _ (eqb n serial)
@@ -138,7 +138,7 @@ module _ (get : State → Bool) (names : Message → Bool) (each : (s : State) (
       (λ fs s f is e. each s f.message f.arrival.moment f.arrival.nonce ∙ ap (λ b. b || names f.message) e) o l later
 
 pub serials_are_named : (o : Opening) (l : List Arrival) (n : ℕ) → (state o l).revoked n ≡ is_serial_named o l n
-serials_are_named o l n = is_named (λ s. s.revoked n) (names_serial n) (revoked_after n) o l refl
+serials_are_named o l n = is_named (λ s. s.revoked n) (revokes_serial n) (revoked_after n) o l refl
 
 pub key_ids_are_named : (o : Opening) (l : List Arrival) (k : List ℕ)
     → is_key_id_revoked (state o l) k ≡ is_key_id_named o l k
@@ -146,7 +146,7 @@ key_ids_are_named o l k = is_named (λ s. is_key_id_revoked s k) (names_key_id k
 
 pub serials_stay : (o : Opening) (l later : List Arrival) (n : ℕ) → (state o l).revoked n ≡ true
     → (state o (l ++ later)).revoked n ≡ true
-serials_stay o l later n = stays (λ s. s.revoked n) (names_serial n) (revoked_after n) o l later
+serials_stay o l later n = stays (λ s. s.revoked n) (revokes_serial n) (revoked_after n) o l later
 
 pub key_ids_stay : (o : Opening) (l later : List Arrival) (k : List ℕ) → is_key_id_revoked (state o l) k ≡ true
     → is_key_id_revoked (state o (l ++ later)) k ≡ true

@@ -2,7 +2,7 @@
 use Rattle.std.proofs.Common.{◌≡◌, ℕ, ◌+◌, ◌≤◌, List, [], ◌∷◌, ◌++◌, false, refl, sym, ap, ◌∙◌, arith}
 use Rattle.std.proofs.lemmas.Bool.{false_from_ne_true}
 use Rattle.lines.specs.declared.signature.Signature.{Signature}
-use Rattle.krl.specs.Format.{list_text}
+use Rattle.krl.specs.Format.{krl_text}
 use Rattle.krl.specs.Published.{published_header, published_text}
 use Rattle.office.specs.declared.opening.Opening.{Opening}
 use Rattle.office.specs.declared.arrival.Arrival.{Arrival}
@@ -33,7 +33,7 @@ list_ca : (s : State) (key : List ℕ) → has_any s.revoked_key_ids ≡ false �
 list_ca s key none = by_ids s.revoked_key_ids none
   where
     by_ids : (ids : List (List ℕ)) → has_any ids ≡ false → published_text (head_of s) (parts_from (with_ca s (ca_from_now s key)) 0 (s.cas ++ ca_from_now s key ∷ [])) ids ≡ published_text (head_of s) (parts_from s 0 s.cas) ids
-    by_ids [] e = ap (λ sections. list_text (record { header = published_header (head_of s); sections = sections })) (sections_ca s key 0 s.cas (omega arith))
+    by_ids [] e = ap (λ sections. krl_text (record { header = published_header (head_of s); sections = sections })) (sections_ca s key 0 s.cas (omega arith))
     by_ids (k ∷ ks) e = absurd cc
 
 -- ---- histories

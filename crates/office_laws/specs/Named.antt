@@ -9,15 +9,15 @@ use Rattle.office.specs.declared.arrival.Arrival.{Arrival}
 use Rattle.office.specs.History.{first_accepted}
 
 -- the message revokes the serial, alone or in a range
-abbrev pub names_serial : ℕ → Message → Bool
-names_serial n (message.Department d) = false
-names_serial n (message.Issue i) = false
-names_serial n (message.Renew r) = false
-names_serial n (message.Deliver d) = false
-names_serial n (message.RevokeSerial serial) = n == serial
-names_serial n (message.RevokeRange r) = nat_le r.lo n && nat_le n r.hi
-names_serial n (message.RevokeKeyId key_id) = false
-names_serial n (message.Rollover k) = false
+abbrev pub revokes_serial : ℕ → Message → Bool
+revokes_serial n (message.Department d) = false
+revokes_serial n (message.Issue i) = false
+revokes_serial n (message.Renew r) = false
+revokes_serial n (message.Deliver d) = false
+revokes_serial n (message.RevokeSerial serial) = n == serial
+revokes_serial n (message.RevokeRange r) = nat_le r.lo n && nat_le n r.hi
+revokes_serial n (message.RevokeKeyId key_id) = false
+revokes_serial n (message.Rollover k) = false
 
 -- the message revokes the key ID
 abbrev pub names_key_id : List ℕ → Message → Bool
@@ -32,7 +32,7 @@ names_key_id k (message.Rollover key) = false
 
 -- an accepted message in the history revokes the serial
 abbrev pub is_serial_named : Opening → List Arrival → ℕ → Bool
-is_serial_named o l n = list_any (λ f. names_serial n f.message) (first_accepted o l)
+is_serial_named o l n = list_any (λ f. revokes_serial n f.message) (first_accepted o l)
 
 -- an accepted message in the history revokes the key ID
 abbrev pub is_key_id_named : Opening → List Arrival → List ℕ → Bool

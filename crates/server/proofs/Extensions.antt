@@ -12,7 +12,8 @@ use Rattle.web.specs.Answers.{arrival_by, with_ask}
 use Rattle.web.specs.Runs.{AllDue}
 use Rattle.server.specs.declared.connection_fault.Fault.{Fault}
 use Rattle.server.specs.Books.{Book}
-use Rattle.server.specs.Connections.{Talk, Visit, answered, cut, closed, AreServed, Visits, Meets, Extends, IsExtended, IsTimely, exchange_of, given_of}
+use Rattle.server.specs.Connections.{Talk, Visit, answered, cut, closed, AreServed, Visits, Visited, Extends}
+use Rattle.server.specs.Connections.{IsExtended, IsTimely, exchange_of, given_of}
 
 -- a history with at most `most` more arrivals
 record Grows (most : ℕ) (old new : List Arrival) : Type 0 where
@@ -93,7 +94,7 @@ visit_extends result book book' source source' register old new x h =
 
 -- n connections add at most n arrivals.
 pub meets_extends : {S : Type 0} (n : ℕ) (book book' : Option Book) (source source' : Option (List ℕ))
-    (register : Ghosts S) (old new : S) → Meets n book book' source source' register old new
+    (register : Ghosts S) (old new : S) → Visited n book book' source source' register old new
     → register.is_honest new → Extends n (register.means old) (register.means new)
 meets_extends n book book' source source' register old new x h =
     subst (λ (most : ℕ). Extends most (register.means old) (register.means new)) x.all

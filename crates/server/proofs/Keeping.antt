@@ -10,7 +10,7 @@ use Rattle.waiting.specs.Knowing.{MeansKnown}
 use Rattle.waiting.proofs.Covering.{knows_nothing}
 use Rattle.waiting.proofs.Kept.{none_kept}
 use Rattle.server.specs.Books.{Book}
-use Rattle.server.specs.Connections.{Extends, Meets, MeetsTold}
+use Rattle.server.specs.Connections.{Extends, Visited, MeetsTold}
 
 -- `Extends` still holds for a stronger meaning before and for a weaker one after
 pub extends_as : (most : ℕ) (before before' after after' : Opening → List Arrival → Type 0)
@@ -35,7 +35,7 @@ known_at_first means below register seen rows revoked same none empty unread o l
 pub met_as : {S T : Type 0} (n : ℕ) (book book' : Option Book) (nonces nonces' : Option (List ℕ)) (r : Ghosts T)
     (q : Ghosts S) (a b : T) (c d : S) → ((o : Opening) (l : List Arrival) → q.means c o l → r.means a o l)
     → ((o : Opening) (l : List Arrival) → r.means b o l → q.means d o l) → (q.is_honest d → r.is_honest b)
-    → (r.is_open b → q.is_open d) → Meets n book book' nonces nonces' r a b → Meets n book book' nonces nonces' q c d
+    → (r.is_open b → q.is_open d) → Visited n book book' nonces nonces' r a b → Visited n book book' nonces nonces' q c d
 met_as n book book' from from' r q a b c d first last honest opened x = record {
   visits = x.visits;
   all = x.all;

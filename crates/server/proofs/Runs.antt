@@ -12,15 +12,16 @@ use Rattle.web.specs.Answers.{AsksTheRegister, with_ask}
 use Rattle.web.specs.Runs.{AllDue, HasAnswered}
 use Rattle.server.specs.declared.connection_fault.Fault.{Fault}
 use Rattle.server.specs.Books.{Book, WhereTold}
-use Rattle.server.specs.Connections.{Visit, answered, cut, closed, AreServed, EndsWith, IfGiven, Meets, Tells, TellsAll, Visits, drawn_of, exchange_of, given_of}
-use Rattle.server.specs.Connections.{MeetsTold, line_of, visit_line, visit_lines}
+use Rattle.server.specs.Connections.{Visit, answered, cut, closed, AreServed, EndsWith, IfGiven, Visited, TellsVisit}
+use Rattle.server.specs.Connections.{TellsAll, Visits, drawn_of, exchange_of, given_of}
+use Rattle.server.specs.Connections.{MeetsTold, fault_line, visit_line, visit_lines}
 use Rattle.server.specs.Names.{connection_line}
 
 -- one more visit in the book, at the end
 told_more : (visits : List Visit) (visit : Visit) (old mid new : Option Book) → TellsAll visits old mid
-    → WhereTold (Tells visit) mid new → TellsAll (visits ++ visit ∷ []) old new
+    → WhereTold (TellsVisit visit) mid new → TellsAll (visits ++ visit ∷ []) old new
 told_more [] visit old mid new first last =
-    (new, subst (λ (b : Option Book). WhereTold (Tells visit) b new) first last, refl)
+    (new, subst (λ (b : Option Book). WhereTold (TellsVisit visit) b new) first last, refl)
 told_more (v ∷ visits) visit old mid new first last =
     (first.0, first.1, told_more visits visit first.0 mid new first.2 last)
 
@@ -102,7 +103,7 @@ served_more register visits visit result s0 s1 s2 ends first last back stays = �
 
 -- zero connections change nothing
 pub meets_none : {S : Type 0} (book : Option Book) (source : Option (List ℕ)) (register : Ghosts S) (s : S)
-    → Meets 0 book book source source register s s
+    → Visited 0 book book source source register s s
 meets_none book source register s = record {
   visits = [];
   all = refl;
@@ -113,10 +114,10 @@ meets_none book source register s = record {
 
 -- one more connection
 pub meets_more : {S T : Type 0} (n : ℕ) (result : Result T Fault) (b0 b1 b2 : Option Book) (n0 n1 n2 : Option (List ℕ))
-    (register : Ghosts S) (s0 s1 s2 : S) → Meets n b0 b1 n0 n1 register s0 s1
+    (register : Ghosts S) (s0 s1 s2 : S) → Visited n b0 b1 n0 n1 register s0 s1
     → Visits result b1 b2 n1 n2 register s1 s2 → (register.is_honest s2 → register.is_honest s1)
     → (register.is_honest s2 → IfGiven result (register.is_open s1 → register.is_open s2))
-    → Meets (n + 1) b0 b2 n0 n2 register s0 s2
+    → Visited (n + 1) b0 b2 n0 n2 register s0 s2
 meets_more n result b0 b1 b2 n0 n1 n2 register s0 s1 s2 m v back stays =
     let all : length (m.visits ++ v.visit ∷ []) ≡ n + 1 = omega (arith, length-append m.visits (v.visit ∷ []), m.all) in
     record {
@@ -131,7 +132,7 @@ meets_more n result b0 b1 b2 n0 n1 n2 register s0 s1 s2 m v back stays =
 
 -- a visit that ends with a result has the result's line
 same_line : {T : Type 0} (number : ℕ) (visit : Visit) (result : Result T Fault) → EndsWith visit result
-    → line_of number result ≡ visit_line number visit
+    → fault_line number result ≡ visit_line number visit
 same_line number (answered talk) (Ok t) ends = refl
 same_line number (answered talk) (Err fault) ends = absurd ends
 same_line number (cut talk) (Ok t) ends = absurd ends
@@ -164,7 +165,7 @@ pub told_one_more : {S T : Type 0} (n : ℕ) (result : Result T Fault) (b0 b1 b2
     → MeetsTold n b0 b1 n0 n1 register s0 s1 f0 f1 t0 t1
     → Visits result b1 b2 n1 n2 register s1 s2 → (register.is_honest s2 → register.is_honest s1)
     → (register.is_honest s2 → IfGiven result (register.is_open s1 → register.is_open s2))
-    → f0 ≤ f1 → f1 ≤ f2 → (f2 ≡ f1 → Appends t1 t2 (line_of (n + 1) result))
+    → f0 ≤ f1 → f1 ≤ f2 → (f2 ≡ f1 → Appends t1 t2 (fault_line (n + 1) result))
     → MeetsTold (n + 1) b0 b2 n0 n2 register s0 s2 f0 f2 t0 t2
 unfolding meets_more
 told_one_more n result b0 b1 b2 n0 n1 n2 register s0 s1 s2 f0 f1 f2 t0 t1 t2 m v back stays low high told = record {
@@ -173,7 +174,7 @@ told_one_more n result b0 b1 b2 n0 n1 n2 register s0 s1 s2 f0 f1 f2 t0 t1 t2 m v
       let first : f1 ≡ f0 = omega (arith, same, low, high) in
       let last : f2 ≡ f1 = omega (arith, same, low, high) in
       let at : n + 1 ≡ 1 + length m.meets.visits = omega (arith, m.meets.all) in
-      let line : line_of (n + 1) result ≡ visit_line (1 + length m.meets.visits) v.visit =
+      let line : fault_line (n + 1) result ≡ visit_line (1 + length m.meets.visits) v.visit =
       same_line (n + 1) v.visit result v.ends ∙ ap (λ k. visit_line k v.visit) at in
       subst (Appends t0 t2) (lines_more 1 m.meets.visits v.visit)
       (Appends-trans t0 t1 t2 (visit_lines 1 m.meets.visits) (visit_line (1 + length m.meets.visits) v.visit)

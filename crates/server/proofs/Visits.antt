@@ -21,8 +21,9 @@ use Rattle.web.specs.Requests.{IsOneRequest}
 use Rattle.web.specs.Served.{Served}
 use Rattle.server.specs.declared.connection_fault.Fault.{Fault}
 use Rattle.server.specs.declared.connection_fault.Fault.TheVariants.{Socket, Clock, Serving}
-use Rattle.server.specs.Books.{Book, WhereTold, IsAccepted, IsEnded}
-use Rattle.server.specs.Connections.{Talk, answered, cut, closed, AreServed, IsHeld, IsOfAccepting, IsSilent, Tells, TellsFault, Visits}
+use Rattle.server.specs.Books.{Book, WhereTold, IsConnectionAccepted, IsEnded}
+use Rattle.server.specs.Connections.{Talk, answered, cut, closed, AreServed, IsHeld, IsOfAccepting, IsSilent}
+use Rattle.server.specs.Connections.{TellsVisit, TellsFault, Visits}
 
 -- the bytes read from a connection are a prefix of what it sent
 split_request : (sent : List ℕ) (reader : Option (List ℕ)) (request : List ℕ) → Consumes (Some sent) reader request
@@ -39,7 +40,7 @@ took_all (Some all) written taken wrote took = let same : all ≡ taken = cc in 
 -- the book after a request that was served, and after these bytes were written
 told_held : (talk : Talk) (written : List ℕ) (reader reader' writer writer' : Option (List ℕ)) (old mid new : Option
     Book)
-    → WhereTold (IsAccepted reader writer talk.exchange.moment) old mid → Consumes reader reader' talk.exchange.request
+    → WhereTold (IsConnectionAccepted reader writer talk.exchange.moment) old mid → Consumes reader reader' talk.exchange.request
     → IsOneRequest reader' talk.exchange.request
     → Appends writer writer' written → WhereTold (IsEnded writer') mid new → WhereTold (IsHeld talk written) old new
 told_held talk written reader reader' writer writer' None mid new accepted taken one wrote ended = tt
@@ -65,7 +66,7 @@ told_held talk written reader reader' writer writer' (Some old) (Some mid) (Some
 
 -- the book after a connection on which nothing was written
 told_closed : (fault : ServeFault) (reader writer writer' : Option (List ℕ)) (moment : ℕ) (old mid new : Option Book)
-    → WhereTold (IsAccepted reader writer moment) old mid
+    → WhereTold (IsConnectionAccepted reader writer moment) old mid
     → writer' ≡ writer → WhereTold (IsEnded writer') mid new
     → WhereTold (TellsFault (Serving fault)) old new
 told_closed fault reader writer writer' moment None mid new accepted same ended = tt
@@ -98,7 +99,7 @@ serves_one x response before after keeps answers o l m =
 
 -- if the first `count` bytes of its response were written, the talk was cut
 told_cut : (talk : Talk) (count : ℕ) (old new : Option Book)
-    → WhereTold (IsHeld talk (take count talk.response)) old new → WhereTold (Tells (cut talk)) old new
+    → WhereTold (IsHeld talk (take count talk.response)) old new → WhereTold (TellsVisit (cut talk)) old new
 told_cut talk count None new held = tt
 told_cut talk count (Some old) None held = absurd held
 told_cut talk count (Some old) (Some new) held = (count, held)
@@ -111,7 +112,7 @@ fails A fault = Err fault
 module _ (S W : Type 0) (register : Ghosts S) (taken : W → Option (List ℕ))
     (reader reader' source source' : Option (List ℕ))
     (w w' : W) (s s' : S) (old mid new : Option Book) (moment : ℕ) (lawful : moment ≤ LATEST_MOMENT)
-    (accepted : WhereTold (IsAccepted reader (taken w) moment) old mid)
+    (accepted : WhereTold (IsConnectionAccepted reader (taken w) moment) old mid)
     (ended : WhereTold (IsEnded (taken w')) mid new) where
   -- its request was served
   abbrev IsServed : Type 0

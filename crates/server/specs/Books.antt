@@ -23,7 +23,7 @@ WhereTold holds (Some old) None = ⊥
 WhereTold holds (Some old) (Some new) = holds old new
 
 -- The next connection was accepted at this time: its reader returns what it sends, and its writer has taken nothing.
-pub record IsAccepted (reader writer : Option (List ℕ)) (moment : ℕ) (old new : Book) : Type 0 where
+pub record IsConnectionAccepted (reader writer : Option (List ℕ)) (moment : ℕ) (old new : Book) : Type 0 where
   pub sent : List ℕ
   pub coming : old.coming ≡ record { sent = sent; moment = moment } ∷ new.coming
   pub kept : new.written ≡ old.written

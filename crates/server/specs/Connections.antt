@@ -80,15 +80,15 @@ TellsFault Clock old new = ⊥
 TellsFault (Serving fault) old new = (next : Coming) × IsMet old new next []
 
 -- the book after a visit
-abbrev pub Tells : Visit → (old new : Book) → Type 0
-Tells (answered talk) old new = IsHeld talk talk.response old new
-Tells (cut talk) old new = (count : ℕ) × IsHeld talk (take count talk.response) old new
-Tells (closed silence) old new = TellsFault silence.fault old new
+abbrev pub TellsVisit : Visit → (old new : Book) → Type 0
+TellsVisit (answered talk) old new = IsHeld talk talk.response old new
+TellsVisit (cut talk) old new = (count : ℕ) × IsHeld talk (take count talk.response) old new
+TellsVisit (closed silence) old new = TellsFault silence.fault old new
 
 -- the same for a sequence of visits
 abbrev pub TellsAll : List Visit → (old new : Option Book) → Type 0
 TellsAll [] old new = new ≡ old
-TellsAll (visit ∷ visits) old new = (mid : Option Book) × WhereTold (Tells visit) old mid × TellsAll visits mid new
+TellsAll (visit ∷ visits) old new = (mid : Option Book) × WhereTold (TellsVisit visit) old mid × TellsAll visits mid new
 
 -- accepting fails only with these two faults
 abbrev pub IsOfAccepting : Fault → Type 0
@@ -127,13 +127,13 @@ pub record Visits {A S : Type 0} (result : Result A Fault) (book book' : Option 
     (register : Ghosts S) (old new : S) : Type 0 where
   pub visit : Visit
   pub ends : EndsWith visit result
-  pub told : WhereTold (Tells visit) book book'
+  pub told : WhereTold (TellsVisit visit) book book'
   pub drawn : Consumes nonces nonces' (drawn_of visit)
   pub served : AreServed register old new (visit ∷ [])
 
 -- What `count` connections did, in order. The nonces that they drew, concatenated, are a prefix of the nonce source:
 -- each nonce is the next 32 bytes, none is used twice, and nothing is skipped except what was drawn before a fault.
-pub record Meets {S : Type 0} (count : ℕ) (book book' : Option Book) (nonces nonces' : Option (List ℕ))
+pub record Visited {S : Type 0} (count : ℕ) (book book' : Option Book) (nonces nonces' : Option (List ℕ))
     (register : Ghosts S) (old new : S) : Type 0 where
   pub visits : List Visit
   pub all : length visits ≡ count
@@ -144,9 +144,9 @@ pub record Meets {S : Type 0} (count : ℕ) (book book' : Option Book) (nonces n
 -- ---- what is printed
 
 -- the line for a connection with this result: none if it was answered
-abbrev pub line_of : {A : Type 0} → (number : ℕ) → Result A Fault → List ℕ
-line_of number (Ok a) = []
-line_of number (Err fault) = connection_line number fault
+abbrev pub fault_line : {A : Type 0} → (number : ℕ) → Result A Fault → List ℕ
+fault_line number (Ok a) = []
+fault_line number (Err fault) = connection_line number fault
 
 -- the line for a visit
 abbrev pub visit_line : (number : ℕ) → Visit → List ℕ
@@ -162,7 +162,7 @@ visit_lines number (visit ∷ visits) = visit_line number visit ++ visit_lines (
 -- What `count` connections did. If the second output hasn't failed meanwhile, it has taken exactly their lines.
 pub record MeetsTold {S : Type 0} (count : ℕ) (book book' : Option Book) (nonces nonces' : Option (List ℕ))
     (register : Ghosts S) (old new : S) (failed failed' : ℕ) (taken taken' : Option (List ℕ)) : Type 0 where
-  pub meets : Meets count book book' nonces nonces' register old new
+  pub meets : Visited count book book' nonces nonces' register old new
   pub lines : failed' ≡ failed → Appends taken taken' (visit_lines 1 meets.visits)
 
 -- ---- what is added to the history

@@ -1,7 +1,7 @@
 //! The source of connections.
 
 ghost use Rattle.std.specs.Prelude.{◌≡◌, ◌≤◌, Option, None, IfOk, IfErr};
-ghost use Rattle.server.specs.Books.{Book, WhereTold, IsAccepted, IsEnded};
+ghost use Rattle.server.specs.Books.{Book, WhereTold, IsConnectionAccepted, IsEnded};
 ghost use Rattle.server.specs.Connections.{IsOfAccepting, TellsFault};
 
 use crate::connection_fault::Fault;
@@ -38,7 +38,7 @@ pub trait Listener {
     /// `Socket` if no connection could be accepted; a listener with a book then has none to come. `Clock` if the
     /// connection was closed because the clock failed or its time is after the latest one.
     fn accept(&mut self) -> Result<Connection<Self::Reader, Self::Writer>, Fault>
-        ensures ok { IfOk result (λ c. WhereTold (IsAccepted (Self.Reader.remaining c.reader)
+        ensures ok { IfOk result (λ c. WhereTold (IsConnectionAccepted (Self.Reader.remaining c.reader)
             (Self.Writer.taken c.writer) c.moment) (book self.old) (book self.new)) }
         ensures lawful { IfOk result (λ c. c.moment ≤ 253402300799) }
         ensures fresh { IfOk result (λ c. (Self.Reader.failed c.reader ≡ 0) × (Self.Writer.failed c.writer ≡ 0)) }

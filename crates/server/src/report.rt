@@ -2,7 +2,7 @@
 
 ghost use Rattle.std.specs.Prelude.{◌≡◌, ◌≤◌, ◌<◌, ◌+◌, OnOk, decimal, if◌then◌else◌, is_ok};
 ghost use Rattle.std.specs.Io.KnownBytes.{Appends};
-ghost use Rattle.server.specs.Connections.{line_of};
+ghost use Rattle.server.specs.Connections.{fault_line};
 ghost use Rattle.server.specs.Names.{connection_line, no_memory_line};
 
 use crate::connection_fault::Fault;
@@ -35,7 +35,7 @@ fn print_fault<E: Sink>(err: &mut E, connection: u64, fault: Fault) -> Result<()
 pub(crate) fn report<E: Sink>(err: &mut E, connection: u64, served: Result<(), Fault>)
     requires { E.failed err.old < u64.MAX }
     ensures told { E.failed err.new ≡ E.failed err.old
-        → Appends (E.taken err.old) (E.taken err.new) (line_of connection served) }
+        → Appends (E.taken err.old) (E.taken err.new) (fault_line connection served) }
     ensures least { E.failed err.old ≤ E.failed err.new }
     ensures most { E.failed err.new ≤ E.failed err.old + 1 }
 {

@@ -3,7 +3,7 @@ use Rattle.std.proofs.Common.{◌≡◌, ◌⊎◌, ◌∙◌, true, List, Optio
 use Rattle.clap.specs.Words.{App, IsAmong, Text, fault_of, is_simple_and_free}
 use Rattle.clap.specs.declared.error.kind.ErrorKind.{ErrorKind}
 use Rattle.clap.specs.declared.error.kind.ErrorKind.TheVariants.{OutOfMemory}
-use Rattle.command_line.specs.Answers.{IsAnswered, IsErrorOf, IsLack}
+use Rattle.command_line.specs.Answers.{IsFaultOfClap, IsErrorOf, IsLack}
 use Rattle.command_line.specs.declared.words_fault.WordsFault.{WordsFault}
 use Rattle.command_line.specs.declared.words_fault.WordsFault.TheVariants.{Help, BadWords, NoMemory}
 use Rattle.command_line.proofs.Faults.{error_says}
@@ -20,7 +20,7 @@ lack_is_fault words found NoMemory same lack = tt
 
 -- An error of clap as a fault of the words.
 pub error_is_fault : (app : App) (words : List Text) (kind : ErrorKind) (fault : WordsFault) → app ≡ station_command
-    → IsAnswered kind fault → (is_simple_and_free app ≡ true → (kind ≡ OutOfMemory) ⊎ IsAmong kind (fault_of app words))
+    → IsFaultOfClap kind fault → (is_simple_and_free app ≡ true → (kind ≡ OutOfMemory) ⊎ IsAmong kind (fault_of app words))
     → IsFaultOf words fault
 error_is_fault app words kind fault same answered among =
     go fault (error_says station_command words kind fault answered

@@ -2,7 +2,7 @@
 use Rattle.std.specs.Prelude.{ℕ, List, Bool, Option, Some, None, codes, bytes_eq, map}
 use Rattle.std.specs.Prelude.{if◌then◌else◌, option_and_then, option_map, string_bytes}
 use Rattle.clap.specs.Words.{Row, Text, all_of, first_of, subcommand_of}
-use Rattle.command_line.specs.Asked.{◌>>=◌, number_at, number_or}
+use Rattle.command_line.specs.Asked.{◌>>=◌, number_given, number_or}
 use Rattle.command_line.specs.Command.{most}
 use Rattle.station_command.specs.declared.job.StationJob.{StationJob}
 use Rattle.station_command.specs.declared.job.StationJob.TheVariants as job
@@ -36,8 +36,8 @@ abbrev pub init_in : List Row → Option Asked
 init_in rows = do
   db ← first_of (codes "db") rows
   ca ← first_of (codes "ca") rows
-  first ← number_at rows (codes "first") 0 most
-  last ← number_at rows (codes "last") 0 most
+  first ← number_given rows (codes "first") 0 most
+  last ← number_given rows (codes "last") 0 most
   Some (init db ca first last)
 
 -- what `judge` asks for; without `--ahead`, the time ahead is an hour
@@ -55,7 +55,7 @@ bodies_in rows = option_map bodies (first_of (codes "db") rows)
 abbrev pub body_in : List Row → Option Asked
 body_in rows = do
   db ← first_of (codes "db") rows
-  serial ← number_at rows (codes "SERIAL") 1 most
+  serial ← number_given rows (codes "SERIAL") 1 most
   Some (body db serial)
 
 abbrev pub policy_in : List Row → Option Asked
@@ -64,7 +64,7 @@ policy_in rows = option_map policy (first_of (codes "FILE") rows)
 abbrev pub retire_in : List Row → Option Asked
 retire_in rows = do
   db ← first_of (codes "db") rows
-  last ← number_at rows (codes "last") 0 most
+  last ← number_given rows (codes "last") 0 most
   Some (retire db last)
 
 -- a guard of lists is created only if `--init` was given

@@ -10,12 +10,12 @@ use Rattle.office.specs.declared.opening.Opening.{Opening}
 use Rattle.office.specs.declared.arrival.Arrival.{Arrival}
 use Rattle.office.specs.declared.arrival.Kept.{Kept}
 use Rattle.office.specs.declared.store_fault.StoreFault.{StoreFault}
-use Rattle.office.specs.Faults.{HasCause, IsOfARegister}
+use Rattle.office.specs.Faults.{HasRegisterCause, IsOfARegister}
 use Rattle.office.specs.State.{State}
-use Rattle.store.specs.Faults.{fault_of, told}
+use Rattle.store.specs.Faults.{store_fault_of, told}
 use Rattle.store.specs.Transactions.{IsAsBefore}
 use Rattle.store.proofs.Before.{fails_before}
-use Rattle.store.specs.Meaning.{DiskFailed, HasFailed, Tells}
+use Rattle.store.specs.Meaning.{DiskFailed, RegisterHasFailed, Tells}
 use Rattle.store.specs.Showing.{Reading, ShowsOffice}
 use Rattle.store.proofs.Reading.{At}
 use Rattle.store.proofs.Telling.{disk_failed, tells_still}
@@ -29,13 +29,13 @@ pub record Answered {X : Type 0} (Shown : State → List Kept → X → Type 0) 
   pub row : HasCleanDisk new → IfOk q (λ x. (o : Opening) (l : List Arrival) → Tells old o l → At Shown o l x)
   pub same : HasCleanDisk new → (o : Opening) (l : List Arrival) → Tells old o l → Tells new o l
   pub before : HasCleanDisk new → IsTrue new.is_open → IsAsBefore old new
-  pub cause : IfErr q (λ e. HasCause e (HasFailed old new))
+  pub cause : IfErr q (λ e. HasRegisterCause e (RegisterHasFailed old new))
   pub only : HasCleanDisk new → IfErr q (λ e. (o : Opening) (l : List Arrival) → Tells old o l → IsOfARegister e)
 
 module _ {X : Type 0} (Shown : State → List Kept → X → Type 0) (old new : Connection) where
   -- lack of memory and a failure of the database are the only faults
   of_a_register : (f : Fault) → OnlyReads {X = X} old new (Err f) → ShowsOffice Shown old new (Err f)
-      → (o : Opening) (l : List Arrival) → Tells old o l → IsOfARegister (fault_of f)
+      → (o : Opening) (l : List Arrival) → Tells old o l → IsOfARegister (store_fault_of f)
   of_a_register NoMemory was shows o l tells = tt
   of_a_register Device was shows o l tells = tt
   of_a_register Damaged was shows o l tells =
@@ -51,7 +51,7 @@ module _ {X : Type 0} (Shown : State → List Kept → X → Type 0) (old new : 
 
   -- a failure has its cause
   caused : (f : Fault) → (HasCleanDisk new → ShowsOffice Shown old new (Err f))
-      → HasCause (fault_of f) (HasFailed old new)
+      → HasRegisterCause (store_fault_of f) (RegisterHasFailed old new)
   caused NoMemory shows = tt
   caused Damaged shows = tt
   caused Device shows = λ clean. failed (shows clean)

@@ -19,7 +19,8 @@ use Rattle.office.specs.declared.certificate.Certificate.{Certificate}
 use Rattle.office.specs.Certificates.{IsCertificate}
 use Rattle.store_sql.specs.declared.certs.CertRow.{CertRow}
 use Rattle.store_sql.specs.declared.table_fault.Fault.{Fault}
-use Rattle.store.specs.Certificates.{AreCounted, IsSigned, certificate_in, certificate_with, fits, lies_within}
+use Rattle.store.specs.Certificates.{AreCounted, IsSigned, certificate_in, certificate_with_row, row_matches}
+use Rattle.store.specs.Certificates.{lies_within}
 use Rattle.store.specs.Certificates.{signature_in}
 use Rattle.store_sql.specs.Changes.{is_cert_within as rows_within}
 use Rattle.store.specs.Reading.{IsRead, each}
@@ -38,7 +39,7 @@ signature_found (Some bytes) s e = elim (cases_Bool (eqb (length bytes) 64)) [
   | inr is ↦ absurd (none-some s (rw is at e))
 ]
 
-fits_again : (c : Certificate) → IsCertificate c → fits (cert_row c) c.fields ≡ true
+fits_again : (c : Certificate) → IsCertificate c → row_matches (cert_row c) c.fields ≡ true
 fits_again c is =
     rw (eq-eqb c.fields.serial c.fields.serial refl, (bytes_eq-Decides c.fields.key_id c.fields.key_id).1 refl)
     is.department
@@ -57,8 +58,8 @@ row_is row serial key_id signature s k g = rw (sym s, sym k, sym g) refl
 
 -- the certificate built from a row has this row
 with_row : (row : CertRow) (fields : CertFields) (signature : Option Signature) → IsCertFields fields
-    → row.body ≡ body_text fields → fits row fields ≡ true → signature_in row.signature ≡ Some signature
-    → IsCertificate (certificate_with row fields signature) × (row ≡ cert_row (certificate_with row fields signature))
+    → row.body ≡ body_text fields → row_matches row fields ≡ true → signature_in row.signature ≡ Some signature
+    → IsCertificate (certificate_with_row row fields signature) × (row ≡ cert_row (certificate_with_row row fields signature))
 with_row row fields signature lawful text same signed =
     let first = and_parts _ _ same in
     let second = and_parts _ _ first.1 in (
@@ -69,8 +70,8 @@ with_row row fields signature lawful text same signed =
     )
 
 pub found_with : (row : CertRow) (fields : CertFields) (signature : Option Signature) (r : Result Certificate Fault)
-    → IsRead (Some (certificate_with row fields signature)) r → IsCertFields fields
-    → row.body ≡ body_text fields → fits row fields ≡ true → signature_in row.signature ≡ Some signature
+    → IsRead (Some (certificate_with_row row fields signature)) r → IsCertFields fields
+    → row.body ≡ body_text fields → row_matches row fields ≡ true → signature_in row.signature ≡ Some signature
     → IfOk r (λ c. IsCertificate c × (row ≡ cert_row c))
 found_with row fields signature (Ok c) h lawful text same signed =
     subst (λ x. IsCertificate x × (row ≡ cert_row x)) (same_Some _ _ h)

@@ -9,8 +9,8 @@ use Rattle.store_sql.specs.declared.offices.OfficeRow.{OfficeRow}
 use Rattle.store_sql.specs.declared.cas.CaRow.{CaRow}
 use Rattle.store_sql.specs.Cells.{ca_cells}
 use Rattle.store_sql.specs.Contents.{Contents, MeansWithoutCa}
-use Rattle.store_sql.specs.Changes.{with_ca, with_schema}
-use Rattle.store.specs.Former.{ca_of, first_ca, migrated}
+use Rattle.store_sql.specs.Changes.{with_ca_row, with_schema}
+use Rattle.store.specs.Former.{ca_of, first_ca_row, migrated}
 
 -- without a table of CAs there is no CA
 none_of : (cas : List CaRow) → IsPermutation (map ca_cells cas) [] → cas ≡ []
@@ -35,18 +35,18 @@ ca_same (x ∷ w ∷ xs) (y ∷ []) p = absurd (let many = length_permutation (x
 ca_same (x ∷ w ∷ xs) (y ∷ z ∷ ys) p = refl
 
 one_of : (o : OfficeRow) (a b : Bool) (ca : CaRow)
-    → (if a then (if b then Ok (first_ca o) else Err Damaged) else Err WrongSchema) ≡ Ok ca → first_ca o ≡ ca
+    → (if a then (if b then Ok (first_ca_row o) else Err Damaged) else Err WrongSchema) ≡ Ok ca → first_ca_row o ≡ ca
 one_of o true true ca e = cc
 one_of o true false ca e = absurd cc
 one_of o false b ca e = absurd cc
 
-only_ca : (offices : List OfficeRow) (ca : CaRow) → ca_of offices ≡ Ok ca → map first_ca offices ≡ ca ∷ []
+only_ca : (offices : List OfficeRow) (ca : CaRow) → ca_of offices ≡ Ok ca → map first_ca_row offices ≡ ca ∷ []
 only_ca [] ca e = absurd cc
 only_ca (o ∷ []) ca e = ap (λ (x : CaRow). x ∷ []) (one_of o (o.schema == 1) (o.id == 1) ca e)
 only_ca (o ∷ p ∷ offices) ca e = absurd cc
 
 -- inserting the rows gives the contents of schema 2
 pub put_in : (c : Contents) (ca : CaRow) → ca_of c.offices ≡ Ok ca → c.cas ≡ []
-    → with_schema 2 (with_ca ca c) ≡ migrated c
+    → with_schema 2 (with_ca_row ca c) ≡ migrated c
 put_in c ca is none = ap (λ (cas : List CaRow). with_schema 2 (record c { cas = cas }))
     (ap (λ (cas : List CaRow). ca ∷ cas) none ∙ sym (only_ca c.offices ca is))

@@ -24,7 +24,7 @@ use Rattle.cert.specs.Bodies.{kind_number}
 use Rattle.store.specs.Rows.{department_row}
 use Rattle.store.specs.Reading.{IsRead, each}
 use Rattle.cert.specs.Reading.{kind_of}
-use Rattle.store.specs.Departments.{department_in, if_lawful, parted, parts_of}
+use Rattle.store.specs.Departments.{department_of_row, if_lawful, parted, parts_of}
 use Rattle.cert.proofs.BodyParts.{kind_again, kind_found}
 
 -- ---- texts joined by commas
@@ -96,7 +96,7 @@ parts_again d is =
     (namespaces_lack d.namespaces namespaces).0 in
     rw (admins, rs, os, es, ns) refl
 
-pub row_again : (d : Department) → is_department d ≡ true → department_in (department_row d) ≡ Some d
+pub row_again : (d : Department) → is_department d ≡ true → department_of_row (department_row d) ≡ Some d
 row_again d is =
     ap (λ (o : Option Kind). option_and_then (λ kind. if_lawful (parts_of (department_row d) kind)) o)
     (kind_again d.kind)
@@ -118,7 +118,7 @@ row_of_parts row k is = rw (
   is,
 ) refl
 
-pub row_found : (row : DepartmentRow) (d : Department) → department_in row ≡ Some d
+pub row_found : (row : DepartmentRow) (d : Department) → department_of_row row ≡ Some d
     → (is_department d ≡ true) × (row ≡ department_row d)
 row_found row d e = go (kind_of row.kind) refl e
   where
@@ -132,14 +132,14 @@ row_found row d e = go (kind_of row.kind) refl e
 
 -- ---- the values of a row
 
-pub reads_found : (row : DepartmentRow) (r : Result Department Fault) → IsRead (department_in row) r
+pub reads_found : (row : DepartmentRow) (r : Result Department Fault) → IsRead (department_of_row row) r
     → IfOk r (λ d. IsTrue (is_department d) × (row ≡ department_row d))
 reads_found row (Ok d) h = row_found row d h
 reads_found row (Err f) h = tt
 
-pub reads_again : (row : DepartmentRow) (r : Result Department Fault) → IsRead (department_in row) r
+pub reads_again : (row : DepartmentRow) (r : Result Department Fault) → IsRead (department_of_row row) r
     → (d : Department) → IsTrue (is_department d) → row ≡ department_row d → IsRead (Some d) r
-reads_again row r h d is same = subst (λ o. IsRead o r) (ap department_in same ∙ row_again d is) h
+reads_again row r h d is same = subst (λ o. IsRead o r) (ap department_of_row same ∙ row_again d is) h
 
 -- ---- all rows
 
@@ -148,7 +148,7 @@ department_rows entries = map (λ e. department_row e.1) entries
 
 pub departments_again : (entries : List (List ℕ × Department))
     → AllByRecursion (λ e. (is_department e.1 ≡ true) × (e.0 ≡ e.1.name)) entries
-    → each department_in (department_rows entries) ≡ Some (map (λ e. e.1) entries)
+    → each department_of_row (department_rows entries) ≡ Some (map (λ e. e.1) entries)
 departments_again [] all = refl
 departments_again (e ∷ entries) all =
     ap₂ (λ (o : Option Department) (os : Option (List Department)).

@@ -6,7 +6,7 @@ use Rattle.std.specs.List.{AllByRecursion}
 use Rattle.std.proofs.lemmas.Bool.{both_ways, cases_Bool, cases_lt}
 use Rattle.std.proofs.lemmas.Bool.Decides.{nat_tests}
 use Rattle.store_sql.specs.declared.runs.RunRow.{RunRow}
-use Rattle.store_sql.specs.Runs.{begins}
+use Rattle.store_sql.specs.Runs.{begins_between}
 use Rattle.store_sql.proofs.LastRun.{Has, IsLast, all_from, all_has, has_filtered, has_kept}
 use Rattle.store.proofs.RunsApart.{AreApart}
 use Rattle.store.specs.Ranges.{joined_high, joined_low}
@@ -54,10 +54,10 @@ does lo hi q h = (grind (arith, nat_tests), grind (arith, nat_tests))
 it_does : (lo hi : ℕ) (q : RunRow) → lo ≤ q.hi + 1 → q.lo ≤ hi + 1 → touches lo hi q ≡ true
 it_does lo hi q low high = grind (arith, nat_tests)
 
-is_begun : (run q : RunRow) → run.lo ≤ q.lo → q.lo ≤ run.hi → begins run q ≡ true
+is_begun : (run q : RunRow) → run.lo ≤ q.lo → q.lo ≤ run.hi → begins_between run q ≡ true
 is_begun run q low high = grind (arith, nat_tests)
 
-begun : (run q : RunRow) → begins run q ≡ true → (run.lo ≤ q.lo) × (q.lo ≤ run.hi)
+begun : (run q : RunRow) → begins_between run q ≡ true → (run.lo ≤ q.lo) × (q.lo ≤ run.hi)
 begun run q h = (grind (arith, nat_tests), grind (arith, nat_tests))
 
 below : (a b : ℕ) → nat_le a b ≡ true → a ≤ b
@@ -178,7 +178,7 @@ module _ (lo hi : ℕ) (rows : List RunRow) (apart : AreApart rows) (order : lo 
 
   -- the runs that touch or overlap the interval are exactly those that begin within the merged run
   pub begin_within : (o p : Option RunRow) → IsLast lo rows o → IsLast (hi + 1) rows p → (q : RunRow) → Has rows q
-      → touches lo hi q ≡ begins (record { lo = joined_low lo o; hi = joined_high hi p }) q
+      → touches lo hi q ≡ begins_between (record { lo = joined_low lo o; hi = joined_high hi p }) q
   begin_within o p low high q here =
       let run : RunRow = record { lo = joined_low lo o; hi = joined_high hi p } in
       elim (cases_Bool (touches lo hi q)) [
@@ -188,7 +188,7 @@ module _ (lo hi : ℕ) (rows : List RunRow) (apart : AreApart rows) (order : lo 
             let some = (apart q q here here).0 in
             e ∙ sym (is_begun run q (omega (arith, in_whole.0, low_is o low))
             (omega (arith, in_whole.1, some, high_is p high)))
-        | inr e ↦ elim (cases_Bool (begins run q)) [
+        | inr e ↦ elim (cases_Bool (begins_between run q)) [
           | inl f ↦
               let ends = begun run q f in
               absurd (both_ways (touches lo hi q) e

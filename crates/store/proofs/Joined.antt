@@ -15,7 +15,7 @@ use Rattle.office.specs.declared.certificate.Certificate.{Certificate}
 use Rattle.office.specs.State.{State, next_serial}
 use Rattle.office.specs.Machine.{with_certificate, with_range}
 use Rattle.store_sql.specs.declared.runs.RunRow.{RunRow}
-use Rattle.store_sql.specs.Runs.{begins, last_at}
+use Rattle.store_sql.specs.Runs.{begins_between, last_at}
 use Rattle.store_sql.proofs.Edits.{filter_alike}
 use Rattle.store_sql.proofs.LastRun.{is_last}
 use Rattle.store.proofs.RunsApart.{AreApart, rows_apart}
@@ -87,7 +87,7 @@ rows_spanned s r is low high fits =
 -- the same, if the ends of the merged run come from the last runs that begin before the range's ends
 pub rows_joined : (s : State) (r : SerialRange) → is_range r ≡ true → s.opening.first ≤ r.lo → r.hi < next_serial s
     → next_serial s ≤ 2 ^ 64
-    → IsPermutation (whole_run s r ∷ filter (λ q. not (begins (whole_run s r) q)) (map run_row (revoked_runs s)))
+    → IsPermutation (whole_run s r ∷ filter (λ q. not (begins_between (whole_run s r) q)) (map run_row (revoked_runs s)))
     (map run_row (revoked_runs (with_range s r)))
 rows_joined s r is low high fits =
     let order = in_order r is in
@@ -98,8 +98,8 @@ rows_joined s r is low high fits =
     let last = is_last (r.hi + 1) rows in
     let whole : spanning r.lo r.hi (filter (touches r.lo r.hi) rows) ≡ whole_run s r =
     whole_is r.lo r.hi rows apart order.1 (last_at r.lo rows) (last_at (r.hi + 1) rows) first last in
-    let others : filter (λ q. not (touches r.lo r.hi q)) rows ≡ filter (λ q. not (begins (whole_run s r) q)) rows =
-    filter_alike (λ q. not (touches r.lo r.hi q)) (λ q. not (begins (whole_run s r) q)) rows
+    let others : filter (λ q. not (touches r.lo r.hi q)) rows ≡ filter (λ q. not (begins_between (whole_run s r) q)) rows =
+    filter_alike (λ q. not (touches r.lo r.hi q)) (λ q. not (begins_between (whole_run s r) q)) rows
     (λ q here. ap not
     (begin_within r.lo r.hi rows apart order.1 (last_at r.lo rows) (last_at (r.hi + 1) rows) first last q here)) in
     subst (λ (l : List RunRow). IsPermutation l (map run_row (revoked_runs (with_range s r))))

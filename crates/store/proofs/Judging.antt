@@ -16,10 +16,10 @@ use Rattle.store_sql.specs.declared.table_fault.Fault.TheVariants as table
 use Rattle.store_sql.specs.Contents.{Contents, Means}
 use Rattle.store_sql.specs.Calls.{Begins}
 use Rattle.store_sql.specs.Faults.{HasCause, HasFailed}
-use Rattle.store.specs.Faults.{fault_of, told}
+use Rattle.store.specs.Faults.{store_fault_of, told}
 use Rattle.store.specs.Transactions.{Makes, Rests}
 use Rattle.store.proofs.Steps.{goes_still}
-use Rattle.store.specs.Former.{Had, ca_of, first_ca, former_contents, migrated}
+use Rattle.store.specs.Former.{Had, ca_of, first_ca_row, former_contents, migrated}
 use Rattle.store_sql.specs.Refusals.{HasCauseOr}
 use Rattle.store.specs.Migrating.{HasStopped, IsCaDue, IsExcused, IsRefused, Judges, TellsEnd}
 use Rattle.store.proofs.Contents.{ca_same}
@@ -36,7 +36,7 @@ judged_for c P Q _ f h = h
 
 -- a fault of a call on the tables
 pub judged_fault : (old new : State) (c : Contents) (f : Fault) → HasCause old new f
-    → Judges c (HasStopped c old new) (Err (fault_of f))
+    → Judges c (HasStopped c old new) (Err (store_fault_of f))
 judged_fault old new c table.NoMemory h = tt
 judged_fault old new c table.Device h = inl h
 judged_fault old new c table.Damaged h = absurd h
@@ -62,7 +62,7 @@ judged_filled P a b d c rows ca r one clean le means found is h =
     (judged_put b d c ca r (ca_same c.offices rows found.1 ∙ is) (goes_still a b c found.0 means).means h)
 
 not_device : (o : OfficeRow) (a b : Bool)
-    → (if a then (if b then Ok (first_ca o) else Err Damaged) else Err WrongSchema) ≡ Err Device → ⊥
+    → (if a then (if b then Ok (first_ca_row o) else Err Damaged) else Err WrongSchema) ≡ Err Device → ⊥
 not_device o true true e = cc
 not_device o true false e = cc
 not_device o false b e = cc
@@ -92,7 +92,7 @@ judged_end mid new c P Q (Ok x) (Ok y) early late h inside tells = h
 judged_end mid new c P Q (Ok x) (Err e) early late h inside tells =
     let told = tells inside in subst (λ (e : StoreFault). Judges c Q (Err e)) (sym told.1) (by_fault told.0 told.2)
   where
-    by_fault : (f : Fault) → HasCause mid new f → Judges c Q (Err (fault_of f))
+    by_fault : (f : Fault) → HasCause mid new f → Judges c Q (Err (store_fault_of f))
     by_fault table.NoMemory cause = tt
     by_fault table.Device cause = late cause
     by_fault table.Damaged cause = absurd cause

@@ -140,7 +140,7 @@ module _ (p : Past) (a : Arrival) (d : Decision) (serving : List Ca) (history : 
       let top = last_of p.0 history.office.opening in
       let fits : next_serial s ≤ 2 ^ 64 = omega (arith, in_range, opening, top) in
       let t = with_range s r in
-      alone_there (joined_run r rows) (filter (λ q. not (runs.begins (joined_run r rows) q)) rows.runs) (revoked_runs t)
+      alone_there (joined_run r rows) (filter (λ q. not (runs.begins_between (joined_run r rows) q)) rows.runs) (revoked_runs t)
       (runs_in_runs t.revoked t.opening.first (length t.certificates) fits)
       (rows_joined s r range room.0 room.1 fits) why
 

@@ -9,7 +9,7 @@ use Rattle.store_sql.specs.declared.cas.CaRow.{CaRow}
 use Rattle.store_sql.specs.Schema.{without_ca}
 use Rattle.store_sql.specs.Contents.{Contents, Means, MeansWithoutCa}
 use Rattle.store_sql.specs.Calls.{Stays, Steps, WaitsAt}
-use Rattle.store_sql.specs.Changes.{with_ca, with_schema}
+use Rattle.store_sql.specs.Changes.{with_ca_row, with_schema}
 use Rattle.store.specs.Transactions.{Goes, Has, Makes, Waits}
 use Rattle.store.proofs.Steps.{Leads, goes, goes_still, goes_then, stops_then}
 use Rattle.store.specs.Former.{Had, ca_of, migrated}
@@ -20,14 +20,14 @@ use Rattle.store.proofs.Contents.{ca_same, no_cas, put_in}
 -- the rows were read, and then CA 1 and the schema number are written
 pub filled : (a b d : State) (rows : List OfficeRow) (ca : CaRow) (r : Result (Unit {0}) Fault)
     → ((c : Contents) → Means a.now c → IsUnchanged a b × IsPermutation c.offices rows) → ca_of rows ≡ Ok ca
-    → Makes Has (λ c. with_schema 2 (with_ca ca c)) b d r → Makes HasNoCa migrated a d (told r)
+    → Makes Has (λ c. with_schema 2 (with_ca_row ca c)) b d r → Makes HasNoCa migrated a d (told r)
 filled a b d rows ca (Ok x) found is put = λ c before.
     let f = found c before.0 in
     let g = goes_still a b c f.0 before.0 in
     let due : ca_of c.offices ≡ Ok ca = ca_same c.offices rows f.1 ∙ is in (
       tt,
       subst (Goes a d) (put_in c ca due before.1)
-          (goes_then a b d c (with_schema 2 (with_ca ca c)) g (put c g.means).1),
+          (goes_then a b d c (with_schema 2 (with_ca_row ca c)) g (put c g.means).1),
     )
 filled a b d rows ca (Err e) found is put = λ c before.
     let g = goes_still a b c (found c before.0).0 before.0 in stops_then a b d c g (put c g.means)

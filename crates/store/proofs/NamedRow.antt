@@ -17,7 +17,7 @@ use Rattle.message.specs.Values.{is_department}
 use Rattle.office.specs.declared.arrival.Kept.{Kept}
 use Rattle.office.specs.State.{State, department_named}
 use Rattle.store_sql.specs.Changes.{departments_named, has_name}
-use Rattle.store.specs.Departments.{department_in}
+use Rattle.store.specs.Departments.{department_of_row}
 use Rattle.store.specs.Lawful.{IsLawful}
 use Rattle.store.specs.Rows.{contents_of, department_row}
 use Rattle.store.proofs.DepartmentRows.{row_again}
@@ -71,5 +71,5 @@ found_lawful name (e ∷ es) d all is = elim (cases_Bool (is_eq (slice_cmp nat_c
 ]
 
 pub department_again : (name : List ℕ) (s : State) (d : Department) → IsLawful s → department_named s name ≡ Some d
-    → department_in (department_row d) ≡ Some d
+    → department_of_row (department_row d) ≡ Some d
 department_again name s d lawful is = row_again d (found_lawful name s.departments d lawful.departments is)

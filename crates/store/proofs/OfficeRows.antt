@@ -16,7 +16,7 @@ use Rattle.sqlite.specs.State.{State}
 use Rattle.store_sql.specs.Refusals.{HasCauseOr}
 use Rattle.store_sql.specs.declared.table_fault.Fault.{Fault}
 use Rattle.store_sql.specs.declared.table_fault.Fault.TheVariants as table_fault
-use Rattle.store.specs.Faults.{fault_of}
+use Rattle.store.specs.Faults.{store_fault_of}
 use Rattle.store.specs.Migrating.{HasStopped, IsExcused, RefusesFirstCa}
 use Rattle.store.specs.Meaning.{DiskFailed, Looks, opened_by}
 use Rattle.store.proofs.Telling.{disk_failed}
@@ -66,7 +66,7 @@ not_missed rows failed _ is h = absurd cc
 
 -- a fault that has its cause is excused by it
 pub excused_unless : (old new : State) (refused : Type 0) (f : Fault) → old.step_limit ≡ None → (refused → ⊥)
-    → HasCauseOr refused old new f → IsExcused (DiskFailed old new) (fault_of f)
+    → HasCauseOr refused old new f → IsExcused (DiskFailed old new) (store_fault_of f)
 excused_unless old new refused table_fault.NoMemory unlimited never cause = tt
 excused_unless old new refused table_fault.Device unlimited never (inl failed) = disk_failed old new unlimited failed
 excused_unless old new refused table_fault.Device unlimited never (inr why) = absurd (never why)

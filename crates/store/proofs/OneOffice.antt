@@ -18,7 +18,7 @@ use Rattle.store.specs.Lawful.{IsLawful}
 use Rattle.store.specs.Offices.{IsOfficeOf, if_office, is_opening, office_in, only_office}
 use Rattle.store.specs.Reading.{IsRead}
 use Rattle.store.specs.Rows.{contents_of, office_row}
-use Rattle.store.specs.ShowingRows.{Shows}
+use Rattle.store.specs.ShowingRows.{ShowsFromRows}
 use Rattle.store.proofs.Sorting.{shows_read}
 
 abbrev office_of_state : State → Office
@@ -53,7 +53,7 @@ only_one (x ∷ y ∷ rows) row r some few is read = absurd (omega (arith, few))
 
 pub shows_office : (old new : Connection) (rows : List OfficeRow) (r : Result Office Fault)
     → ((c : Contents) → Means old.now c → IsUnchanged old new × IsPermutation c.offices rows)
-    → IsRead (only_office rows) r → Shows (λ s kept office. IsOfficeOf office s) old new r
+    → IsRead (only_office rows) r → ShowsFromRows (λ s kept office. IsOfficeOf office s) old new r
 shows_office old new rows r finds =
     shows_read (λ s kept office. IsOfficeOf office s) old new (only_office rows) r (λ s kept lawful means.
     let f = finds (contents_of s kept) means in (f.0, (office_of_state s, only_again s rows lawful f.1, of_state s)))

@@ -12,7 +12,7 @@ use Rattle.office.specs.State.{State}
 use Rattle.store.specs.Lawful.{IsLawful}
 use Rattle.store.specs.Reading.{IsRead}
 use Rattle.store.specs.Rows.{contents_of}
-use Rattle.store.specs.ShowingRows.{Shows}
+use Rattle.store.specs.ShowingRows.{ShowsFromRows}
 use Rattle.store.proofs.Sorting.{shows_read}
 use Rattle.store.specs.Finding.{value_in}
 
@@ -49,7 +49,7 @@ module _ {R X : Type 0} (value : R → Option X) (row : X → R) (of : Contents 
   -- the row's value is shown, and the row is not damaged
   pub shows_one : (old new : Connection) (found : Option R) (r : Result (Option X) Fault)
       → ((c : Contents) → Means old.now c → IsUnchanged old new × IsOneOf (of c) found)
-      → IsRead (value_in value found) r → Shows (λ s kept x. x ≡ one s) old new r
+      → IsRead (value_in value found) r → ShowsFromRows (λ s kept x. x ≡ one s) old new r
   shows_one old new found r finds =
       shows_read (λ s kept x. x ≡ one s) old new (value_in value found) r (λ s kept lawful means.
       let f = finds (contents_of s kept) means in (f.0, (one s, found_value s kept found lawful f.1, refl)))

@@ -17,12 +17,12 @@ use Rattle.office.specs.declared.arrival.Kept.{Kept}
 use Rattle.office.specs.State.{State}
 use Rattle.office.specs.History.{first_accepted, kept_by, state}
 use Rattle.store.specs.Rows.{office_contents}
-use Rattle.store.specs.ShowingRows.{Asking, Shows}
+use Rattle.store.specs.ShowingRows.{Asking, ShowsFromRows}
 use Rattle.store.proofs.Sorting.{asked}
 use Rattle.store.specs.Histories.{IsOfHistory}
 use Rattle.store.proofs.OfHistory.{of_history}
 use Rattle.store.proofs.Showing.{shows_weaker}
-use Rattle.store.specs.Meaning.{IsHistory, made}
+use Rattle.store.specs.Meaning.{IsHistory, allocated}
 use Rattle.store.specs.Showing.{Reading, ShowsOffice}
 use Rattle.store.proofs.Lawful.{lawful_after}
 
@@ -32,7 +32,7 @@ At P o l x = P (state o l) (kept_by (first_accepted o l)) x
 
 -- what holds of each valid state of a history holds of each office
 pub shows_of_history : {X : Type 0} (P : State → List Kept → X → Type 0) (old new : Connection) (r : Result X Fault)
-    → Shows (λ s kept x. IsOfHistory s kept → P s kept x) old new r → ShowsOffice P old new r
+    → ShowsFromRows (λ s kept x. IsOfHistory s kept → P s kept x) old new r → ShowsOffice P old new r
 shows_of_history P old new (Ok x) shows = λ o l history means.
     let p = shows (state o l) (kept_by (first_accepted o l)) (lawful_after o l history) means in
     (p.0 (of_history o l history.office.opening), p.1)
@@ -41,7 +41,7 @@ shows_of_history P old new (Err f) shows = λ o l history means.
 
 -- so does what holds of each valid state
 pub shows_office : {X : Type 0} (P : State → List Kept → X → Type 0) (old new : Connection) (r : Result X Fault)
-    → Shows P old new r → ShowsOffice P old new r
+    → ShowsFromRows P old new r → ShowsOffice P old new r
 shows_office P old new r shows =
     shows_of_history P old new r (shows_weaker P (λ s kept x. IsOfHistory s kept → P s kept x) old new r
     (λ s kept x lawful p of. p) shows)
@@ -112,7 +112,7 @@ module _ {X Y : Type 0} {First : State → List Kept → X → Type 0} {a b : Co
   }
 
   -- a value computed from its answer, if memory allows
-  pub and_made : (Made : Y → Type 0) (m : Result Y Refusal) (r : Result Y Fault) → r ≡ made m → IfOk m Made
+  pub and_made : (Made : Y → Type 0) (m : Result Y Refusal) (r : Result Y Fault) → r ≡ allocated m → IfOk m Made
       → ((o : Opening) (l : List Arrival) (y : Y) → IsHistory o l → At First o l x → Made y → At Whole o l y)
       → Reading Whole a b r
   and_made Made m r is holds both = record {
@@ -121,7 +121,7 @@ module _ {X Y : Type 0} {First : State → List Kept → X → Type 0} {a b : Co
     survives = one.survives;
   }
     where
-      go : (m : Result Y Refusal) → IfOk m Made → ShowsOffice First a b (Ok x) → ShowsOffice Whole a b (made m)
+      go : (m : Result Y Refusal) → IfOk m Made → ShowsOffice First a b (Ok x) → ShowsOffice Whole a b (allocated m)
       go (Ok y) holds first = λ o l history means.
           let p = first o l history means in (both o l y history p.0 holds, p.1)
       go (Err e) holds first = λ o l history means. (inl (first o l history means).1, tt)

@@ -20,7 +20,7 @@ use Rattle.store_sql.specs.declared.table_fault.Fault.{Fault}
 use Rattle.store_sql.specs.declared.table_fault.Fault.TheVariants.{Damaged, Device, NoMemory}
 use Rattle.store.specs.Lawful.{IsLawful}
 use Rattle.store.specs.Rows.{contents_of, revoked_runs, run_row}
-use Rattle.store.specs.ShowingRows.{Shows}
+use Rattle.store.specs.ShowingRows.{ShowsFromRows}
 use Rattle.store.specs.Histories.{IsOfHistory}
 use Rattle.store.specs.RunRows.{AreRead, AreRevokedRuns, RiseFrom, reaches, run_of, runs_of}
 use Rattle.store.proofs.Rising.{rise_lower, rows_rise, runs_rise}
@@ -45,7 +45,7 @@ found_runs s rows same sorted =
 pub shows_every : (old new : Connection) (rows : List RunRow) (r : Result (List Run) Fault)
     → ((c : Contents) → Means old.now c → IsUnchanged old new × IsPermutation c.runs rows)
     → ((c : Contents) → Means old.now c → IsSortedByKey (λ r. r.lo) nat_cmp rows) → AreRead rows r
-    → Shows (λ s kept x. x ≡ revoked_runs s) old new r
+    → ShowsFromRows (λ s kept x. x ≡ revoked_runs s) old new r
 shows_every old new rows (Ok x) finds sorted read = λ s kept lawful means.
     let f = finds (contents_of s kept) means in
     (read ∙ found_runs s rows f.1 (sorted (contents_of s kept) means), f.0)

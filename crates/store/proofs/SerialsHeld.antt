@@ -10,7 +10,7 @@ use Rattle.office.specs.declared.certificate.Certificate.{Certificate}
 use Rattle.office.specs.Machine.{signed_at}
 use Rattle.store_sql.specs.declared.certs.CertRow.{CertRow}
 use Rattle.store_sql.specs.declared.cas.CaRow.{CaRow}
-use Rattle.store_sql.specs.Changes.{has_serial, signed}
+use Rattle.store_sql.specs.Changes.{has_serial, signed_row}
 use Rattle.store.specs.Certificates.{AreCounted}
 use Rattle.store.specs.Rows.{ca_row, ca_rows, cert_row}
 
@@ -22,7 +22,7 @@ to_front f x xs = rw (map-append f xs (x ∷ [])) (IsPermutation-sym _ _ (IsPerm
 
 -- the row of this serial gets the signature
 abbrev signs : ℕ → List ℕ → CertRow → CertRow
-signs serial signature row = cond (has_serial serial row) (signed signature row) row
+signs serial signature row = cond (has_serial serial row) (signed_row signature row) row
 
 unsigned : (n serial : ℕ) (cs : List Certificate) (signature : List ℕ) → AreCounted n cs → serial < n
     → map (signs serial signature) (map cert_row cs) ≡ map cert_row cs
@@ -38,7 +38,7 @@ pub signed_rows : (n serial place : ℕ) (cs : List Certificate) (signature : Si
 signed_rows n serial place [] signature counted is = refl
 signed_rows n serial zero (c ∷ cs) signature counted is =
     rw (eq-eqb c.fields.serial serial (omega (arith, counted.0)))
-    (ap (λ (rows : List CertRow). signed signature.bytes (cert_row c) ∷ rows)
+    (ap (λ (rows : List CertRow). signed_row signature.bytes (cert_row c) ∷ rows)
     (unsigned (suc n) serial cs signature.bytes counted.1 (omega arith)))
 signed_rows n serial (suc place) (c ∷ cs) signature counted is =
     rw (ne_eqb c.fields.serial serial (λ e. omega (arith, counted.0, e)))

@@ -42,7 +42,7 @@ use Rattle.store.proofs.Steps.{Leads, answers_then, goes_still, waits_then}
 use Rattle.store.specs.Histories.{AreApart, is_kept_for}
 use Rattle.store.proofs.Keeping.{known_by_kept, no_repeat, reply_by_kept, reply_of}
 use Rattle.store.specs.Meaning.{IsHistory}
-use Rattle.store.specs.Arriving.{ExceedsTables, IsAfter, IsAnswered, IsAsked, IsNew, KeepsUnaccepted, Past, Settles}
+use Rattle.store.specs.Arriving.{ExceedsTables, IsAfter, IsDueAnswer, IsAsked, IsNew, KeepsUnaccepted, Past, Settles}
 use Rattle.store.specs.Arriving.{Settling}
 use Rattle.store.specs.Arriving.{contents_with, kept_at, state_at, stopped}
 use Rattle.store.proofs.Lawful.{lawful_after}
@@ -272,8 +272,8 @@ module _ {X : Type 0} {First : State → List Kept → X → Type 0} {a b : Conn
   read_then {arrival} {c} {r} rest =
       let still : HasCleanDisk c → HasCleanDisk b = λ clean. omega (arith, rest.survives.clean) in
       record {
-        settles = λ clean _. answers_then (IsAfter Known) (IsAnswered arrival) (contents_with arrival) IsOpenAfter
-            (IsAnswered arrival) (contents_with arrival) (λ p. p) a b c r (leads_open (still clean))
+        settles = λ clean _. answers_then (IsAfter Known) (IsDueAnswer arrival) (contents_with arrival) IsOpenAfter
+            (IsDueAnswer arrival) (contents_with arrival) (λ p. p) a b c r (leads_open (still clean))
             (opened r (rest.settles clean)) (λ p v due. due) (λ p. refl);
         fails = λ clean. fails_then (IsAfter Known) (IsAfter Later) (ExceedsTables arrival) (ExceedsTables arrival)
             (λ p. p) Never a b c r (leads_later (still clean)) (λ p after why. why) one.survives (still clean)
@@ -285,7 +285,7 @@ module _ {X : Type 0} {First : State → List Kept → X → Type 0} {a b : Conn
       }
     where
       opened : (r : Result Outcome Fault) → (IsTrue b.is_open → Settles arrival Later b c r)
-          → Answers IsOpenAfter (IsAnswered arrival) (contents_with arrival) b c r
+          → Answers IsOpenAfter (IsDueAnswer arrival) (contents_with arrival) b c r
       opened (Ok v) rest = λ p after. rest after.1 p after.0
       opened (Err f) rest = λ p after. rest after.1 p after.0
 

@@ -4,7 +4,7 @@ use Rattle.std.specs.Prelude.{nat_le}
 use Rattle.std.proofs.lemmas.List.{length-drop}
 use Rattle.values.specs.Names.{department_of, is_key_id, is_key_id_end, has_size, is_name, is_name_byte}
 use Rattle.office.specs.declared.opening.Opening.{Opening}
-use Rattle.store.specs.Former.{first_ca, former_contents}
+use Rattle.store.specs.Former.{first_ca_row, former_contents}
 use Rattle.store.specs.Migrating.{RefusesFirstCa}
 use Rattle.store_sql.specs.declared.cas.CaRow.{CaRow}
 use Rattle.store_sql.specs.Cells.{ca_cells, key_id_cells, office_cells}
@@ -62,11 +62,11 @@ first_ca_fits o l history (ca, is, why) =
     let s = state_at (o, l) in
     let row = renumbered 1 (office_row s) in
     let fits = short s.opening (lawful_after o l history).opening in
-    let same : ca ≡ first_ca row = cc in
+    let same : ca ≡ first_ca_row row = cc in
     elim why [
       | inl (inl (d, none, taken)) ↦ none
       | inl (inr long) ↦
-          (let long_row : IsTooLong (ca_cells (first_ca row)) =
+          (let long_row : IsTooLong (ca_cells (first_ca_row row)) =
           subst (λ (c : CaRow). IsTooLong (ca_cells c)) same long in
           omega (arith, long_row, fits))
       | inr (r, inl here, (id, long)) ↦

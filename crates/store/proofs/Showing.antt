@@ -16,12 +16,12 @@ use Rattle.office.specs.declared.arrival.Kept.{Kept}
 use Rattle.office.specs.State.{State}
 use Rattle.store.specs.Lawful.{IsLawful}
 use Rattle.store.specs.Rows.{contents_of}
-use Rattle.store.specs.ShowingRows.{Asking, Shows}
+use Rattle.store.specs.ShowingRows.{Asking, ShowsFromRows}
 
 -- a weaker claim about the answer
 pub shows_weaker : {X : Type 0} (P Q : State → List Kept → X → Type 0) (old new : Connection) (r : Result X Fault)
-    → ((s : State) (kept : List Kept) (x : X) → IsLawful s → P s kept x → Q s kept x) → Shows P old new r
-    → Shows Q old new r
+    → ((s : State) (kept : List Kept) (x : X) → IsLawful s → P s kept x → Q s kept x) → ShowsFromRows P old new r
+    → ShowsFromRows Q old new r
 shows_weaker P Q old new (Ok x) less shows = λ s kept lawful means.
     let p = shows s kept lawful means in (less s kept x lawful p.0, p.1)
 shows_weaker P Q old new (Err f) less shows = shows
@@ -36,7 +36,7 @@ still_means a b s kept same means = subst (λ (d : Database). Means d (contents_
 pub shows_then : {X Y : Type 0} (First : State → List Kept → X → Type 0) (Rest Whole : State → List Kept → Y → Type 0)
     (a b c : Connection) (x : X) (r : Result Y Fault) (P : Trees → Type 0) → Survives a b P
     → ((s : State) (kept : List Kept) (y : Y) → IsLawful s → First s kept x → Rest s kept y → Whole s kept y)
-    → Shows First a b (Ok x) → (IsTrue b.is_open → Shows Rest b c r) → Shows Whole a c r
+    → ShowsFromRows First a b (Ok x) → (IsTrue b.is_open → ShowsFromRows Rest b c r) → ShowsFromRows Whole a c r
 shows_then First Rest Whole a b c x (Ok y) P one both first rest = λ s kept lawful means.
     let p = first s kept lawful means in
     let q = rest p.1.0.is_open s kept lawful (still_means a b s kept p.1 means) in

@@ -22,7 +22,7 @@ use Rattle.office.specs.State.{State}
 use Rattle.store.specs.Lawful.{IsLawful}
 use Rattle.store.specs.Reading.{IsRead, each, vec_of}
 use Rattle.store.specs.Rows.{contents_of}
-use Rattle.store.specs.ShowingRows.{Asking, Shows}
+use Rattle.store.specs.ShowingRows.{Asking, ShowsFromRows}
 
 -- computing a value from an answer changes nothing either
 pub asked : {X : Type 0} (old new : Connection) → IsUnchanged old new → (r : Result X Fault) → OnlyReads old new r
@@ -31,7 +31,7 @@ asked old new same (Err f) = (inl same, λ _. same)
 
 -- a query whose rows are read
 pub rows_asked : {X Given : Type 0} {P : State → List Kept → X → Type 0} {old new : Connection} {r : Result X Fault}
-    → Survives old new Never → (HasCleanDisk new → IsUnchanged old new) → (HasCleanDisk new → Shows P old new r)
+    → Survives old new Never → (HasCleanDisk new → IsUnchanged old new) → (HasCleanDisk new → ShowsFromRows P old new r)
     → Asking Given P old new r
 rows_asked {old = old} {new = new} {r = r} survives same shows = record {
   shows = λ clean _. shows clean;
@@ -55,7 +55,7 @@ rows_failed {r = r} survives reads cause told =
 -- the value read is shown, if every valid state has such a value, and `Shown` holds of it
 pub shows_read : {X : Type 0} (Shown : State → List Kept → X → Type 0) (old new : Connection) (value : Option X)
     (r : Result X Fault) → ((s : State) (kept : List Kept) → IsLawful s → Means old.now (contents_of s kept)
-    → IsUnchanged old new × ((x : X) × (value ≡ Some x) × Shown s kept x)) → IsRead value r → Shows Shown old new r
+    → IsUnchanged old new × ((x : X) × (value ≡ Some x) × Shown s kept x)) → IsRead value r → ShowsFromRows Shown old new r
 shows_read Shown old new value (Ok x) has read = λ s kept lawful means.
     let h = has s kept lawful means in
     (subst (Shown s kept) (same_Some _ _ (sym h.1.1 ∙ read)) h.1.2, h.0)
@@ -79,14 +79,14 @@ module _ {R X K : Type 0} (value : R → Option X) (of : Contents → List R) (k
   pub shows_each : (old new : Connection) (rows : List R) (r : Result (Vec X Global) Fault)
       → ((c : Contents) → Means old.now c → IsUnchanged old new × IsPermutation (of c) rows)
       → ((c : Contents) → Means old.now c → IsSortedByKey key cmp rows) → IsRead (each value rows) (vec_of r)
-      → Shows (λ s kept xs. xs.items ≡ values s) old new r
+      → ShowsFromRows (λ s kept xs. xs.items ≡ values s) old new r
   shows_each old new rows r finds sorted read =
       of_items r (shows_read (λ s kept xs. xs ≡ values s) old new (each value rows) (vec_of r) (λ s kept lawful means.
       let f = finds (contents_of s kept) means in
       (f.0, (values s, found s kept rows lawful f.1 (sorted (contents_of s kept) means), refl))) read)
     where
-      of_items : (q : Result (Vec X Global) Fault) → Shows (λ s kept xs. xs ≡ values s) old new (vec_of q)
-          → Shows (λ s kept xs. xs.items ≡ values s) old new q
+      of_items : (q : Result (Vec X Global) Fault) → ShowsFromRows (λ s kept xs. xs ≡ values s) old new (vec_of q)
+          → ShowsFromRows (λ s kept xs. xs.items ≡ values s) old new q
       of_items (Ok xs) shows = shows
       of_items (Err f) shows = shows
 
@@ -94,7 +94,7 @@ module _ {R X K : Type 0} (value : R → Option X) (of : Contents → List R) (k
 
 pub shows_key_ids : (old new : Connection) (r : Result (Vec (List ℕ) Global) Fault)
     → Finds (λ k. k.revoked) old new r → Rises (λ k. k) (slice_cmp nat_cmp) old new r → FailsBy HasCause old new r
-    → Shows (λ s kept ids. ids.items ≡ s.revoked_key_ids) old new r
+    → ShowsFromRows (λ s kept ids. ids.items ≡ s.revoked_key_ids) old new r
 shows_key_ids old new (Ok ids) finds sorted fault = λ s kept lawful means.
     let f = finds (contents_of s kept) means in (
       sorted_unique (slice_cmp nat_cmp) nat_list_cmp_total s.revoked_key_ids ids.items lawful.key_ids f.1

@@ -10,12 +10,12 @@ use Rattle.office.specs.declared.opening.Opening.{Opening}
 use Rattle.office.specs.declared.arrival.Arrival.{Arrival}
 use Rattle.office.specs.declared.arrival.Outcome.{Outcome}
 use Rattle.office.specs.declared.store_fault.StoreFault.{StoreFault}
-use Rattle.office.specs.Faults.{HasCause, IsOfARegister}
+use Rattle.office.specs.Faults.{HasRegisterCause, IsOfARegister}
 use Rattle.office.specs.History.{due}
 use Rattle.store.specs.Transactions.{Ends, IsAsBefore, KeepsOnErr, LeavesDue, Rests}
-use Rattle.store.specs.Faults.{fault_of, told}
+use Rattle.store.specs.Faults.{store_fault_of, told}
 use Rattle.store.specs.Meaning.{Tells}
-use Rattle.store.specs.Arriving.{IsAfter, IsAnswered, IsAny, IsCaused, IsStopped, contents_with}
+use Rattle.store.specs.Arriving.{IsAfter, IsDueAnswer, IsAny, IsCaused, IsStopped, contents_with}
 use Rattle.store.proofs.Telling.{disk_failed, left_committed}
 
 -- the contract of a call that processes a received request
@@ -29,7 +29,7 @@ pub record Applied (a : Arrival) (old new : Connection) (q : Result Outcome Stor
       → OnOk q ((o : Opening) (l : List Arrival) → Tells old o l → Tells new o (l ++ a ∷ []))
   pub fault : HasCleanDisk new → OnErr q ((o : Opening) (l : List Arrival) → Tells old o l → Tells new o l)
   pub before : HasCleanDisk new → IsTrue new.is_open → OnErr q (IsAsBefore old new)
-  pub cause : IfErr q (λ e. HasCause e (IsStopped old new a))
+  pub cause : IfErr q (λ e. HasRegisterCause e (IsStopped old new a))
   pub only : HasCleanDisk new → IfErr q (λ e. (o : Opening) (l : List Arrival) → Tells old o l → IsOfARegister e)
 
 rests_of : (s : Connection) (o : Opening) (l : List Arrival) → Tells s o l → IsTrue s.is_open
@@ -44,7 +44,7 @@ rests_of s o l tells is_open =
 
 module _ (a : Arrival) (old new : Connection) where
   -- a reported failure is a failure of the disk, or a refusal of the decision's rows
-  caused : (f : Fault) → (HasCleanDisk new → IsCaused a old new f) → HasCause (fault_of f) (IsStopped old new a)
+  caused : (f : Fault) → (HasCleanDisk new → IsCaused a old new f) → HasRegisterCause (store_fault_of f) (IsStopped old new a)
   caused NoMemory cause = tt
   caused Damaged cause = tt
   caused Device cause = λ clean o l tells. elim (cause clean (o, l) (rests_of old o l tells)) [
@@ -54,22 +54,22 @@ module _ (a : Arrival) (old new : Connection) where
 
   -- lack of memory and a failure are the only faults
   of_a_register : (f : Fault) → IsCaused a old new f → (o : Opening) (l : List Arrival) → Tells old o l
-      → IsOfARegister (fault_of f)
+      → IsOfARegister (store_fault_of f)
   of_a_register NoMemory cause o l tells = tt
   of_a_register Device cause o l tells = tt
   of_a_register Damaged cause o l tells = absurd (cause (o, l) (rests_of old o l tells))
 
   pub applied : (r : Result Outcome Fault) (q : Result Outcome StoreFault) → q ≡ told r
-      → (HasCleanDisk new → Ends (IsAfter IsAny) (IsAnswered a) (contents_with a) old new r)
+      → (HasCleanDisk new → Ends (IsAfter IsAny) (IsDueAnswer a) (contents_with a) old new r)
       → (HasCleanDisk new → IfErr r (IsCaused a old new)) → (HasCleanDisk new → KeepsOnErr old new r)
-      → Survives old new (LeavesDue (IsAfter IsAny) (IsAnswered a) (contents_with a) old)
+      → Survives old new (LeavesDue (IsAfter IsAny) (IsDueAnswer a) (contents_with a) old)
       → ((trees : Trees) → IsTrue new.is_open → new.may_leave trees → trees ≡ new.committed.trees)
       → Applied a old new q
   applied r q is ends cause before survives settled =
       subst (λ z. Applied a old new z) (sym is) (go r ends cause before)
     where
       go : (r : Result Outcome Fault)
-          → (HasCleanDisk new → Ends (IsAfter IsAny) (IsAnswered a) (contents_with a) old new r)
+          → (HasCleanDisk new → Ends (IsAfter IsAny) (IsDueAnswer a) (contents_with a) old new r)
           → (HasCleanDisk new → IfErr r (IsCaused a old new)) → (HasCleanDisk new → KeepsOnErr old new r)
           → Applied a old new (told r)
       go (Ok x) ends cause before = record {

@@ -9,7 +9,7 @@ use Rattle.store_sql.specs.Statements.{Found, Wrote}
 use Rattle.store_sql.specs.declared.table_fault.Fault.{Fault}
 use Rattle.store_sql.proofs.Later.{stops}
 use Rattle.store_sql.proofs.Staying.{reads_stay, stays_then}
-use Rattle.store.specs.Transactions.{FailsFor, Goes, Has, Makes, Part, Waits}
+use Rattle.store.specs.Transactions.{FailsFor, Goes, Has, Makes, DoesPart, Waits}
 use Rattle.store.proofs.Causes.{cause_of, fails_then, fails_weaker}
 use Rattle.store.proofs.Steps.{Leads, goes_still, goes_then, leads, makes, stops_then, waits, waits_then}
 
@@ -19,7 +19,7 @@ waits_never a b one = survives_weaker a b Never (Waits Has a) (λ clean trees h.
 
 -- a write
 pub written : {X : Type 0} {f : Contents → Contents} {refused : Contents → Type 0} {old new : State}
-    {r : Result X Fault} → Wrote f (RefusedFor refused) old new r → Part Has f refused old new r
+    {r : Result X Fault} → Wrote f (RefusedFor refused) old new r → DoesPart Has f refused old new r
 written {f = f} {old = old} {new = new} {r = r} w = record {
   makes = λ clean. makes f old new r (w.changes clean);
   fault = w.fault;
@@ -29,8 +29,8 @@ written {f = f} {old = old} {new = new} {r = r} w = record {
 
 -- a part whose first step fails
 pub stopped_first : {X Y : Type 0} {f g : Contents → Contents} {early refused : Contents → Type 0} {old new : State}
-    {e : Fault} → Part {X = Y} Has f early old new (Err e) → ((d : Contents) → early d → refused d)
-    → Part {X = X} Has g refused old new (Err e)
+    {e : Fault} → DoesPart {X = Y} Has f early old new (Err e) → ((d : Contents) → early d → refused d)
+    → DoesPart {X = X} Has g refused old new (Err e)
 stopped_first {X = X} {early = early} {refused = refused} {old = old} {new = new} {e = e} part so = record {
   makes = part.makes;
   fault = λ clean. fails_weaker {X = X} Has Has early refused (λ d. d) old new (Err e) (λ d means. means)
@@ -42,7 +42,7 @@ stopped_first {X = X} {early = early} {refused = refused} {old = old} {new = new
 -- a query that fails
 pub not_found : {X Y : Type 0} {Finding : State → State → Result Y Fault → Type 0} {f : Contents → Contents}
     {refused : Contents → Type 0} {old new : State} {e : Fault} → Found Finding old new (Err e)
-    → Part {X = X} Has f refused old new (Err e)
+    → DoesPart {X = X} Has f refused old new (Err e)
 not_found {refused = refused} {old = old} {new = new} {e = e} found = record {
   makes = λ clean d means inside. stops old new (found.reads clean).0;
   fault = λ clean d means. cause_of (refused d) old new e (found.fault clean d means);
@@ -66,7 +66,7 @@ pub part_then : {X : Type 0} (next f g : Contents → Contents) (late refused : 
     → (HasCleanDisk c → IsTrue b.is_open → Makes Has g b c r) → (HasCleanDisk c → FailsFor Has late b c r)
     → (HasCleanDisk c → Stays b c r) → Survives b c (Waits Has b)
     → (HasCleanDisk b → (d : Contents) → Means a.now d → (g (next d) ≡ f d) × (late (next d) → refused d))
-    → Part Has f refused a c r
+    → DoesPart Has f refused a c r
 part_then next f g late refused a b c r leads keeps one makes fault stays two so = record {
   makes = λ clean.
       let early : HasCleanDisk b = omega (arith, two.clean) in
@@ -83,7 +83,7 @@ part_then next f g late refused a b c r leads keeps one makes fault stays two so
 pub written_then : {X : Type 0} {f g : Contents → Contents} {early : State → State → Result (Unit {0}) Fault → Type 0}
     {late refused : Contents → Type 0} {a b c : State} {r : Result X Fault} → Wrote f early a b (Ok tt)
     → Wrote g (RefusedFor late) b c r → ((d : Contents) → late (f d) → refused d)
-    → Part Has (λ d. g (f d)) refused a c r
+    → DoesPart Has (λ d. g (f d)) refused a c r
 written_then {f = f} {g = g} {late = late} {refused = refused} {a = a} {b = b} {c = c} {r = r} one two so =
     part_then f (λ d. g (f d)) g late refused a b c r (λ early. leads f a b (one.changes early)) one.stays
     (waits f a b one.survives) (λ clean _. makes g b c r (two.changes clean)) two.fault two.stays
@@ -93,8 +93,8 @@ written_then {f = f} {g = g} {late = late} {refused = refused} {a = a} {b = b} {
 pub found_then : {K X Y : Type 0} (f : K → Contents → Contents) (k : K) (of : Contents → K)
     {Finding : State → State → Result Y Fault → Type 0} {late refused : Contents → Type 0} {a b c : State} {y : Y}
     {r : Result X Fault} → Found Finding a b (Ok y) → (HasCleanDisk b → (d : Contents) → Means a.now d → k ≡ of d)
-    → Part Has (f k) late b c r → ((d : Contents) → k ≡ of d → late d → refused d)
-    → Part Has (λ d. f (of d) d) refused a c r
+    → DoesPart Has (f k) late b c r → ((d : Contents) → k ≡ of d → late d → refused d)
+    → DoesPart Has (λ d. f (of d) d) refused a c r
 found_then f k of {late = late} {refused = refused} {a = a} {b = b} {c = c} {r = r} found finds rest so =
     part_then (λ d. d) (λ d. f (of d) d) (f k) late refused a b c r
     (λ early d means. let p = goes_still a b d (found.reads early) means in (d, p, p.means))
@@ -105,7 +105,7 @@ found_then f k of {late = late} {refused = refused} {a = a} {b = b} {c = c} {r =
 -- a query after which nothing has to be done
 pub found_done : {X : Type 0} {Finding : State → State → Result X Fault → Type 0} {f : Contents → Contents}
     {refused : Contents → Type 0} {a b : State} {x : X} → Found Finding a b (Ok x)
-    → (HasCleanDisk b → (d : Contents) → Means a.now d → d ≡ f d) → Part {X = Unit {0}} Has f refused a b (Ok tt)
+    → (HasCleanDisk b → (d : Contents) → Means a.now d → d ≡ f d) → DoesPart {X = Unit {0}} Has f refused a b (Ok tt)
 found_done {a = a} {b = b} found same = record {
   makes = λ clean d means. (tt, subst (Goes a b) (same clean d means) (goes_still a b d (found.reads clean) means));
   fault = λ clean. tt;

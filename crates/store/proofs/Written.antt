@@ -23,11 +23,11 @@ use Rattle.store_sql.specs.declared.offices.Counters.{Counters}
 use Rattle.store_sql.specs.declared.offices.OfficeRow.{OfficeRow}
 use Rattle.store_sql.specs.declared.requests.RequestRow.{RequestRow}
 use Rattle.store_sql.specs.Contents.{Contents}
-use Rattle.store_sql.specs.Changes.{is_key_id, with_counters, with_request, with_revoked}
+use Rattle.store_sql.specs.Changes.{is_same_key_id, with_counters, with_request, with_revoked}
 use Rattle.store.specs.Lawful.{IsLawful}
 use Rattle.store.specs.Rows.{ca_row, cert_row, contents_of, office_row, request_row, run_row}
 use Rattle.store.proofs.Same.{IsSame}
-use Rattle.store.specs.Changing.{ca_from, with_change, with_key_id}
+use Rattle.store.specs.Changing.{ca_from, with_change, with_key_id_row}
 use Rattle.store.specs.Due.{IsDue, contents_after, counters_of, kept_of}
 use Rattle.office.proofs.Decisions.{serial_of_one}
 use Rattle.office.proofs.Growth.{length-signed_at}
@@ -54,11 +54,11 @@ same xs = IsPermutation-refl xs
 
 key_id_changed : (key_id : List ℕ) (os : List OfficeRow) (rs : List RequestRow) (s : State) (kept : List Kept)
     → IsLawful s
-    → IsChanged (with_key_id key_id (with_others os rs (contents_of s kept)))
+    → IsChanged (with_key_id_row key_id (with_others os rs (contents_of s kept)))
     (contents_of (machine.with_key_id s key_id) kept)
-key_id_changed key_id os rs s kept lawful = go (list_any (is_key_id key_id) s.revoked_key_ids) refl
+key_id_changed key_id os rs s kept lawful = go (list_any (is_same_key_id key_id) s.revoked_key_ids) refl
   where
-    go : (b : Bool) → list_any (is_key_id key_id) s.revoked_key_ids ≡ b
+    go : (b : Bool) → list_any (is_same_key_id key_id) s.revoked_key_ids ≡ b
         → IsChanged
         (cond b (with_others os rs (contents_of s kept)) (with_revoked key_id (with_others os rs (contents_of s kept))))
         (contents_of (machine.with_key_id s key_id) kept)
@@ -104,7 +104,7 @@ others_kept : (number since : ℕ) (change : Change) (c : Contents)
     → ((with_change number since change c).offices ≡ c.offices)
     × ((with_change number since change c).requests ≡ c.requests)
 others_kept number since (change.KeyId key_id) c =
-    elim (list_any (is_key_id key_id) c.revoked) as (λ b. ((cond b c (with_revoked key_id c)).offices ≡ c.offices)
+    elim (list_any (is_same_key_id key_id) c.revoked) as (λ b. ((cond b c (with_revoked key_id c)).offices ≡ c.offices)
     × ((cond b c (with_revoked key_id c)).requests ≡ c.requests)) [ true ↦ (refl, refl) | false ↦ (refl, refl) ]
 others_kept number since _ c = (refl, refl)
 

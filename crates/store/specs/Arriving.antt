@@ -62,7 +62,7 @@ IsAny p = Unit {0}
 -- ---- a received request
 
 -- the answer is the specified one, and the history may continue with the request
-pub record IsAnswered (a : Arrival) (p : Past) (outcome : Outcome) : Type 0 where
+pub record IsDueAnswer (a : Arrival) (p : Past) (outcome : Outcome) : Type 0 where
   pub due : outcome ≡ due p.0 p.1 a
   pub history : IsHistory p.0 (p.1 ++ a ∷ [])
 
@@ -73,7 +73,7 @@ contents_with a p = office_contents p.0 (p.1 ++ a ∷ [])
 -- For such tables, inside a transaction: the answer is the specified one, and the tables hold the rows of the office
 -- after the request; or, with an error, nothing is committed.
 abbrev pub Settles : Arrival → (Past → Type 0) → Connection → Connection → Result Outcome Fault → Type 0
-Settles a Known old new r = Answers (IsAfter Known) (IsAnswered a) (contents_with a) old new r
+Settles a Known old new r = Answers (IsAfter Known) (IsDueAnswer a) (contents_with a) old new r
 
 -- the answer to a message that isn't accepted now
 abbrev pub stopped : Stop → Result Outcome Fault

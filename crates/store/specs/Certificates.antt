@@ -17,24 +17,24 @@ signature_in None = Some None
 signature_in (Some bytes) = if length bytes == 64 then Some (Some (record { bytes = bytes })) else None
 
 -- the row's serial and key ID are the unsigned certificate's, and its department has a valid name
-abbrev pub fits : CertRow → CertFields → Bool
-fits row fields = (fields.serial == row.serial) && (bytes_eq fields.key_id row.key_id && is_name row.department)
+abbrev pub row_matches : CertRow → CertFields → Bool
+row_matches row fields = (fields.serial == row.serial) && (bytes_eq fields.key_id row.key_id && is_name row.department)
 
-abbrev pub certificate_with : CertRow → CertFields → Option Signature → Certificate
-certificate_with row fields signature = record {
+abbrev pub certificate_with_row : CertRow → CertFields → Option Signature → Certificate
+certificate_with_row row fields signature = record {
   department = row.department;
   fields = fields;
   body = row.body;
   signature = signature;
 }
 
-abbrev pub certificate_of : CertRow → CertFields → Option Certificate
-certificate_of row fields =
-    if fits row fields then option_map (certificate_with row fields) (signature_in row.signature) else None
+abbrev pub certificate_of_row : CertRow → CertFields → Option Certificate
+certificate_of_row row fields =
+    if row_matches row fields then option_map (certificate_with_row row fields) (signature_in row.signature) else None
 
 -- the certificate of a row, if there is one
 abbrev pub certificate_in : CertRow → Option Certificate
-certificate_in row = option_and_then (certificate_of row) (result_ok (body_at row.body))
+certificate_in row = option_and_then (certificate_of_row row) (result_ok (body_at row.body))
 
 -- a signature that was delivered has 64 bytes
 abbrev pub IsSigned : Certificate → Type 0

@@ -11,7 +11,7 @@ use Rattle.store_sql.specs.Calls.{IsBare}
 use Rattle.store_sql.specs.Schema.{no_schema}
 use Rattle.store_sql.specs.declared.cas.CaRow.{CaRow}
 use Rattle.store_sql.specs.declared.offices.OfficeRow.{OfficeRow}
-use Rattle.store_sql.specs.Changes.{with_ca, with_office}
+use Rattle.store_sql.specs.Changes.{with_ca_row, with_office}
 use Rattle.store_sql.specs.Contents.{Contents, no_contents}
 use Rattle.store_sql.specs.Refusals.{HasCauseOr, RefusesCa, RefusesOffice}
 use Rattle.store.specs.Rows.{ca_row, office_row}
@@ -48,4 +48,4 @@ LeavesOnBlank c old trees = Leaves (λ _. IsBare no_schema) (λ (_ : Unit {0}). 
 
 -- the contents with these two rows
 abbrev pub first_contents : OfficeRow → CaRow → Contents
-first_contents office ca = with_ca ca (with_office office no_contents)
+first_contents office ca = with_ca_row ca (with_office office no_contents)

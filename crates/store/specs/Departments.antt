@@ -29,5 +29,5 @@ abbrev pub if_lawful : Department → Option Department
 if_lawful d = if is_department d then Some d else None
 
 -- the valid department of a row, if there is one
-abbrev pub department_in : DepartmentRow → Option Department
-department_in row = option_and_then (λ kind. if_lawful (parts_of row kind)) (kind_of row.kind)
+abbrev pub department_of_row : DepartmentRow → Option Department
+department_of_row row = option_and_then (λ kind. if_lawful (parts_of row kind)) (kind_of row.kind)

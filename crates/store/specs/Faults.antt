@@ -6,12 +6,12 @@ use Rattle.office.specs.declared.store_fault.StoreFault.{StoreFault}
 use Rattle.office.specs.declared.store_fault.StoreFault.TheVariants.{Damaged, Device, NoMemory}
 
 -- the register's fault for a fault of the tables
-abbrev pub fault_of : Fault → StoreFault
-fault_of table.Device = Device
-fault_of table.Damaged = Damaged
-fault_of table.NoMemory = NoMemory
+abbrev pub store_fault_of : Fault → StoreFault
+store_fault_of table.Device = Device
+store_fault_of table.Damaged = Damaged
+store_fault_of table.NoMemory = NoMemory
 
 -- the register's answer for an answer of the tables
 abbrev pub told : {X : Type 0} → Result X Fault → Result X StoreFault
 told (Ok x) = Ok x
-told (Err f) = Err (fault_of f)
+told (Err f) = Err (store_fault_of f)

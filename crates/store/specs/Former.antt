@@ -24,18 +24,18 @@ abbrev pub Had : Contents → Database → Type 0
 Had c db = MeansWithoutCa db c
 
 -- CA 1: the office's key blob, from the first serial on
-abbrev pub first_ca : OfficeRow → CaRow
-first_ca o = record { number = 1; ca = o.ca; since = o.first }
+abbrev pub first_ca_row : OfficeRow → CaRow
+first_ca_row o = record { number = 1; ca = o.ca; since = o.first }
 
 -- CA 1, if the `office` table has exactly one row, which is that of an office of schema 1
 abbrev pub ca_of : List OfficeRow → Result CaRow StoreFault
 ca_of [] = Err NotAnOffice
-ca_of (o ∷ []) = if o.schema == 1 then (if o.id == 1 then Ok (first_ca o) else Err Damaged) else Err WrongSchema
+ca_of (o ∷ []) = if o.schema == 1 then (if o.id == 1 then Ok (first_ca_row o) else Err Damaged) else Err WrongSchema
 ca_of (o ∷ p ∷ rows) = Err NotAnOffice
 
 -- the contents in schema 2: with CA 1 added, and the new schema number; all other rows stay
 abbrev pub migrated : Contents → Contents
-migrated c = with_schema 2 (record c { cas = map first_ca c.offices })
+migrated c = with_schema 2 (record c { cas = map first_ca_row c.offices })
 
 -- ---- histories
 

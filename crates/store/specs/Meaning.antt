@@ -54,8 +54,8 @@ abbrev pub DiskFailed : State → State → Type 0
 DiskFailed old new = MoreFaults old.faults new.faults ⊎ (old.is_open ≡ false)
 
 -- if the disk was faithful and the tables represent a history: the disk failed, now or earlier
-abbrev pub HasFailed : State → State → Type 0
-HasFailed old new = HasCleanDisk new → (o : Opening) (l : List Arrival) → Tells old o l → DiskFailed old new
+abbrev pub RegisterHasFailed : State → State → Type 0
+RegisterHasFailed old new = HasCleanDisk new → (o : Opening) (l : List Arrival) → Tells old o l → DiskFailed old new
 
 -- while the connection is open, a crash leaves the tables of the history that they represent, and nothing else
 abbrev pub OutlastsCrashes : State → Type 0
@@ -96,6 +96,6 @@ abbrev pub LooksUnless : (State → State → Type 0) → State → State → Re
 LooksUnless Failed old new r = (rows : List OfficeRow) → HasOffices rows old.now → Looks rows (Failed old new) r
 
 -- the result of an allocation, as an answer of the tables
-abbrev pub made : {X : Type 0} → Result X text.NoMemory → Result X Fault
-made (Ok x) = Ok x
-made (Err e) = Err table_fault.NoMemory
+abbrev pub allocated : {X : Type 0} → Result X text.NoMemory → Result X Fault
+allocated (Ok x) = Ok x
+allocated (Err e) = Err table_fault.NoMemory

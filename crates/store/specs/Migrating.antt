@@ -9,11 +9,11 @@ use Rattle.office.specs.declared.store_fault.StoreFault.TheVariants.{AlreadyAnOf
 use Rattle.office.specs.declared.store_fault.StoreFault.TheVariants.{NoMemory, NotAnOffice, WrongSchema}
 use Rattle.store_sql.specs.declared.cas.CaRow.{CaRow}
 use Rattle.store_sql.specs.declared.table_fault.Fault.{Fault}
-use Rattle.store_sql.specs.Changes.{with_ca}
+use Rattle.store_sql.specs.Changes.{with_ca_row}
 use Rattle.store_sql.specs.Contents.{Contents, Means}
 use Rattle.store_sql.specs.Faults.{HasCause, HasFailed}
 use Rattle.store_sql.specs.Refusals.{RefusesCa, RefusesNumber}
-use Rattle.store.specs.Faults.{fault_of}
+use Rattle.store.specs.Faults.{store_fault_of}
 use Rattle.store.specs.Rows.{office_contents}
 use Rattle.store.specs.Transactions.{Has, Rests}
 use Rattle.store.specs.Former.{Had, TellsBefore, ca_of, former_contents, migrated}
@@ -29,7 +29,7 @@ IsCaDue due r = due ≡ r
 
 -- the rules of the tables refuse this CA, or after it schema number 2
 abbrev pub IsRefused : CaRow → Contents → Type 0
-IsRefused ca c = RefusesCa ca c ⊎ RefusesNumber 2 (with_ca ca c)
+IsRefused ca c = RefusesCa ca c ⊎ RefusesNumber 2 (with_ca_row ca c)
 
 -- they refuse CA 1 of the office in these contents, or schema number 2 after it
 abbrev pub RefusesFirstCa : Contents → Type 0
@@ -42,7 +42,7 @@ HasStopped c old new = HasFailed old new ⊎ RefusesFirstCa c
 -- an earlier fault is returned, and a failure at the end has its cause
 abbrev pub TellsEnd : {X : Type 0} → Result X StoreFault → State → State → Result X StoreFault → Type 0
 TellsEnd (Ok x) old new r =
-    old.in_transaction ≡ true → IfErr r (λ e. (f : Fault) × (e ≡ fault_of f) × HasCause old new f)
+    old.in_transaction ≡ true → IfErr r (λ e. (f : Fault) × (e ≡ store_fault_of f) × HasCause old new f)
 TellsEnd (Err e) old new r = r ≡ Err e
 
 -- the answer is the one that the rows of these contents specify; or memory was refused, or the call was stopped

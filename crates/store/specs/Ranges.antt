@@ -28,5 +28,5 @@ joined_run r c = run_from (joined_low r.lo (last_run r.lo c)) r c
 abbrev pub with_joined : RunRow → Contents → Contents
 with_joined run c = with_run run (without_runs run c)
 
-abbrev pub with_range : SerialRange → Contents → Contents
-with_range r c = with_joined (joined_run r c) c
+abbrev pub with_range_rows : SerialRange → Contents → Contents
+with_range_rows r c = with_joined (joined_run r c) c

@@ -50,5 +50,5 @@ IsExcusedOfFormer old new e =
     (o : Opening) (l : List Arrival) → IsHistory o l → TellsBefore old o l → IsExcused (DiskFailed old new) e
 
 -- the tables of schema 1 become those of schema 2, row by row
-abbrev pub Moves : State → State → Type 0
-Moves old new = (c : Contents) → Rests (Had c) old → Rests (Has (migrated c)) new
+abbrev pub MovesTables : State → State → Type 0
+MovesTables old new = (c : Contents) → Rests (Had c) old → Rests (Has (migrated c)) new

@@ -17,18 +17,18 @@ use Rattle.store.specs.Rows.{contents_of}
 
 -- For tables with the rows of a valid state and of its stored requests: `Shown` holds of these and the answer, and
 -- nothing has changed; or the call fails, for lack of memory or because the database failed.
-abbrev pub Shows : {X : Type 0} → (State → List Kept → X → Type 0) → Connection → Connection → Result X Fault → Type 0
-Shows Shown old new (Ok x) =
+abbrev pub ShowsFromRows : {X : Type 0} → (State → List Kept → X → Type 0) → Connection → Connection → Result X Fault → Type 0
+ShowsFromRows Shown old new (Ok x) =
     (s : State) (kept : List Kept) → IsLawful s → Means old.now (contents_of s kept)
     → Shown s kept x × IsUnchanged old new
-Shows Shown old new (Err f) =
+ShowsFromRows Shown old new (Err f) =
     (s : State) (kept : List Kept) → IsLawful s → Means old.now (contents_of s kept)
     → Fails old new × HasCause old new f
 
 -- everything that such a call does, provided that `Given` holds: its answer satisfies `Shown`, and nothing changes
 pub record Asking {X : Type 0} (Given : Type 0) (Shown : State → List Kept → X → Type 0) (old new : Connection)
     (r : Result X Fault) : Type 0 where
-  pub shows : HasCleanDisk new → Given → Shows Shown old new r
+  pub shows : HasCleanDisk new → Given → ShowsFromRows Shown old new r
   pub reads : HasCleanDisk new → Given → OnlyReads old new r
   pub survives : Survives old new Never
 

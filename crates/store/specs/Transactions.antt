@@ -53,7 +53,7 @@ Waits {A} Before old trees = (a : A) → Before a old.now → old.in_transaction
 
 -- Everything that a part does, for a database that satisfies `Before`: the tables then hold `after`, or it fails,
 -- perhaps because of this refusal.
-pub record Part {A X : Type 0} (Before : A → Database → Type 0) (after : A → Contents) (refused : A → Type 0)
+pub record DoesPart {A X : Type 0} (Before : A → Database → Type 0) (after : A → Contents) (refused : A → Type 0)
     (old new : State) (r : Result X Fault) : Type 0 where
   pub makes : HasCleanDisk new → Makes Before after old new r
   pub fault : HasCleanDisk new → FailsFor Before refused old new r
@@ -63,7 +63,7 @@ pub record Part {A X : Type 0} (Before : A → Database → Type 0) (after : A �
 -- for a connection
 abbrev pub DoesIn : {S A X : Type 0} → Ghosts S → (A → Database → Type 0) → (A → Contents) → (A → Type 0) → Held S
     → Held S → Result X Fault → Type 0
-DoesIn g Before after refused old new r = Part Before after refused (state g old) (state g new) r
+DoesIn g Before after refused old new r = DoesPart Before after refused (state g old) (state g new) r
 
 -- for a connection, and tables that hold some contents
 abbrev pub Does : {S X : Type 0} → Ghosts S → (Contents → Contents) → (Contents → Type 0) → Held S → Held S

@@ -3,7 +3,7 @@
 ghost use Rattle.std.specs.Prelude.{◌≡◌, ◌∷◌, [], ◌<◌, ◌^◌, IfOk};
 ghost use Rattle.store_sql.specs.Contents.{no_contents};
 ghost use Rattle.store_sql.specs.Honest.{On, OutlivesBy};
-ghost use Rattle.store_sql.specs.Changes.{with_ca, with_office};
+ghost use Rattle.store_sql.specs.Changes.{with_ca_row, with_office};
 ghost use Rattle.office.specs.Openings.{IsOpening};
 ghost use Rattle.office.specs.State.{first_ca, opened};
 ghost use Rattle.store.specs.Rows.{ca_row, office_contents, office_row};
@@ -52,7 +52,7 @@ fn ca_row(alloc: Global, opening: &Opening) -> Result<CaRow, NoMemory>
 }
 
 fn fill<S: Alter>(conn: &mut Connection<S>, office: &OfficeRow, ca: &CaRow) -> Result<(), Fault>
-    ensures { Does S.Store (λ c. with_ca ca.now (with_office office.now c)) (RefusesFirst office.now ca.now)
+    ensures { Does S.Store (λ c. with_ca_row ca.now (with_office office.now c)) (RefusesFirst office.now ca.now)
         conn.old conn.new result }
 {
     insert_office(conn, office)?;

@@ -6,7 +6,7 @@ ghost use Rattle.store.specs.Transactions.{IsAsBefore, Leaves};
 ghost use Rattle.store_sql.specs.Look.{is_ca_name, is_office_name, is_office_table};
 ghost use Rattle.store.specs.Migrating.{JudgesAtRest};
 ghost use Rattle.store.specs.Register.{CarriesOn, Founds, IsExcusedOfBlank, IsExcusedOfFormer, IsExcusedOfHistory};
-ghost use Rattle.store.specs.Register.{IsLeftOpen, KeepsTellingBefore, Moves, StaysBlank};
+ghost use Rattle.store.specs.Register.{IsLeftOpen, KeepsTellingBefore, MovesTables, StaysBlank};
 ghost use Rattle.store.specs.Creating.{LeavesOnBlank};
 ghost use Rattle.store.specs.Rows.{office_contents};
 ghost use Rattle.store_sql.specs.Honest.{Between, IsOutside, IsUnlimited, On, OnOpen, OutlivesBy, StaysClean};
@@ -124,7 +124,7 @@ impl<S: Alter> Store<S> {
         ensures told { IfErr result (λ e. Between S.Store KeepsTelling conn e.1) }
 
         // In terms of rows: it succeeds only if the one row of the office is of schema 1, and each fault has its cause.
-        ensures moved { IfOk result (λ s. Between S.Store Moves conn s.conn) }
+        ensures moved { IfOk result (λ s. Between S.Store MovesTables conn s.conn) }
         ensures judged { IfOk result (λ s. On S.Store JudgesAtRest conn s.conn (Ok tt)) }
         ensures judged_back { IfErr result (λ e. On S.Store JudgesAtRest conn e.1 (Err e.0)) }
 

@@ -6,7 +6,7 @@ ghost use Rattle.sqlite.specs.Held.{state};
 ghost use Rattle.sqlite.specs.State.{HasCleanDisk};
 ghost use Rattle.office.specs.declared.arrival.Arrival.{Arrival};
 ghost use Rattle.store.specs.Transactions.{IsAsBefore};
-ghost use Rattle.store.specs.Meaning.{HasFailed, Tells};
+ghost use Rattle.store.specs.Meaning.{RegisterHasFailed, Tells};
 ghost use Rattle.store.specs.Arriving.{IsStopped};
 
 use crate::listing::{read_batch, read_revocations};
@@ -30,7 +30,7 @@ impl<S: Alter> Registry for Store<S> {
 
     ghost is_as_before = { λ old new. IsAsBefore (state S.Store old.conn) (state S.Store new.conn) };
 
-    ghost fails = { λ old new. HasFailed (state S.Store old.conn) (state S.Store new.conn) };
+    ghost fails = { λ old new. RegisterHasFailed (state S.Store old.conn) (state S.Store new.conn) };
 
     ghost stops = { λ old new a. IsStopped (state S.Store old.conn) (state S.Store new.conn) a };
 

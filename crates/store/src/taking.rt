@@ -2,7 +2,7 @@
 
 ghost use Rattle.std.specs.Prelude.{◌≡◌, length};
 ghost use Rattle.store.specs.Transactions.{Ends, KeepsOnErr, LeavesDue};
-ghost use Rattle.store.specs.Arriving.{FailsAsCaused, IsAfter, IsAnswered, IsAny, KeepsUnlessAccepted, contents_with};
+ghost use Rattle.store.specs.Arriving.{FailsAsCaused, IsAfter, IsDueAnswer, IsAny, KeepsUnlessAccepted, contents_with};
 ghost use Rattle.store.specs.Arriving.{of_statement};
 ghost use Rattle.store_sql.specs.Honest.{On, OutlivesBy};
 
@@ -30,7 +30,7 @@ pub(crate) fn take<S: Alter>(
     arrival: &Arrival,
 ) -> Result<Outcome, Fault>
     requires { length arrival.now.nonce ≡ 32 }
-    ensures ends { On S.Store (Ends (IsAfter IsAny) (IsAnswered arrival.now) (contents_with arrival.now))
+    ensures ends { On S.Store (Ends (IsAfter IsAny) (IsDueAnswer arrival.now) (contents_with arrival.now))
         conn.old conn.new result }
     ensures cause { On S.Store (FailsAsCaused arrival.now) conn.old conn.new result }
     ensures before { On S.Store KeepsOnErr conn.old conn.new result }
@@ -39,7 +39,7 @@ pub(crate) fn take<S: Alter>(
     ensures unaccepted { On S.Store KeepsUnlessAccepted conn.old conn.new result }
 
     // A crash during the call leaves the tables as they were, or with the request, which then extends the history.
-    ensures survives { OutlivesBy S.Store (LeavesDue (IsAfter IsAny) (IsAnswered arrival.now)
+    ensures survives { OutlivesBy S.Store (LeavesDue (IsAfter IsAny) (IsDueAnswer arrival.now)
         (contents_with arrival.now)) conn.old conn.new }
 {
     match begin(conn) {

@@ -1,7 +1,8 @@
 -- The statements on the table of CAs, and why a CA is refused.
 use Rattle.store_sql.proofs.Words.{Binary, Blob, CaRow, Contents, FailsBy, Fault, HasOne, Holds, INSERT_CA, Insert, Int}
 use Rattle.store_sql.proofs.Words.{List, Means, Null, RefusedFor, Result, Row, State, Term, Values, [], agree, all_has}
-use Rattle.store_sql.proofs.Words.{and_parts, ap, arith, ascending, bytes_eq-Decides, ca_at, ca_cells, ca_places, codes}
+use Rattle.store_sql.proofs.Words.{and_parts, ap, arith, ascending, bytes_eq-Decides, placed_ca, ca_cells, ca_places}
+use Rattle.store_sql.proofs.Words.{codes}
 use Rattle.store_sql.proofs.Words.{col, column, drop, equal, everything, first_key, guards, inl, inr, joined}
 use Rattle.store_sql.proofs.Words.{lit, lt-ltb, nat_cmp, pos, refl, subst, sym, true, whole, ℕ, ◌&&◌, ◌<◌}
 use Rattle.store_sql.proofs.Words.{◌^◌, ◌∙◌, ◌∷◌, ◌≡◌, ◌⊎◌}
@@ -9,7 +10,7 @@ use Rattle.sqlite_trees.specs.View.{IsStorable}
 use Rattle.store_sql.proofs.Selects.{IsTreeOf, number_cmp, FindSorted, select_all}
 use Rattle.store_sql.proofs.FaultLemmas.{IsStatement, HasWriteCause}
 use Rattle.store_sql.proofs.Rows.{cast_null, cast_int}
-use Rattle.store_sql.specs.Changes.{with_ca}
+use Rattle.store_sql.specs.Changes.{with_ca_row}
 use Rattle.store_sql.specs.declared.sql.TheConstants.{EVERY_CA}
 use Rattle.store_sql.proofs.Elsewhere.{ca_apart, in_ca}
 use Rattle.store_sql.proofs.CallLemmas.{IsSelect, Write}
@@ -35,7 +36,7 @@ insert_is : IsStatement INSERT_CA.now (Insert 6 (Values terms 4)) 3
 unfolding everything
 insert_is = statement whole INSERT_CA.now _ 3 refl refl
 
-pub puts : IsInsert INSERT_CA.now ca_cells ca_places 6 ca_at terms 4 with_ca (λ c. c.cas) (λ x rows. ca_row x)
+pub puts : IsInsert INSERT_CA.now ca_cells ca_places 6 placed_ca terms 4 with_ca_row (λ c. c.cas) (λ x rows. ca_row x)
 puts = record {
   tree = tree;
   found = refl;
@@ -46,7 +47,7 @@ puts = record {
   held = λ x db after c h o put. in_ca db after c h (x ∷ c.cas) o;
 }
 
-pub put : (x : CaRow) → Write INSERT_CA.now (ca_cells x) (with_ca x)
+pub put : (x : CaRow) → Write INSERT_CA.now (ca_cells x) (with_ca_row x)
 put = insert puts
 
 -- ---- SELECT of all
@@ -68,7 +69,7 @@ every = select_all tree every_is (λ v. column v 0 ∷ column v 1 ∷ column v 2
 same_blob : (a b : List ℕ) → equal Binary (Blob a) (Blob b) ≡ true → a ≡ b
 same_blob a b h = (bytes_eq-Decides a b).0 (sym (blob_test a b) ∙ h)
 
-ca_put : (a : CaRow) → IsPut ca_at (ca_row a)
+ca_put : (a : CaRow) → IsPut placed_ca (ca_row a)
 unfolding joined
 ca_put a = record {
   listed = inr (inr (inr (inr (inr (inr (inl refl))))));
@@ -81,13 +82,13 @@ ca_put a = record {
 }
 
 -- the key is taken
-ca_clash : (a : CaRow) (s : State) (c : Contents) → Means s.now c → HasClash s.now.trees ca_at [] (ca_row a)
+ca_clash : (a : CaRow) (s : State) (c : Contents) → Means s.now c → HasClash s.now.trees placed_ca [] (ca_row a)
     → HasOne (λ d. (d.number ≡ a.number) ⊎ (d.ca ≡ a.ca)) c.cas
 unfolding first_key
 ca_clash a s c means (i, here, on, other, there, same) =
     let it = of_record ca_cells ca_places (s.now.trees 9) c.cas other means.kept.holds.cas there in
     let blob : column other 2 ≡ Blob it.0.ca = ap (λ v. column v 1) it.2 in
-    let both = all_has (λ j. guards j ca_at ≡ true → agree j.order j.columns other j.columns (ca_row a) ≡ true
+    let both = all_has (λ j. guards j placed_ca ≡ true → agree j.order j.columns other j.columns (ca_row a) ≡ true
     → (equal Binary (column other 2) (Blob a.ca) && true) ≡ true) whole.indexes i
     ((λ e. never e refl), ((λ e. never e refl), ((λ e. never e refl), ((λ e same. same), tt)))) here on same in
     let first = and_parts (equal Binary (column other 2) (Blob a.ca)) true both in

@@ -3,15 +3,17 @@ use Rattle.store_sql.proofs.Words.{All, AllByRecursion, Applies, Binary, Blob, B
 use Rattle.store_sql.proofs.Words.{Enforced, Eq, FailsBy, Fault, ForeignKey, Ge, Has, HasOne, Holds, INSERT_CERT}
 use Rattle.store_sql.proofs.Words.{Insert, Int, Le, List, Lists, Means, None, Null, Refers, RefusedFor, Result, Row}
 use Rattle.store_sql.proofs.Words.{SIGN_CERT, Some, State, Term, Text, Trees, Update, Values, [], accepts_terms, agree}
-use Rattle.store_sql.proofs.Words.{all_has, and-true, ap, ap₂, are_typed, arith, ascending, at_places, binary, cert_at}
+use Rattle.store_sql.proofs.Words.{all_has, and-true, ap, ap₂, are_typed, arith, ascending, at_places, binary}
+use Rattle.store_sql.proofs.Words.{placed_cert}
 use Rattle.store_sql.proofs.Words.{cert_cells, cert_places, codes, col, column, department_cells, department_places}
 use Rattle.store_sql.proofs.Words.{drop, equal, everything, first_key, has_null, has_rowid, inl, inr, is_true}
 use Rattle.store_sql.proofs.Words.{list_any, lit, lt-ltb, nat_cmp, not, op2, or_null, or_right, plain, pos, refl}
-use Rattle.store_sql.proofs.Words.{signed, some_from, stamped, subst, sym, true, whole, without_rowid, ℕ}
+use Rattle.store_sql.proofs.Words.{signed_row, some_from, stamped, subst, sym, true, whole, without_rowid, ℕ}
 use Rattle.store_sql.proofs.Words.{◌&&◌, ◌<◌, ◌^◌, ◌||◌, ◌∙◌, ◌∷◌, ◌≡◌}
 use Rattle.store_sql.proofs.Selects.{IsTreeOf, select, number_cmp, FindSorted, select_sorted}
 use Rattle.store_sql.proofs.FaultLemmas.{IsStatement, HasWriteCause}
-use Rattle.store_sql.specs.Changes.{has_serial, certs_numbered, certs_within, is_cert_within, with_cert, with_signature}
+use Rattle.store_sql.specs.Changes.{has_serial, certs_numbered, certs_within, is_cert_within, with_cert}
+use Rattle.store_sql.specs.Changes.{with_cert_signature}
 use Rattle.store_sql.specs.declared.sql.TheConstants.{FIND_CERT, CERTS_WITHIN}
 use Rattle.store_sql.proofs.Elsewhere.{cert_apart, in_cert}
 use Rattle.store_sql.proofs.CallLemmas.{IsSelect, Write, Find}
@@ -43,7 +45,7 @@ insert_is : IsStatement INSERT_CERT.now (Insert 2 (Values terms 6)) 5
 unfolding everything
 insert_is = statement whole INSERT_CERT.now _ 5 refl refl
 
-pub puts : IsInsert INSERT_CERT.now cert_cells cert_places 2 cert_at terms 6 with_cert (λ c. c.certs)
+pub puts : IsInsert INSERT_CERT.now cert_cells cert_places 2 placed_cert terms 6 with_cert (λ c. c.certs)
     (λ x rows. cert_row x)
 puts = record {
   tree = tree;
@@ -52,7 +54,7 @@ puts = record {
   source = cert_row;
   sourced = λ x. (
     refl,
-    elim x.signature as (λ o. accepts_terms terms (stamped cert_at (cert_cells (record x { signature = o }))) ≡ true)
+    elim x.signature as (λ o. accepts_terms terms (stamped placed_cert (cert_cells (record x { signature = o }))) ≡ true)
         [ None ↦ refl | Some b ↦ refl ],
   );
   made = λ x rows. (simp (cast_int, cast_null), refl);
@@ -129,8 +131,8 @@ module _ (serial : ℕ) (signature : List ℕ) where
   abbrev sign_row : Row → Row
   sign_row v = column v 0 ∷ Null ∷ column v 1 ∷ column v 2 ∷ column v 3 ∷ Blob signature ∷ []
 
-  pub signs : IsUpdate SIGN_CERT.now sign_params cert_cells cert_places 2 cert_at sign_test sign_project (λ c. c.certs)
-      (with_signature serial signature) (λ x. x.serial) serial (signed signature) cert_row
+  pub signs : IsUpdate SIGN_CERT.now sign_params cert_cells cert_places 2 placed_cert sign_test sign_project (λ c. c.certs)
+      (with_cert_signature serial signature) (λ x. x.serial) serial (signed_row signature) cert_row
   signs = record {
     tree = tree;
     found = refl;
@@ -144,7 +146,7 @@ module _ (serial : ℕ) (signature : List ℕ) where
     held = λ db next c h o. in_cert db next c h _ o;
   }
 
-  pub sign : Write SIGN_CERT.now sign_params (with_signature serial signature)
+  pub sign : Write SIGN_CERT.now sign_params (with_cert_signature serial signature)
   sign = update signs
 
 -- ---- why a certificate is refused
@@ -156,7 +158,7 @@ module _ (x : CertRow) where
   abbrev its_row : Row
   its_row = cert_row x
 
-  is_put : IsPut cert_at its_row
+  is_put : IsPut placed_cert its_row
   is_put = record {
     listed = inr (inr (inl refl));
     formed = (signature_typed, refl, refl, refl);
@@ -164,9 +166,9 @@ module _ (x : CertRow) where
     entries = λ fits. ((λ e. cc), ((λ e. cc), ((λ e. cc), ((λ e. cc), tt))));
   }
     where
-      signature_typed : (are_typed cert_at.key 0 cert_at.columns
+      signature_typed : (are_typed placed_cert.key 0 placed_cert.columns
           (Null ∷ Text x.department ∷ Text x.key_id ∷ Blob x.body ∷ or_null Blob x.signature ∷ []) && true) ≡ true
-      signature_typed = elim x.signature as (λ o. (are_typed cert_at.key 0 cert_at.columns
+      signature_typed = elim x.signature as (λ o. (are_typed placed_cert.key 0 placed_cert.columns
           (Null ∷ Text x.department ∷ Text x.key_id ∷ Blob x.body ∷ or_null Blob o ∷ []) && true) ≡ true)
           [ None ↦ refl | Some b ↦ refl ]
 
@@ -189,7 +191,7 @@ module _ (x : CertRow) where
   -- if its department exists, no reference is broken
   referred : (s : State) (c : Contents) (next : Trees) → Means s.now c
       → HasOne (λ d. d.name ≡ x.department) c.departments → Applies whole Enforced s.now.trees
-      (one s.now.trees cert_at [] its_row) next → Refers All whole next
+      (one s.now.trees placed_cert [] its_row) next → Refers All whole next
   referred s c next means named did =
       let db = s.now.trees in
       let departments : next 1 ≡ db 1 = did.tables.1.0 (eqb-false 1 3 refl) in
@@ -204,13 +206,13 @@ module _ (x : CertRow) where
 module _ (serial : ℕ) (signature : List ℕ) where
   -- the department of the existing row
   own_department : (db : Trees) (x : CertRow) (r : Row) → at_places cert_places r ≡ cert_cells x → has_department db r ≡ true
-      → has_department db (cert_row (signed signature x)) ≡ true
+      → has_department db (cert_row (signed_row signature x)) ≡ true
   own_department db x r is h =
       let c2 : column r 2 ≡ Text x.department = ap (λ v. column v 1) is in rw c2 at h
 
   still_refers : (s : State) (c : Contents) (x : CertRow) (r : Row) (next : Trees) → Means s.now c → Has (s.now.trees 3) r
       → at_places cert_places r ≡ cert_cells x → Applies whole Enforced s.now.trees
-      (one s.now.trees cert_at (pos serial ∷ []) (cert_row (signed signature x))) next → Refers All whole next
+      (one s.now.trees placed_cert (pos serial ∷ []) (cert_row (signed_row signature x))) next → Refers All whole next
   still_refers s c x r next means here is did =
       let db = s.now.trees in
       let departments : next 1 ≡ db 1 = did.tables.1.0 (eqb-false 1 3 refl) in
@@ -218,7 +220,7 @@ module _ (serial : ℕ) (signature : List ℕ) where
       let own = own_department db x r is (all_has (λ r. has_department db r ≡ true) (db 3) r was here) in
       all_refer next (subst (λ ds. AllByRecursion (λ r. (has_null (2 ∷ []) r || list_any (λ d. agree plain (1 ∷ []) d (2 ∷ []) r) ds) ≡ true) (next 3))
       (sym departments) (subst (AllByRecursion (λ r. has_department db r ≡ true)) (sym did.rows)
-      (all-put_row (λ r. has_department db r ≡ true) (cert_row (signed signature x))
+      (all-put_row (λ r. has_department db r ≡ true) (cert_row (signed_row signature x))
       (without_rowid (pos serial) (db 3)) own
       (all-filter (λ r. has_department db r ≡ true) (λ r. not (has_rowid (pos serial) r)) (db 3) was))))
 
@@ -233,7 +235,7 @@ cert_fails x below = insert_fails puts x (RefusesCert x) (λ s. is_put x)
     (λ s c means out. never (lt-ltb x.serial (2 ^ 63) below) out)
     (λ s c means taken. inl (taken_number (λ y. y.serial) x.serial
     (drop 1 (cert_row x)) (λ y r is. ap (λ v. column v 0) is) means.kept.holds.certs taken))
-    (λ s c means clash. absurd (unclashed s.now.trees cert_at [] (cert_row x)
+    (λ s c means clash. absurd (unclashed s.now.trees placed_cert [] (cert_row x)
     ((λ e. never e refl), ((λ e. never e refl), ((λ e. never e refl), ((λ e. never e refl), tt)))) clash))
     (λ s c long. inr (inr (cert_long x long)))
     (λ s c next means did broken. inr (inl (λ named. broken (referred x s c next means named did))))

@@ -4,7 +4,7 @@ use Rattle.store_sql.proofs.Words.{Contents, Datatype, DepartmentRow, Enforced, 
 use Rattle.store_sql.proofs.Words.{Int, IsJudged, IsNumber, IsPermutation, List, Means, Mismatch, NoRowid, NotNull}
 use Rattle.store_sql.proofs.Words.{Null, PrimaryKey, Refers, Refusal, RefusedFor, Result, Row, Some, State, Text}
 use Rattle.store_sql.proofs.Words.{TooDeep, Trees, Unique, Violates, [], accepts_program, agree, all_from, all_has, ap}
-use Rattle.store_sql.proofs.Words.{arith, cases_Bool, cast_row, column, department_at, department_cells}
+use Rattle.store_sql.proofs.Words.{arith, cases_Bool, cast_row, column, placed_department, department_cells}
 use Rattle.store_sql.proofs.Words.{department_places, edit_of, equal, false, filter, first_key, guards, has_filtered}
 use Rattle.store_sql.proofs.Words.{has_kept, has_rowid, id_in, ids_of, inl, inr, is_eq, left_by, length, list_any}
 use Rattle.store_sql.proofs.Words.{ltb-false, map, next_rowid, not, or_right, plain, pos, refl, rowid, shown, some_from}
@@ -49,7 +49,7 @@ module _ (d : DepartmentRow) where
   fresh_is : (rows : List Row) → fresh_row d rows ≡ row_at (next_rowid rows)
   fresh_is rows = rw cast_null (simp cast_int)
 
-  is_put : (id : ℤ) → IsPut department_at (row_at id)
+  is_put : (id : ℤ) → IsPut placed_department (row_at id)
   is_put id = record {
     listed = inr (inl refl);
     formed = (refl, refl, refl, refl);
@@ -66,7 +66,7 @@ module _ (d : DepartmentRow) where
   too_long : (id : ℤ) → 10 ^ 9 < size (row_at id) → IsTooLong (department_cells d)
   too_long id long = omega (arith, long)
 
-  well_judged : (id : ℤ) (why : Refusal) → IsJudged department_at (row_at id) (Some why) → ⊥
+  well_judged : (id : ℤ) (why : Refusal) → IsJudged placed_department (row_at id) (Some why) → ⊥
   well_judged id Mismatch h = let wrong : true ≡ false = h in cc
   well_judged id NoRowid h = h
   well_judged id BadReference h = h
@@ -79,29 +79,29 @@ module _ (d : DepartmentRow) where
   well_judged id (Violates ForeignKey) h = h
 
   -- a row with the key of the new one has its name
-  clash_named : (db : Trees) (gone : List ℤ) (id : ℤ) → HasClash db department_at gone (row_at id)
-      → (other : Row) × Has (left_by db (one db department_at gone (row_at id))) other × (named d.name other ≡ true)
+  clash_named : (db : Trees) (gone : List ℤ) (id : ℤ) → HasClash db placed_department gone (row_at id)
+      → (other : Row) × Has (left_by db (one db placed_department gone (row_at id))) other × (named d.name other ≡ true)
   unfolding first_key
   clash_named db gone id (i, here, on, other, there, same) = (
     other,
     there,
-    all_has (λ j. guards j department_at ≡ true → agree j.order j.columns other j.columns (row_at id) ≡ true → named d.name other ≡ true)
+    all_has (λ j. guards j placed_department ≡ true → agree j.order j.columns other j.columns (row_at id) ≡ true → named d.name other ≡ true)
         whole.indexes i ((λ e same. same), ((λ e. never e refl), ((λ e. never e refl), ((λ e. never e refl), tt)))) here on same,
   )
 
   -- ---- no department has the name
 
   added : (s : State) (c : Contents) → Means s.now c
-      → AreConflicts (Some (1 ∷ [])) whole.indexes department_at (s.now.trees 1) (fresh_row d (s.now.trees 1)) []
-      → IsHalted whole s.now.trees (edit_of s.now.trees department_at [] Given 0 (fresh_row d (s.now.trees 1) ∷ []))
+      → AreConflicts (Some (1 ∷ [])) whole.indexes placed_department (s.now.trees 1) (fresh_row d (s.now.trees 1)) []
+      → IsHalted whole s.now.trees (edit_of s.now.trees placed_department [] Given 0 (fresh_row d (s.now.trees 1) ∷ []))
       → RefusesDepartment d c
   added s c means none halts =
       let db = s.now.trees in
       let h = means.kept.holds in
       let new = row_at (next_rowid (db 1)) in
-      let is : cast_row department_at (fresh_row d (db 1)) ≡ new = rw (fresh_is (db 1)) (simp cast_int) in
-      let stopped = subst (λ row. IsHalted whole db (one db department_at [] row)) is halts in
-      halted db department_at [] new (is_put (next_rowid (db 1))) h.departments.apart
+      let is : cast_row placed_department (fresh_row d (db 1)) ≡ new = rw (fresh_is (db 1)) (simp cast_int) in
+      let stopped = subst (λ row. IsHalted whole db (one db placed_department [] row)) is halts in
+      halted db placed_department [] new (is_put (next_rowid (db 1))) h.departments.apart
       (means.kept.sound.obeys.rules Unique)
       (λ out. inr (full department_cells department_places (db 1) c.departments h.departments h.departments_numbered out))
       (λ taken. free (db 1) (department_cells d) h.departments_numbered h.departments.apart taken)
@@ -120,14 +120,14 @@ module _ (d : DepartmentRow) where
     abbrev db : Trees
     db = s.now.trees
 
-    kept_row : (k : ℕ) → rowid r0 ≡ Int (pos k) → cast_row department_at (next_row d (fresh_row d (db 1)) r0) ≡ row_at (pos k)
+    kept_row : (k : ℕ) → rowid r0 ≡ Int (pos k) → cast_row placed_department (next_row d (fresh_row d (db 1)) r0) ≡ row_at (pos k)
     kept_row k id =
         let name : column r0 1 ≡ Text d.name = name_is d c db means.kept r0 here0 hit0 r0 here0 hit0 in
         let new = fresh_is (db 1) in rw (new, id, name) (simp cast_int)
 
     -- each name is still there
     renamed : (k : ℕ) (next : Trees) → rowid r0 ≡ Int (pos k)
-        → Applies whole Enforced db (one db department_at (pos k ∷ []) (row_at (pos k))) next → (p : Row → Bool)
+        → Applies whole Enforced db (one db placed_department (pos k ∷ []) (row_at (pos k))) next → (p : Row → Bool)
         → ((r t : Row) → column r 1 ≡ column t 1 → p r ≡ true → p t ≡ true) → list_any p (db 1) ≡ true → list_any p (next 1) ≡ true
     renamed k next id did p alike held =
         let new = row_at (pos k) in
@@ -149,7 +149,7 @@ module _ (d : DepartmentRow) where
 
     over : (rows : List Row) → IsPermutation
         (map (λ r. rowid r ∷ next_row d (fresh_row d (db 1)) r) (filter (has_id d c db means.kept r0 here0 hit0) (db 1))) rows
-        → IsHalted whole db (edit_of db department_at (ids_of rows) Given 1 rows) → RefusesDepartment d c
+        → IsHalted whole db (edit_of db placed_department (ids_of rows) Given 1 rows) → RefusesDepartment d c
     over rows all halts =
         let h = means.kept.holds in
         let shows = λ (r : Row). rowid r ∷ next_row d (fresh_row d (db 1)) r in
@@ -159,12 +159,12 @@ module _ (d : DepartmentRow) where
         let rows_are = sole (shows r0) rows (subst (λ l. IsPermutation (map shows l) rows) alone all) in
         let k = all_has (λ r. IsNumber (length (db 1)) (rowid r)) (db 1) r0 h.departments_numbered here0 in
         let id : rowid r0 ≡ Int (pos k.0) = k.1 in
-        let step = subst (λ rs. IsHalted whole db (edit_of db department_at (ids_of rs) Given 1 rs)) rows_are halts in
-        let at_id = subst (λ v. IsHalted whole db (one db department_at (id_in v ∷ []) (cast_row department_at (next_row d (fresh_row d (db 1)) r0)))) id step in
+        let step = subst (λ rs. IsHalted whole db (edit_of db placed_department (ids_of rs) Given 1 rs)) rows_are halts in
+        let at_id = subst (λ v. IsHalted whole db (one db placed_department (id_in v ∷ []) (cast_row placed_department (next_row d (fresh_row d (db 1)) r0)))) id step in
         let new = row_at (pos k.0) in
-        let stopped = subst (λ row. IsHalted whole db (one db department_at (pos k.0 ∷ []) row)) (kept_row k.0 id) at_id in
+        let stopped = subst (λ row. IsHalted whole db (one db placed_department (pos k.0 ∷ []) row)) (kept_row k.0 id) at_id in
         let count = counted department_cells department_places (db 1) c.departments h.departments in
-        halted db department_at (pos k.0 ∷ []) new (is_put (pos k.0)) h.departments.apart
+        halted db placed_department (pos k.0 ∷ []) new (is_put (pos k.0)) h.departments.apart
         (means.kept.sound.obeys.rules Unique)
         (λ out. let big = ltb-false k.0 (2 ^ 63) out in inr (omega (arith, big, k.2, count)))
         (λ taken. absurd (freed (db 1) (pos k.0) new refl taken))
@@ -178,9 +178,9 @@ module _ (d : DepartmentRow) where
         (each_refers db (means.kept.sound.obeys.rules ForeignKey))))) stopped
 
   put_typed : (s : State) (c : Contents) → Means s.now c → (there : Row) (more : List Row)
-      → AreConflicts (Some (1 ∷ [])) whole.indexes department_at (s.now.trees 1) (row_at (next_rowid (s.now.trees 1))) (there ∷ more)
+      → AreConflicts (Some (1 ∷ [])) whole.indexes placed_department (s.now.trees 1) (row_at (next_rowid (s.now.trees 1))) (there ∷ more)
       → accepts_program whole [] put_query
-      (department_cells d ++ rowid there ∷ shown department_at (row_at (next_rowid (s.now.trees 1)))) ≡ true
+      (department_cells d ++ rowid there ∷ shown placed_department (row_at (next_rowid (s.now.trees 1)))) ≡ true
   put_typed s c means there more conflicts =
       let met = conflicts.sound there (inl refl) in
       let k = all_has (λ r. IsNumber (length (s.now.trees 1)) (rowid r)) (s.now.trees 1) met.0 means.kept.holds.departments_numbered met.1 in
@@ -190,13 +190,13 @@ module _ (d : DepartmentRow) where
   pub refuses_department : (s : State) (c : Contents) → Means s.now c → Stops put_sql (department_cells d) put_command s
       → RefusesDepartment d c
   refuses_department s c means stops = go
-      (upsert_halts s.now whole means.schema 1 department_at refl (department_cells d)
+      (upsert_halts s.now whole means.schema 1 placed_department refl (department_cells d)
       (statement_of put_sql (understood whole put_sql)) (Some (1 ∷ [])) put_program (no_works 1)
       (row_at (next_rowid (s.now.trees 1))) (put_typed s c means)
       (λ given h. elim h [ inl over ↦ over | inr fold ↦ none_overflows _ fold ]) terms 9 (source d) refl refl
       (fresh_is (s.now.trees 1)) stops.0 stops.1)
     where
-      go : IsUnmet s.now whole means.schema 1 department_at refl (department_cells d)
+      go : IsUnmet s.now whole means.schema 1 placed_department refl (department_cells d)
           (statement_of put_sql (understood whole put_sql)) (Some (1 ∷ [])) put_program (no_works 1)
           (row_at (next_rowid (s.now.trees 1))) (put_typed s c means)
           (λ given h. elim h [ inl over ↦ over | inr fold ↦ none_overflows _ fold ]) → RefusesDepartment d c
@@ -206,14 +206,14 @@ module _ (d : DepartmentRow) where
       go (inr (inl (why, bad))) = absurd (well_judged (next_rowid (s.now.trees 1)) why bad)
       go (inr (inr (inl (none, halts)))) =
           let is = sym (fresh_is (s.now.trees 1)) in
-          added s c means (subst (λ r. AreConflicts (Some (1 ∷ [])) whole.indexes department_at (s.now.trees 1) r []) is none)
-          (subst (λ r. IsHalted whole s.now.trees (edit_of s.now.trees department_at [] Given 0 (r ∷ []))) is halts)
+          added s c means (subst (λ r. AreConflicts (Some (1 ∷ [])) whole.indexes placed_department (s.now.trees 1) r []) is none)
+          (subst (λ r. IsHalted whole s.now.trees (edit_of s.now.trees placed_department [] Given 0 (r ∷ []))) is halts)
       go (inr (inr (inr (there, more, conflicts, kept)))) =
           let is = sym (fresh_is (s.now.trees 1)) in
           let met = conflicts.sound there (inl refl) in
           let hit : named d.name met.0 ≡ true = sym (conflict_is d (s.now.trees 1) met.0)
-          ∙ ap (λ n. Rattle.sqlite_rules.specs.Keys.conflicts (Some (1 ∷ [])) whole.indexes department_at n met.0) (sym is) ∙ met.2 in
-          let params = department_cells d ++ rowid there ∷ shown department_at (row_at (next_rowid (s.now.trees 1))) in
+          ∙ ap (λ n. Rattle.sqlite_rules.specs.Keys.conflicts (Some (1 ∷ [])) whole.indexes placed_department n met.0) (sym is) ∙ met.2 in
+          let params = department_cells d ++ rowid there ∷ shown placed_department (row_at (next_rowid (s.now.trees 1))) in
           let all = selected 1 _ _ [] s.now.trees params kept.0 refl (kept.1.answer Null) in
           let shown_all = subst (λ n. IsPermutation (map (λ r. rowid r ∷ next_row d n r)
           (filter (has_id d c s.now.trees means.kept met.0 met.1 hit) (s.now.trees 1))) kept.0) is (rw (met.3) at all) in

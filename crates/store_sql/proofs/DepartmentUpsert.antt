@@ -5,7 +5,7 @@ use Rattle.store_sql.proofs.Words.{IsPermutation, IsPermutation-cons, IsPermutat
 use Rattle.store_sql.proofs.Words.{IsTable-put_row, Kept, List, Means, Ne, None, Null, Ok, Option, Program, Query, Row}
 use Rattle.store_sql.proofs.Words.{Some, Tally, Term, Text, Trees, Unique, Values, [], all-permutation, all_from}
 use Rattle.store_sql.proofs.Words.{all_has, and-true, and_parts, ap, arith, ascending, at_places, binary}
-use Rattle.store_sql.proofs.Words.{bytes_eq-Decides, cases_Bool, cast_row, codes, col, column, department_at}
+use Rattle.store_sql.proofs.Words.{bytes_eq-Decides, cases_Bool, cast_row, codes, col, column, placed_department}
 use Rattle.store_sql.proofs.Words.{department_cells, department_places, edit_of, everything, false, filter, first_key}
 use Rattle.store_sql.proofs.Words.{has_filtered, has_name, ids_of, inl, inr, is_eq, is_int, is_true, length}
 use Rattle.store_sql.proofs.Words.{length_permutation, list_any, lit, map, nat_cmp, next_rowid, not, op2, pos, refl}
@@ -19,7 +19,7 @@ use Rattle.std.proofs.lemmas.List.Filters.{length-filter_both}
 use Rattle.store_sql.proofs.Rows.{ints_of, more_numbered, next_number, still_numbered, cast_null, cast_int, put_adds}
 use Rattle.store_sql.proofs.Rows.{and_first, eq_tie, ne_tie, not_ne, none_passes, only_one, own_text}
 use Rattle.sqlite_rules.specs.Keys.{conflicts}
-use Rattle.store_sql.specs.Changes.{with_department, departments_named}
+use Rattle.store_sql.specs.Changes.{with_department_row, departments_named}
 use Rattle.store_sql.specs.declared.sql.TheConstants.{PUT_DEPARTMENT, FIND_DEPARTMENT, EVERY_DEPARTMENT}
 use Rattle.store_sql.proofs.CallLemmas.{IsSelect, Write, Find}
 use Rattle.store_sql.proofs.Edits.{keep_all, equal_is, filter_alike, of_record, updated, updated_apart}
@@ -61,10 +61,10 @@ module _ (d : DepartmentRow) where
   source = Null ∷ department_cells d
 
   abbrev pub fresh_row : List Row → Row
-  fresh_row rows = with_rowid Chosen rows (cast_row department_at source)
+  fresh_row rows = with_rowid Chosen rows (cast_row placed_department source)
 
   -- the conflicting rows are those with the name
-  pub conflict_is : (rows : List Row) (r : Row) → conflicts (Some (1 ∷ [])) whole.indexes department_at (fresh_row rows) r
+  pub conflict_is : (rows : List Row) (r : Row) → conflicts (Some (1 ∷ [])) whole.indexes placed_department (fresh_row rows) r
       ≡ named d.name r
   unfolding first_key
   conflict_is rows r = rw cast_null (or-false _)
@@ -74,16 +74,16 @@ module _ (d : DepartmentRow) where
   next_row new r = column r 0 ∷ column r 1 ∷ column new 2 ∷ column new 3 ∷ column new 4 ∷ column new 5 ∷ column new 6
       ∷ column new 7 ∷ column new 8 ∷ []
 
-  put_in : (rows : List Row) → at_places department_places (cast_row department_at (fresh_row rows)) ≡
+  put_in : (rows : List Row) → at_places department_places (cast_row placed_department (fresh_row rows)) ≡
       department_cells d
   put_in rows = rw cast_null (simp cast_int)
 
   put_over : (rows : List Row) (r : Row) → column r 1 ≡ Text d.name
-      → at_places department_places (cast_row department_at (next_row (fresh_row rows) r)) ≡ department_cells d
+      → at_places department_places (cast_row placed_department (next_row (fresh_row rows) r)) ≡ department_cells d
   put_over rows r is = rw (cast_null, is) (simp cast_int)
 
   -- if no row conflicts, none has the name
-  pub none_named : (rows : List Row) → AreConflicts (Some (1 ∷ [])) whole.indexes department_at rows (fresh_row rows) []
+  pub none_named : (rows : List Row) → AreConflicts (Some (1 ∷ [])) whole.indexes placed_department rows (fresh_row rows) []
       → (r : Row) → Has rows r → named d.name r ≡ false
   none_named rows none r here = elim (cases_Bool (named d.name r))
       [ inl hit ↦ absurd (none.complete r here (conflict_is rows r ∙ hit)) | inr miss ↦ miss ]
@@ -107,11 +107,11 @@ module _ (d : DepartmentRow) where
 
   -- the row that is inserted if none conflicts
   put_new : (c : Contents) (db after : Trees) → Holds db c
-      → AreConflicts (Some (1 ∷ [])) whole.indexes department_at (db 1) (fresh_row (db 1)) []
-      → Applies whole Enforced db (edit_of db department_at [] Given 0 (fresh_row (db 1) ∷ [])) after
-      → Holds after (with_department d c)
+      → AreConflicts (Some (1 ∷ [])) whole.indexes placed_department (db 1) (fresh_row (db 1)) []
+      → Applies whole Enforced db (edit_of db placed_department [] Given 0 (fresh_row (db 1) ∷ [])) after
+      → Holds after (with_department_row d c)
   put_new c db after h none did =
-      let new = cast_row department_at (fresh_row (db 1)) in
+      let new = cast_row placed_department (fresh_row (db 1)) in
       let left : filter (λ r. not (named d.name r)) (db 1) ≡ db 1 =
       filter_alike (λ r. not (named d.name r)) (λ r. true) (db 1) (λ r here. ap not (none_named (db 1) none r here))
       ∙ keep_all (db 1) in
@@ -187,17 +187,17 @@ module _ (d : DepartmentRow) where
     -- the row that replaces it
     put_same : (after : Trees) (rows : List Row) → IsPermutation
         (map (λ r. rowid r ∷ next_row new r) (filter has_id (db 1))) rows
-        → Applies whole Enforced db (edit_of db department_at (ids_of rows) Given 1 rows) after
-        → Holds after (with_department d c)
+        → Applies whole Enforced db (edit_of db placed_department (ids_of rows) Given 1 rows) after
+        → Holds after (with_department_row d c)
     put_same after rows all did =
-        let next = cast_row department_at (next_row new r0) in
+        let next = cast_row placed_department (next_row new r0) in
         let one : filter has_id (db 1) ≡ r0 ∷ [] = only_one has_id (db 1) r0 h.departments.apart here0 own_row the_row
         in
         let left : filter (λ r. not (has_id r)) (db 1) ≡ filter (λ r. not (named d.name r)) (db 1) = filter_alike _ _
         (db 1) (λ r here. ap not (same_rows r here)) in
-        let moved = updated whole department_at db after rows has_id (next_row new) h.departments.apart ints all did in
+        let moved = updated whole placed_department db after rows has_id (next_row new) h.departments.apart ints all did in
         let put : IsPermutation (next ∷ filter (λ r. not (named d.name r)) (db 1)) (after 1) =
-        subst₂ (λ f l. IsPermutation (map (λ r. cast_row department_at (next_row new r)) f ++ l) (after 1)) one left
+        subst₂ (λ f l. IsPermutation (map (λ r. cast_row placed_department (next_row new r)) f ++ l) (after 1)) one left
         moved in
         let rest = filter (λ r. not (named d.name r)) (db 1) in
         let was = all_has (λ r. IsNumber (length (db 1)) (rowid r)) (db 1) r0 h.departments_numbered here0 in
@@ -211,7 +211,7 @@ module _ (d : DepartmentRow) where
         in_department db after c h _ did.tables
         (record {
           same = replaced c db after next h (put_over (db 1) r0 (name_is r0 here0 hit0)) put;
-          apart = updated_apart whole department_at db after rows has_id (next_row new) h.departments.apart ints all
+          apart = updated_apart whole placed_department db after rows has_id (next_row new) h.departments.apart ints all
               did;
         })
         (still_numbered (db 1) (after 1) count
@@ -224,26 +224,26 @@ module _ (d : DepartmentRow) where
 
   put_does : (limit : Option ℕ) (db next : Database) (tally : Tally) (c : Contents) → Means db c
       → Does limit mode (department_cells d) db (statement_of put_sql (understood whole put_sql)) None put_command
-      (Ok (tally, next)) → (next.schema ≡ whole) × Holds next.trees (with_department d c)
+      (Ok (tally, next)) → (next.schema ≡ whole) × Holds next.trees (with_department_row d c)
   put_does limit db next tally c means did =
-      let it = upserts limit db next tally whole means.schema 1 department_at refl (department_cells d)
+      let it = upserts limit db next tally whole means.schema 1 placed_department refl (department_cells d)
       (statement_of put_sql (understood whole put_sql)) (Some (1 ∷ [])) put_program
       (no_works 1) terms 9 source refl did in
       (it.1, go it.0)
     where
-      go : Upserted limit db next tally whole means.schema 1 department_at refl (department_cells d)
+      go : Upserted limit db next tally whole means.schema 1 placed_department refl (department_cells d)
           (statement_of put_sql (understood whole put_sql)) (Some (1 ∷ [])) put_program
-          (no_works 1) (fresh_row (db.trees 1)) next.trees → Holds next.trees (with_department d c)
+          (no_works 1) (fresh_row (db.trees 1)) next.trees → Holds next.trees (with_department_row d c)
       go (inl it) = put_new c db.trees next.trees means.kept.holds it.0 it.1
       go (inr it) =
           let there = it.0 in
           let met = it.2.sound there (inl refl) in
           let hit : named d.name met.0 ≡ true = sym (conflict_is (db.trees 1) met.0) ∙ met.2 in
-          let params = department_cells d ++ rowid there ∷ shown department_at (fresh_row (db.trees 1)) in
+          let params = department_cells d ++ rowid there ∷ shown placed_department (fresh_row (db.trees 1)) in
           let all = selected 1 _ _ [] db.trees params it.3 refl (it.4.answer Null) in
           put_same c db.trees means.kept met.0 met.1 hit next.trees it.3 (rw (met.3) at all) it.5
 
-pub put : (d : DepartmentRow) → Write put_sql (department_cells d) (with_department d)
+pub put : (d : DepartmentRow) → Write put_sql (department_cells d) (with_department_row d)
 put d = record { command = put_command; is = put_is; on_rows = tt; does = put_does d }
 
 -- ---- SELECT of one department

@@ -1,6 +1,6 @@
 -- The `office` table is the first of the office's tables.
 use Rattle.store_sql.proofs.Words.{Contents, Database, HasOffices, List, Means, Schema, Some, Table, [], ap, list_any}
-use Rattle.store_sql.proofs.Words.{office_at, slice_get, subst, sym, true, ◌∷◌, ◌≡◌}
+use Rattle.store_sql.proofs.Words.{placed_office, slice_get, subst, sym, true, ◌∷◌, ◌≡◌}
 use Rattle.store_sql.specs.Contents.{MeansWithoutCa}
 use Rattle.store_sql.specs.Look.{first_is_office, is_office_table}
 
@@ -19,12 +19,12 @@ former_offices db c means = record {
 }
 
 -- the other tables, if it is the first
-pub first_is : (ts : List Table) → slice_get ts 0 ≡ Some office_at → (others : List Table) × (ts ≡ office_at ∷ others)
+pub first_is : (ts : List Table) → slice_get ts 0 ≡ Some placed_office → (others : List Table) × (ts ≡ placed_office ∷ others)
 first_is [] e = absurd cc
-first_is (t ∷ ts) e = (ts, let same : t ≡ office_at = cc in ap (λ (u : Table). u ∷ ts) same)
+first_is (t ∷ ts) e = (ts, let same : t ≡ placed_office = cc in ap (λ (u : Table). u ∷ ts) same)
 
 -- and thus it is recognized
-pub first_seen : (ts : List Table) → slice_get ts 0 ≡ Some office_at → list_any is_office_table ts ≡ true
+pub first_seen : (ts : List Table) → slice_get ts 0 ≡ Some placed_office → list_any is_office_table ts ≡ true
 first_seen ts e =
     let it = first_is ts e in
     subst (λ (us : List Table). list_any is_office_table us ≡ true) (sym it.1) (first_is_office it.0)

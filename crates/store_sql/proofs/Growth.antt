@@ -4,7 +4,8 @@ use Rattle.store_sql.proofs.Words.{IsPermutation-refl, IsSound, IsTrue, KeepsRow
 use Rattle.store_sql.proofs.Words.{State, Stays, Survives, Table, TableName, Trees, WaitsAt, [], ap, arith, before, ca}
 use Rattle.store_sql.proofs.Words.{ca_cells, ca_places, cert_cells, cert_places, created, department_cells}
 use Rattle.store_sql.proofs.Words.{department_places, drop, false, get_or, if◌then◌else◌, inl, key_id_cells}
-use Rattle.store_sql.proofs.Words.{key_id_places, length, made, office_cells, office_places, refl, request_cells}
+use Rattle.store_sql.proofs.Words.{key_id_places, length, created_table, office_cells, office_places, refl}
+use Rattle.store_sql.proofs.Words.{request_cells}
 use Rattle.store_sql.proofs.Words.{request_places, run_cells, run_places, subst, survives_then, sym, true, whole, ℕ}
 use Rattle.store_sql.proofs.Words.{◌++◌, ◌+◌, ◌<◌, ◌∙◌, ◌∷◌, ◌≡◌}
 use Rattle.std.proofs.lemmas.List.{drop_more}
@@ -35,7 +36,7 @@ bare_then s table a b p bare =
 -- each of these tables is created after those before it, and then all exist
 abbrev pub Completing : Schema → List TableName → Type 0
 Completing s [] = s ≡ whole
-Completing s (t ∷ ts) = (before t ≡ s) × Completing (created s (made t)) ts
+Completing s (t ∷ ts) = (before t ≡ s) × Completing (created s (created_table t)) ts
 
 -- the database has exactly these tables, with no row, and nothing else has changed
 pub record HasMade (s : Schema) (a b : State) : Type 0 where
@@ -103,13 +104,13 @@ module _ (names : List TableName) (i : ℕ) (first : TableName) (inside : i < le
 
   -- the tables before this one exist, if the database was bare at the beginning
   at_before : HasCleanDisk c → IsBare no_schema a.now → HasMade (before name) a b
-      × Completing (created (before name) (made name)) rest
+      × Completing (created (before name) (created_table name)) rest
   at_before clean bare =
       let r = at.reaches (omega (arith, lives.clean)) bare in
       let next = subst (Completing r.0) (drop_more names i first inside) r.1 in
       let same = sym next.0 in (
         subst (λ s. HasMade s a b) same r.2,
-        subst (λ s. Completing (created s (made name)) rest) same next.1,
+        subst (λ s. Completing (created s (created_table name)) rest) same next.1,
       )
 
   pub still_lives : Survives a c (WaitsAt no_schema a)
@@ -118,7 +119,7 @@ module _ (names : List TableName) (i : ℕ) (first : TableName) (inside : i < le
       (λ clean db h has. let it = (at_before clean (has, tt)).0 in sym it.mode ∙ h it.bare.0) at.lives lives
 
   -- the table is created
-  pub one_more : (HasCleanDisk c → b.now.schema ≡ before name → Grown b c (before name) (made name))
+  pub one_more : (HasCleanDisk c → b.now.schema ≡ before name → Grown b c (before name) (created_table name))
       → (HasCleanDisk c → Stays {X = Unit {0}} {E = Fault} b c (Ok (tt {0}))) → IsAt rest a c
   one_more grows stays = record {
     lives = still_lives;
@@ -126,9 +127,9 @@ module _ (names : List TableName) (i : ℕ) (first : TableName) (inside : i < le
         (at.stays (omega (arith, lives.clean))) (stays clean);
     reaches = λ clean bare.
         let r = at_before clean bare in (
-          created (before name) (made name),
+          created (before name) (created_table name),
           r.1,
-          more_made (before name) (made name) a b c r.0 (grows clean r.0.bare.0),
+          more_made (before name) (created_table name) a b c r.0 (grows clean r.0.bare.0),
         );
   }
 

@@ -3,7 +3,8 @@ use Rattle.store_sql.proofs.Words.{All, AllByRecursion, Applies, Bool, Chosen, C
 use Rattle.store_sql.proofs.Words.{FailsBy, Fault, ForeignKey, Has, Holds, Insert, Int, IsPermutation, Keeps, List}
 use Rattle.store_sql.proofs.Words.{Lists, Means, None, Ok, Option, Refers, RefusedFor, Result, Row, Some, State, Table}
 use Rattle.store_sql.proofs.Words.{Tally, Term, Trees, Unique, Values, [], accepts_terms, agree, all_from, all_has, ap}
-use Rattle.store_sql.proofs.Words.{at_places, cast_row, cert_at, edit_of, eqb-true, false, fits_i64, has_null, id_in}
+use Rattle.store_sql.proofs.Words.{at_places, cast_row, placed_cert, edit_of, eqb-true, false, fits_i64, has_null}
+use Rattle.store_sql.proofs.Words.{id_in}
 use Rattle.store_sql.proofs.Words.{if◌then◌else◌, inl, inr, is_eq, is_taken, joined, length, list_any, plain, pos, refl}
 use Rattle.store_sql.proofs.Words.{rowid, same_name, slice_get, some_has, stamped, statement_of, subst, sym, test_has}
 use Rattle.store_sql.proofs.Words.{true, understood, value_cmp, value_cmp-Int, value_rows, whole, with_rowid, works, ℕ}
@@ -110,7 +111,7 @@ all_refer trees all = refers_from All whole trees (λ t ref row listed known is 
     never : {A B : Type 0} → ⊥ → A → B
     never none there = absurd none
 
-    at_cert : (ref : Reference) (row : Row) → Has cert_at.references ref → Has (trees 3) row
+    at_cert : (ref : Reference) (row : Row) → Has placed_cert.references ref → Has (trees 3) row
         → has_parent whole.tables trees row ref ≡ true
     at_cert ref row (inl same) there = subst (λ r. has_parent whole.tables trees row r ≡ true) (sym same)
         (parent_is trees row ∙ all_has (λ r. has_department trees r ≡ true) (trees 3) row all there)

@@ -6,8 +6,9 @@ use Rattle.store_sql.proofs.Words.{Query, RefusedFor, RequestRow, Result, Row, S
 use Rattle.store_sql.proofs.Words.{all_from, all_has, and-true, and_parts, ap, ap₂, arith, ascending, at_places, binary}
 use Rattle.store_sql.proofs.Words.{bytes_eq-Decides, codes, col, column, equal, everything, false, first_key, fits_i64}
 use Rattle.store_sql.proofs.Words.{guards, inl, inr, is_true, joined, key_id_cells, key_id_places, length, length-map}
-use Rattle.store_sql.proofs.Words.{length_permutation, lit, ltb-false, nat_cmp, next_rowid, op2, pos, refl, request_at}
-use Rattle.store_sql.proofs.Words.{request_cells, request_places, revoked_at, slice_cmp, subst, sym, true}
+use Rattle.store_sql.proofs.Words.{length_permutation, lit, ltb-false, nat_cmp, next_rowid, op2, pos, refl}
+use Rattle.store_sql.proofs.Words.{placed_request}
+use Rattle.store_sql.proofs.Words.{request_cells, request_places, placed_revoked, slice_cmp, subst, sym, true}
 use Rattle.store_sql.proofs.Words.{whole, ℕ, ◌&&◌, ◌^◌, ◌∙◌, ◌∷◌, ◌≡◌, ◌≤◌}
 use Rattle.sqlite_trees.specs.View.{IsStorable}
 use Rattle.store_sql.proofs.Reasons.{is_exact, HasClash, IsPut, never, size, storable}
@@ -15,7 +16,8 @@ use Rattle.std.proofs.Common.{◌<◌}
 use Rattle.store_sql.specs.Refusals.{IsTooLong}
 use Rattle.store_sql.proofs.Selects.{IsTreeOf, select, text_cmp, FindSorted, select_all}
 use Rattle.store_sql.proofs.FaultLemmas.{IsStatement, HasWriteCause}
-use Rattle.store_sql.specs.Changes.{is_request_for, requests_for, with_request, is_key_id, revoked_as, with_revoked}
+use Rattle.store_sql.specs.Changes.{is_request_for, requests_for, with_request, is_same_key_id, revoked_as}
+use Rattle.store_sql.specs.Changes.{with_revoked}
 use Rattle.store_sql.specs.declared.sql.TheConstants.{FIND_REQUEST, FIND_REVOKED, EVERY_REVOKED}
 use Rattle.store_sql.proofs.Elsewhere.{request_apart, in_request, key_id_apart, in_revoked}
 use Rattle.store_sql.proofs.CallLemmas.{IsSelect, Write, Find}
@@ -42,7 +44,7 @@ insert_request_is : IsStatement INSERT_REQUEST.now (Insert 3 (Values request_ter
 unfolding everything
 insert_request_is = statement whole INSERT_REQUEST.now _ 4 refl refl
 
-pub request_puts : IsInsert INSERT_REQUEST.now request_cells request_places 3 request_at request_terms 5 with_request
+pub request_puts : IsInsert INSERT_REQUEST.now request_cells request_places 3 placed_request request_terms 5 with_request
     (λ c. c.requests) request_row
 request_puts = record {
   tree = request_tree;
@@ -95,7 +97,7 @@ insert_revoked_is : IsStatement INSERT_REVOKED.now (Insert 5 (Values revoked_ter
 unfolding everything
 insert_revoked_is = statement whole INSERT_REVOKED.now _ 1 refl refl
 
-pub revoked_puts : IsInsert INSERT_REVOKED.now key_id_cells key_id_places 5 revoked_at revoked_terms 2 with_revoked
+pub revoked_puts : IsInsert INSERT_REVOKED.now key_id_cells key_id_places 5 placed_revoked revoked_terms 2 with_revoked
     (λ c. c.revoked) revoked_row
 revoked_puts = record {
   tree = revoked_tree;
@@ -119,7 +121,7 @@ unfolding everything
 find_revoked_is = query whole FIND_REVOKED.now _ _ 1 refl refl
 
 pub find_revoked : (key_id : List ℕ) → Find FIND_REVOKED.now (Text key_id ∷ []) key_id_cells (revoked_as key_id)
-find_revoked key_id = select revoked_tree find_revoked_is (is_key_id key_id)
+find_revoked key_id = select revoked_tree find_revoked_is (is_same_key_id key_id)
     (λ v. is_true (binary (Compare Eq Binary) (column v 0) (Text key_id)) && true)
     (λ v. column v 0 ∷ []) (λ x. and-true _ ∙ text_test x key_id) (λ x. refl) (λ r. refl) (λ r. refl) refl (λ c. refl)
 
@@ -167,7 +169,7 @@ same_text a b h = (bytes_eq-Decides a b).0 (sym (text_test a b) ∙ h)
 
 -- ---- why a request is refused
 
-request_put : (r : RequestRow) (rows : List Row) → IsPut request_at (request_row r rows)
+request_put : (r : RequestRow) (rows : List Row) → IsPut placed_request (request_row r rows)
 unfolding joined
 request_put r rows = record {
   listed = inr (inr (inr (inl refl)));
@@ -184,13 +186,13 @@ request_put r rows = record {
 
 -- a request of the same caller has the request ID
 request_clash : (r : RequestRow) (s : State) (c : Contents) → Means s.now c
-    → HasClash s.now.trees request_at [] (request_row r (s.now.trees 4)) → HasOne (λ k. (k.caller ≡ r.caller) × (k.key ≡ r.key)) c.requests
+    → HasClash s.now.trees placed_request [] (request_row r (s.now.trees 4)) → HasOne (λ k. (k.caller ≡ r.caller) × (k.key ≡ r.key)) c.requests
 unfolding first_key
 request_clash r s c means (i, here, on, other, there, same) =
     let it = of_record request_cells request_places (s.now.trees 4) c.requests other means.kept.holds.requests there in
     let caller : column other 1 ≡ Text it.0.caller = ap (λ v. column v 0) it.2 in
     let key : column other 2 ≡ Text it.0.key = ap (λ v. column v 1) it.2 in
-    let both = all_has (λ j. guards j request_at ≡ true → agree j.order j.columns other j.columns (request_row r (s.now.trees 4)) ≡ true
+    let both = all_has (λ j. guards j placed_request ≡ true → agree j.order j.columns other j.columns (request_row r (s.now.trees 4)) ≡ true
     → (equal Binary (column other 1) (Text r.caller) && (equal Binary (column other 2) (Text r.key) && true)) ≡ true) whole.indexes i
     ((λ e. never e refl), ((λ e same. same), ((λ e. never e refl), ((λ e. never e refl), tt)))) here on same in
     let first = and_parts (equal Binary (column other 1) (Text r.caller)) (equal Binary (column other 2) (Text r.key) && true) both in
@@ -215,7 +217,7 @@ request_fails x = insert_fails request_puts x (RefusesRequest x) (λ s. request_
 
 -- ---- why a revoked key ID is refused
 
-revoked_put : (k : List ℕ) (rows : List Row) → IsPut revoked_at (revoked_row k rows)
+revoked_put : (k : List ℕ) (rows : List Row) → IsPut placed_revoked (revoked_row k rows)
 unfolding joined
 revoked_put k rows = record {
   listed = inr (inr (inr (inr (inr (inl refl)))));
@@ -230,12 +232,12 @@ revoked_put k rows = record {
 
 -- the key ID is there already
 revoked_clash : (k : List ℕ) (s : State) (c : Contents) → Means s.now c
-    → HasClash s.now.trees revoked_at [] (revoked_row k (s.now.trees 7)) → HasOne (λ j. j ≡ k) c.revoked
+    → HasClash s.now.trees placed_revoked [] (revoked_row k (s.now.trees 7)) → HasOne (λ j. j ≡ k) c.revoked
 unfolding first_key
 revoked_clash k s c means (i, here, on, other, there, same) =
     let it = of_record key_id_cells key_id_places (s.now.trees 7) c.revoked other means.kept.holds.revoked there in
     let text : column other 1 ≡ Text it.0 = ap (λ v. column v 0) it.2 in
-    let both = all_has (λ j. guards j revoked_at ≡ true → agree j.order j.columns other j.columns (revoked_row k (s.now.trees 7)) ≡ true
+    let both = all_has (λ j. guards j placed_revoked ≡ true → agree j.order j.columns other j.columns (revoked_row k (s.now.trees 7)) ≡ true
     → (equal Binary (column other 1) (Text k) && true) ≡ true) whole.indexes i
     ((λ e. never e refl), ((λ e. never e refl), ((λ e same. same), ((λ e. never e refl), tt)))) here on same in
     let first = and_parts (equal Binary (column other 1) (Text k)) true both in

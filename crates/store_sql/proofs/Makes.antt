@@ -6,14 +6,14 @@ use Rattle.store_sql.proofs.Words.{None, Ok, Option, Result, Schema, Some, State
 use Rattle.store_sql.proofs.Words.{WaitsAt, Writes, [], ap, append-nil, arith, automatics, before, ca, codes}
 use Rattle.store_sql.proofs.Words.{command_of, created, everything, false, fault_of, index_reals, inl, inr, is_fit}
 use Rattle.store_sql.proofs.Words.{is_formed, is_pragma, is_query, is_reserved, is_used, lacks_sequence, length}
-use Rattle.store_sql.proofs.Words.{list_all, made, mode_of, nat_lt, next_tree, not, refl, runs_as, same_name}
+use Rattle.store_sql.proofs.Words.{list_all, created_table, mode_of, nat_lt, next_tree, not, refl, runs_as, same_name}
 use Rattle.store_sql.proofs.Words.{statement_of, subst, subst₂, sym, table_defined_by, table_reals, test_has, text_of}
 use Rattle.store_sql.proofs.Words.{true, understood, value_cmp, ℕ, ◌*◌, ◌+◌, ◌^◌, ◌||◌, ◌∙◌, ◌≡◌, ◌≤◌}
 use Rattle.store_sql.specs.declared.sql.TheConstants.{CREATE_OFFICE, CREATE_DEPARTMENT, CREATE_CERT, CREATE_REQUEST}
 use Rattle.store_sql.specs.declared.sql.TheConstants.{CREATE_RUN, CREATE_REVOKED, CREATE_CA}
 use Rattle.store_sql.specs.Schema.{office, department, cert, request, run, revoked_keyid}
 use Rattle.sqlite.specs.Change.{next_tree as new_tree}
-use Rattle.store_sql.specs.Making.{text_of as sql_of}
+use Rattle.store_sql.specs.Making.{create_text as sql_of}
 use Rattle.store_sql.proofs.Commands.{closes}
 use Rattle.store_sql.proofs.Forms.{ends_nowhere, is_compiled}
 use Rattle.store_sql.proofs.Staying.{stays_done}
@@ -112,7 +112,7 @@ pub ca_defined : table_defined_by CREATE_CA.now ≡ Ok ca
 unfolding everything
 ca_defined = refl
 
-defines : (n : TableName) → table_defined_by (sql_of n) ≡ Ok (made n)
+defines : (n : TableName) → table_defined_by (sql_of n) ≡ Ok (created_table n)
 defines name.Office = office_defined
 defines name.Department = department_defined
 defines name.Cert = cert_defined
@@ -133,7 +133,7 @@ compiles name.RevokedKeyId = refl
 compiles name.Ca = refl
 
 -- no table of sequence counts is missing
-uncounted : (n : TableName) → lacks_sequence (created (before n) (made n)) ≡ false
+uncounted : (n : TableName) → lacks_sequence (created (before n) (created_table n)) ≡ false
 uncounted name.Office = refl
 uncounted name.Department = refl
 uncounted name.Cert = refl
@@ -143,7 +143,7 @@ uncounted name.RevokedKeyId = refl
 uncounted name.Ca = refl
 
 -- each of the office's tables
-pub makes : (n : TableName) → Create (sql_of n) (before n) (made n)
+pub makes : (n : TableName) → Create (sql_of n) (before n) (created_table n)
 makes n =
     let is = statement (before n) (sql_of n) CreateTable 0 refl (compiles n) in
     let text = ap (statement_of (sql_of n)) (understood_as (before n) (sql_of n) _ (compiles n)) in
@@ -176,14 +176,14 @@ pub record IsMakeable (text : List ℕ) (before : Schema) (table : Table) : Type
   pub formed : IsFormed text table
   pub small : IsSmall text before table
 
-all_of : (n : TableName) → AreFree (before n) (made n) → IsFormed (sql_of n) (made n)
-    → IsSmall (sql_of n) (before n) (made n) → IsMakeable (sql_of n) (before n) (made n)
+all_of : (n : TableName) → AreFree (before n) (created_table n) → IsFormed (sql_of n) (created_table n)
+    → IsSmall (sql_of n) (before n) (created_table n) → IsMakeable (sql_of n) (before n) (created_table n)
 all_of n free formed small =
     let is = statement (before n) (sql_of n) CreateTable 0 refl (compiles n) in
     record { create = makes n; one = is.2; free = free; formed = formed; small = small }
 
 -- each of the office's tables can be created
-pub makeable : (n : TableName) → IsMakeable (sql_of n) (before n) (made n)
+pub makeable : (n : TableName) → IsMakeable (sql_of n) (before n) (created_table n)
 unfolding everything same_name same_letters fits_kind is_free_name value_cmp begins lib.Ieee.is_nan lib.Ieee.lt is_utf8 chars lib.Utf8.encode
 makeable name.Office = all_of name.Office (refl, refl, refl) (refl, refl, refl, refl) (refl, refl, refl, refl)
 makeable name.Department = all_of name.Department (refl, refl, refl) (refl, refl, refl, refl) (refl, refl, refl, refl)

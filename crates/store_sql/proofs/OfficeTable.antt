@@ -6,7 +6,8 @@ use Rattle.store_sql.proofs.Words.{HasOffices, HasOne, Holds, INSERT_OFFICE, IfE
 use Rattle.store_sql.proofs.Words.{IsTooLong, List, Lists, NUMBER_OFFICE, Null, OfficeRow, Ok, RefusedFor, Result, Row}
 use Rattle.store_sql.proofs.Words.{Schema, Shown, State, Table, Term, Text, Trees, Update, Values, Vec, [], ap, arith}
 use Rattle.store_sql.proofs.Words.{ascending, codes, col, column, counter_cells, drop, everything, inl, inr, lit}
-use Rattle.store_sql.proofs.Words.{lt-ltb, nat_cmp, office_at, office_cells, office_places, op2, pos, refl, true, whole}
+use Rattle.store_sql.proofs.Words.{lt-ltb, nat_cmp, placed_office, office_cells, office_places, op2, pos, refl, true}
+use Rattle.store_sql.proofs.Words.{whole}
 use Rattle.store_sql.proofs.Words.{ℕ, ◌<◌, ◌^◌, ◌∷◌, ◌≡◌}
 use Rattle.store_sql.proofs.Reasons.{is_exact, IsPut, never, size, storable, unclashed}
 use Rattle.store_sql.proofs.Selects.{IsTreeOf, select, number_cmp, FindSorted, select_all}
@@ -41,7 +42,7 @@ insert_is : IsStatement INSERT_OFFICE.now (Insert 0 (Values terms 11)) 10
 unfolding everything
 insert_is = statement whole INSERT_OFFICE.now _ 10 refl refl
 
-pub puts : IsInsert INSERT_OFFICE.now office_cells office_places 0 office_at terms 11 with_office (λ c. c.offices)
+pub puts : IsInsert INSERT_OFFICE.now office_cells office_places 0 placed_office terms 11 with_office (λ c. c.offices)
     (λ x rows. office_row x)
 puts = record {
   tree = tree;
@@ -74,7 +75,7 @@ every_sql = EVERY_OFFICE.now
 
 -- a schema that begins with that table, followed by these
 abbrev beginning : Schema → List Table → Schema
-beginning s others = record s { tables = office_at ∷ others }
+beginning s others = record s { tables = placed_office ∷ others }
 
 every_is : (s : Schema) (others : List Table)
     → IsSelect (beginning s others) every_sql (on_table 0 [] columns ((col 1 0, ascending Binary) ∷ [])) names 0
@@ -148,7 +149,7 @@ module _ (k : Counters) where
       ∷ counter_cells k
 
   pub counts : IsUpdate COUNT_OFFICE.now
-      (counter_cells k) office_cells office_places 0 office_at first_test count_project
+      (counter_cells k) office_cells office_places 0 placed_office first_test count_project
       (λ c. c.offices) (with_counters k) (λ o. o.id) 1 (counted k) office_row
   counts = record {
     tree = tree;
@@ -184,7 +185,7 @@ module _ (n : ℕ) where
       ∷ column v 7 ∷ column v 8 ∷ column v 9 ∷ []
 
   pub numbers : IsUpdate NUMBER_OFFICE.now
-      (Int (pos n) ∷ []) office_cells office_places 0 office_at first_test number_project
+      (Int (pos n) ∷ []) office_cells office_places 0 placed_office first_test number_project
       (λ c. c.offices) (with_schema n) (λ o. o.id) 1 (renumbered n) office_row
   numbers = record {
     tree = tree;
@@ -205,7 +206,7 @@ module _ (n : ℕ) where
 
 -- ---- why the row of the office is refused
 
-office_put : (o : OfficeRow) → IsPut office_at (office_row o)
+office_put : (o : OfficeRow) → IsPut placed_office (office_row o)
 office_put o = record {
   listed = inl refl;
   formed = (refl, refl, refl, refl);
@@ -225,7 +226,7 @@ office_fails x below = insert_fails puts x (RefusesOffice x) (λ s. office_put x
     (λ s c means out. never (lt-ltb x.id (2 ^ 63) below) out)
     (λ s c means taken. inl (taken_number (λ y. y.id) x.id
     (drop 1 (office_row x)) (λ y r is. ap (λ v. column v 0) is) means.kept.holds.offices taken))
-    (λ s c means clash. absurd (unclashed s.now.trees office_at [] (office_row x)
+    (λ s c means clash. absurd (unclashed s.now.trees placed_office [] (office_row x)
     ((λ e. never e refl), ((λ e. never e refl), ((λ e. never e refl), ((λ e. never e refl), tt)))) clash))
     (λ s c long. inr (office_long x long)) (λ s c next means did broken. absurd (broken (refers_still means did refl refl)))
 
@@ -233,7 +234,7 @@ office_fails x below = insert_fails puts x (RefusesOffice x) (λ s. office_put x
 
 -- an update of the office's row is refused only if the new row is too long
 module _ {sql : List ℕ} {params : Row} {project : List Term} {after : Contents → Contents} {u : OfficeRow → OfficeRow}
-    (it : IsUpdate sql params office_cells office_places 0 office_at first_test project (λ c. c.offices) after
+    (it : IsUpdate sql params office_cells office_places 0 placed_office first_test project (λ c. c.offices) after
     (λ o. o.id) 1 u office_row)
     (same : (x : OfficeRow) → (u x).id ≡ x.id) where
   change_fails : {X : Type 0} (old new : State) (r : Result X Fault) → FailsBy (HasWriteCause sql params) old new r

@@ -3,7 +3,7 @@ use Rattle.store_sql.proofs.Words.{AllByRecursion, Bool, Contents, Damaged, Dele
 use Rattle.store_sql.proofs.Words.{HasCause, HasCauseOr, INSERT_RUN, Index, Keeps, List, Means, NoMemory, Ok}
 use Rattle.store_sql.proofs.Words.{RefusedFor, Result, Row, RunRow, State, Trees, Unique, [], accepts_program, all_has}
 use Rattle.store_sql.proofs.Words.{ap, arith, cases_eq, clashes, column, drop, false, guards, ids_of, inl, inr, joined}
-use Rattle.store_sql.proofs.Words.{lt-ltb, not, refl, run_at, run_cells, statement_of, subst, true, understood}
+use Rattle.store_sql.proofs.Words.{lt-ltb, not, refl, placed_run, run_cells, statement_of, subst, true, understood}
 use Rattle.store_sql.proofs.Words.{whole, with_tree, without_all, ℕ, ◌&&◌, ◌<◌, ◌==◌, ◌^◌, ◌∙◌, ◌≡◌}
 use Rattle.sqlite_rules.proofs.ListLemmas.{test_from}
 use Rattle.sqlite_rules.proofs.RuleLemmas.{keeps_at, keeps_from}
@@ -18,7 +18,7 @@ use Rattle.store_sql.proofs.RunTable as run
 
 -- ---- INSERT
 
-run_put : (r : RunRow) → IsPut run_at (run_row r)
+run_put : (r : RunRow) → IsPut placed_run (run_row r)
 unfolding joined
 run_put r = record {
   listed = inr (inr (inr (inr (inl refl))));
@@ -37,7 +37,7 @@ run_fails x below = insert_fails puts x (RefusesRun x) (λ s. run_put x)
     (λ s c means out. never (lt-ltb x.lo (2 ^ 63) below) out)
     (λ s c means taken. taken_number (λ y. y.lo) x.lo (drop 1 (run_row x))
     (λ y r is. ap (λ v. column v 0) is) means.kept.holds.runs taken)
-    (λ s c means clash. absurd (unclashed s.now.trees run_at [] (run_row x)
+    (λ s c means clash. absurd (unclashed s.now.trees placed_run [] (run_row x)
     ((λ e. never e refl), ((λ e. never e refl), ((λ e. never e refl), ((λ e. never e refl), tt)))) clash))
     (λ s c long. absurd (run_short x long))
     (λ s c next means did broken. absurd (broken (refers_still means did refl refl)))
@@ -69,11 +69,11 @@ pub deletes_runs : (ends : RunRow) (s : State) (c : Contents) → Means s.now c
     → Stops run.delete_sql (run_cells ends) (Delete 4 run.delete_program) s → ⊥
 deletes_runs ends s c means stops =
     let db = s.now.trees in
-    let kept = delete_halts s.now whole means.schema 4 run_at refl (run_cells ends)
+    let kept = delete_halts s.now whole means.schema 4 placed_run refl (run_cells ends)
     (statement_of run.delete_sql (understood whole run.delete_sql)) (no_works 6) run.delete_program
     (delete_typed ends) (λ h. elim h [ inl over ↦ over | inr fold ↦ none_overflows _ fold ]) stops.0 stops.1 in
     let ids = ids_of kept.0 in
-    removal_halts db run_at ids (inr (inr (inr (inr (inl refl)))))
+    removal_halts db placed_run ids (inr (inr (inr (inr (inl refl)))))
     (kept_apart db 6 (without_all (db 6) ids) (refl, (refl, (refl, (refl, tt)))) (means.kept.sound.obeys.rules Unique))
     (λ next did. refers_still means did refl refl) kept.2
 

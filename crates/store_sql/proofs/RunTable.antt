@@ -5,14 +5,14 @@ use Rattle.store_sql.proofs.Words.{IsPermutation-map, IsPermutation-refl, IsSort
 use Rattle.store_sql.proofs.Words.{Null, Ok, Option, Output, Program, Query, Row, RunRow, Tally, Term, Trees, Values}
 use Rattle.store_sql.proofs.Words.{[], and-true, ap, ap₂, ascending, at_places, binary, codes, col, column, edit_of}
 use Rattle.store_sql.proofs.Words.{everything, filter, id_in, ids_of, inl, inr, is_int, is_true, last_run, lit, map}
-use Rattle.store_sql.proofs.Words.{map-map, nat_cmp, nat_le, not, op2, overlay, pos, refl, rowid, run_at, run_cells}
+use Rattle.store_sql.proofs.Words.{map-map, nat_cmp, nat_le, not, op2, overlay, pos, refl, rowid, placed_run, run_cells}
 use Rattle.store_sql.proofs.Words.{run_places, statement_of, subst, sym, take, tied_itself, tied_same, true, understood}
 use Rattle.store_sql.proofs.Words.{value_cmp, value_cmp_total, whole, ℕ, ◌&&◌, ◌∙◌, ◌∷◌, ◌≡◌}
 use Rattle.store_sql.proofs.Selects.{IsTreeOf, DescendBy, falling, number_cmp, FindSorted, select_all}
 use Rattle.store_sql.proofs.FaultLemmas.{IsStatement, none_overflows}
 use Rattle.store_sql.proofs.Rows.{cast_null, cast_int, le_number, ge_number}
 use Rattle.store_sql.specs.Changes.{with_run}
-use Rattle.store_sql.specs.Runs.{begins, without_runs}
+use Rattle.store_sql.specs.Runs.{begins_between, without_runs}
 use Rattle.store_sql.specs.declared.sql.TheConstants.{EVERY_RUN, LAST_RUN, DELETE_RUNS}
 use Rattle.store_sql.proofs.Elsewhere.{run_apart, in_run}
 use Rattle.store_sql.proofs.CallLemmas.{IsSelect, Write, Find}
@@ -39,7 +39,7 @@ insert_is : IsStatement INSERT_RUN.now (Insert 4 (Values terms 3)) 2
 unfolding everything
 insert_is = statement whole INSERT_RUN.now _ 2 refl refl
 
-pub puts : IsInsert INSERT_RUN.now run_cells run_places 4 run_at terms 3 with_run (λ c. c.runs) (λ x rows. run_row x)
+pub puts : IsInsert INSERT_RUN.now run_cells run_places 4 placed_run terms 3 with_run (λ c. c.runs) (λ x rows. run_row x)
 puts = record {
   tree = tree;
   found = refl;
@@ -164,7 +164,7 @@ abbrev pub passes : RunRow → Row → Bool
 passes ends v = is_true (binary (Compare Ge Binary) (column v 0) (Int (pos ends.lo))) &&
     (is_true (binary (Compare Le Binary) (column v 0) (Int (pos ends.hi))) && true)
 
-passes_is : (ends r : RunRow) → passes ends (run_cells r) ≡ begins ends r
+passes_is : (ends r : RunRow) → passes ends (run_cells r) ≡ begins_between ends r
 passes_is ends r = ap₂ ◌&&◌ (int_ge_test (pos r.lo) (pos ends.lo) ∙ ge_number r.lo ends.lo)
     (and-true _ ∙ int_le_test (pos r.lo) (pos ends.hi) ∙ le_number r.lo ends.hi)
 
@@ -186,8 +186,8 @@ hit ends r = passes ends (at_places run_places r)
 
 left_runs : (ends : RunRow) (c : Contents) (db after : Trees) (rows : List Row) → Holds db c
     → IsAnswer delete_query (overlay db []) (run_cells ends) rows
-    → Applies whole Enforced db (edit_of db run_at (ids_of rows) Given 0 []) after
-    → Lists run_cells run_places (after 6) (filter (λ r. not (begins ends r)) c.runs)
+    → Applies whole Enforced db (edit_of db placed_run (ids_of rows) Given 0 []) after
+    → Lists run_cells run_places (after 6) (filter (λ r. not (begins_between ends r)) c.runs)
 left_runs ends c db after rows h answer did =
     let all = selected 6 tests (col 1 0 ∷ []) [] db (run_cells ends) rows refl answer in
     let ids : IsPermutation (map (λ r. id_in (rowid r)) (filter (hit ends) (db 6))) (ids_of rows) =
@@ -200,7 +200,7 @@ left_runs ends c db after rows h answer did =
     let left : after 6 ≡ filter (λ r. not (hit ends r)) (db 6) = did.rows
     ∙ left_is (hit ends) (db 6) h.runs.apart ints (ids_of rows) ids in
     record {
-      same = rw left (lists_left run_cells (λ r. not (begins ends r)) run_places (λ v. not (passes ends v))
+      same = rw left (lists_left run_cells (λ r. not (begins_between ends r)) run_places (λ v. not (passes ends v))
           (λ r. ap not (passes_is ends r)) (db 6) c.runs h.runs);
       apart = rw left (filter_table _ (db 6) h.runs.apart);
     }
@@ -209,11 +209,11 @@ delete_does : (ends : RunRow) (limit : Option ℕ) (db next : Database) (tally :
     → Does limit mode (run_cells ends) db (statement_of delete_sql (understood whole delete_sql)) None
     (Delete 4 delete_program) (Ok (tally, next)) → (next.schema ≡ whole) × Holds next.trees (without_runs ends c)
 delete_does ends limit db next tally c means h =
-    let did = deletes limit db next tally whole means.schema 4 run_at refl (run_cells ends)
+    let did = deletes limit db next tally whole means.schema 4 placed_run refl (run_cells ends)
     (statement_of delete_sql (understood whole delete_sql)) delete_program h (no_works 6) in
     let left = left_runs ends c db.trees next.trees did.0 means.kept.holds (did.1.answer Null) did.2 in (
       did.3,
-      in_run db.trees next.trees c means.kept.holds (filter (λ r. not (begins ends r)) c.runs) did.2.tables left,
+      in_run db.trees next.trees c means.kept.holds (filter (λ r. not (begins_between ends r)) c.runs) did.2.tables left,
     )
 
 pub delete : (ends : RunRow) → Write delete_sql (run_cells ends) (without_runs ends)

@@ -115,17 +115,18 @@ pub use Rattle.store_sql.specs.Calls.{Begins, Changes, Commits, Creates, FailsBy
 pub use Rattle.store_sql.specs.Calls.{IsOneOf, MayLeave, Never, OnlyReads, Rises, Stays, WaitsAt}
 pub use Rattle.store_sql.specs.Cells.{ca_cells, cert_cells, counter_cells, department_cells, key_id_cells, office_cells}
 pub use Rattle.store_sql.specs.Cells.{request_cells, run_cells}
-pub use Rattle.store_sql.specs.Changes.{has_name, signed}
+pub use Rattle.store_sql.specs.Changes.{has_name, signed_row}
 pub use Rattle.store_sql.specs.Contents.{AreNumbered, Contents, HasOffices, Holds, IsNumber, Kept, Lists, Means}
 pub use Rattle.store_sql.specs.Contents.{at_places, ca_places, cert_places, department_places, key_id_places}
 pub use Rattle.store_sql.specs.Contents.{office_places, request_places, run_places}
 pub use Rattle.store_sql.specs.Done.{IsDone, IsEachRead, IsFirstRead}
 pub use Rattle.store_sql.specs.Faults.{HasCause, HasFailed, Misread, fault_of, is_out_of_memory}
 pub use Rattle.store_sql.specs.Kinds.{blob_in, number_in, optional_blob_in, text_in}
-pub use Rattle.store_sql.specs.Making.{before, made}
+pub use Rattle.store_sql.specs.Making.{before, created_table}
 pub use Rattle.store_sql.specs.Refusals.{HasCauseOr, HasOne, IsTooLong, RefusedFor}
 pub use Rattle.store_sql.specs.Runs.{last_run}
-pub use Rattle.store_sql.specs.Schema.{ca, ca_at, cert_at, department_at, office_at, request_at, revoked_at, run_at}
+pub use Rattle.store_sql.specs.Schema.{ca, placed_ca, placed_cert, placed_department, placed_office, placed_request}
+pub use Rattle.store_sql.specs.Schema.{placed_revoked, placed_run}
 pub use Rattle.store_sql.specs.Schema.{whole}
 pub use Rattle.store_sql.specs.Statements.{Found, FoundSorted, Wrote}
 pub use Rattle.store_sql.specs.declared.cas.CaRow.{CaRow}

@@ -38,8 +38,8 @@ abbrev pub departments_named : List ℕ → Contents → List DepartmentRow
 departments_named name c = filter (has_name name) c.departments
 
 -- it is inserted, or replaces the one with its name
-abbrev pub with_department : DepartmentRow → Contents → Contents
-with_department d c = record c { departments = d ∷ filter (λ e. not (has_name d.name e)) c.departments }
+abbrev pub with_department_row : DepartmentRow → Contents → Contents
+with_department_row d c = record c { departments = d ∷ filter (λ e. not (has_name d.name e)) c.departments }
 
 -- ---- certificates
 
@@ -59,12 +59,12 @@ certs_within lo hi c = filter (is_cert_within lo hi) c.certs
 abbrev pub with_cert : CertRow → Contents → Contents
 with_cert cert c = record c { certs = cert ∷ c.certs }
 
-abbrev pub signed : List ℕ → CertRow → CertRow
-signed signature c = record c { signature = Some signature }
+abbrev pub signed_row : List ℕ → CertRow → CertRow
+signed_row signature c = record c { signature = Some signature }
 
-abbrev pub with_signature : ℕ → List ℕ → Contents → Contents
-with_signature serial signature c = record c
-    { certs = map (λ cert. cond (has_serial serial cert) (signed signature cert) cert) c.certs }
+abbrev pub with_cert_signature : ℕ → List ℕ → Contents → Contents
+with_cert_signature serial signature c = record c
+    { certs = map (λ cert. cond (has_serial serial cert) (signed_row signature cert) cert) c.certs }
 
 -- ---- requests
 
@@ -84,16 +84,16 @@ with_run r c = record c { runs = r ∷ c.runs }
 
 -- ---- revoked key IDs
 
-abbrev pub is_key_id : List ℕ → List ℕ → Bool
-is_key_id key_id k = bytes_eq k key_id
+abbrev pub is_same_key_id : List ℕ → List ℕ → Bool
+is_same_key_id key_id k = bytes_eq k key_id
 
 abbrev pub revoked_as : List ℕ → Contents → List (List ℕ)
-revoked_as key_id c = filter (is_key_id key_id) c.revoked
+revoked_as key_id c = filter (is_same_key_id key_id) c.revoked
 
 abbrev pub with_revoked : List ℕ → Contents → Contents
 with_revoked key_id c = record c { revoked = key_id ∷ c.revoked }
 
 -- ---- CAs
 
-abbrev pub with_ca : CaRow → Contents → Contents
-with_ca a c = record c { cas = a ∷ c.cas }
+abbrev pub with_ca_row : CaRow → Contents → Contents
+with_ca_row a c = record c { cas = a ∷ c.cas }

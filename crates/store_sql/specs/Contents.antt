@@ -15,7 +15,7 @@ use Rattle.store_sql.specs.declared.runs.RunRow.{RunRow}
 use Rattle.store_sql.specs.declared.cas.CaRow.{CaRow}
 use Rattle.store_sql.specs.Cells.{office_cells, department_cells, cert_cells, request_cells, run_cells, key_id_cells}
 use Rattle.store_sql.specs.Cells.{ca_cells}
-use Rattle.store_sql.specs.Schema.{office_at, whole, without_ca}
+use Rattle.store_sql.specs.Schema.{placed_office, whole, without_ca}
 
 -- the structs of all rows
 pub record Contents : Type 0 where
@@ -101,5 +101,5 @@ pub record MeansWithoutCa (db : Database) (c : Contents) : Type 0 where
 
 -- The first table is the `office` table, and it holds these rows, whatever other tables there are.
 pub record HasOffices (rows : List OfficeRow) (db : Database) : Type 0 where
-  pub first : slice_get db.schema.tables 0 ≡ Some office_at
+  pub first : slice_get db.schema.tables 0 ≡ Some placed_office
   pub holds : Lists office_cells office_places (db.trees 0) rows

@@ -3,7 +3,7 @@ use Rattle.std.specs.Prelude.{◌≡◌, refl, true, false, ℕ, Bool, ◌&&◌,
 use Rattle.std.specs.List.{list_all, list_any, zip}
 use Rattle.sqlite_schema.specs.Names.{same_name}
 use Rattle.sqlite.specs.Table.{Table}
-use Rattle.store_sql.specs.Schema.{office_at, whole, without_ca, no_schema}
+use Rattle.store_sql.specs.Schema.{placed_office, whole, without_ca, no_schema}
 
 -- whether a table has the name of one of the office's, ignoring case
 abbrev pub is_office_name : Table → Bool
@@ -31,7 +31,7 @@ abbrev pub is_ca_name : Table → Bool
 is_ca_name t = same_name t.name (codes "ca")
 
 -- an office is recognized if its table is the first
-pub first_is_office : (others : List Table) → list_any is_office_table (office_at ∷ others) ≡ true
+pub first_is_office : (others : List Table) → list_any is_office_table (placed_office ∷ others) ≡ true
 unfolding same_name
 first_is_office others = refl
 

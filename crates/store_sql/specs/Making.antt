@@ -10,14 +10,14 @@ use Rattle.store_sql.specs.Schema.{no_schema, through_office, through_department
 use Rattle.store_sql.specs.Schema.{through_run, without_ca, office, department, cert, request, run, revoked_keyid, ca}
 
 -- the table with this name, as its CREATE text defines it
-abbrev pub made : TableName → Table
-made name.Office = office
-made name.Department = department
-made name.Cert = cert
-made name.Request = request
-made name.Run = run
-made name.RevokedKeyId = revoked_keyid
-made name.Ca = ca
+abbrev pub created_table : TableName → Table
+created_table name.Office = office
+created_table name.Department = department
+created_table name.Cert = cert
+created_table name.Request = request
+created_table name.Run = run
+created_table name.RevokedKeyId = revoked_keyid
+created_table name.Ca = ca
 
 -- the schema in which it is created: that of the tables before it
 abbrev pub before : TableName → Schema
@@ -30,14 +30,14 @@ before name.RevokedKeyId = through_run
 before name.Ca = without_ca
 
 -- its CREATE text
-abbrev pub text_of : TableName → List ℕ
-text_of name.Office = CREATE_OFFICE.now
-text_of name.Department = CREATE_DEPARTMENT.now
-text_of name.Cert = CREATE_CERT.now
-text_of name.Request = CREATE_REQUEST.now
-text_of name.Run = CREATE_RUN.now
-text_of name.RevokedKeyId = CREATE_REVOKED.now
-text_of name.Ca = CREATE_CA.now
+abbrev pub create_text : TableName → List ℕ
+create_text name.Office = CREATE_OFFICE.now
+create_text name.Department = CREATE_DEPARTMENT.now
+create_text name.Cert = CREATE_CERT.now
+create_text name.Request = CREATE_REQUEST.now
+create_text name.Run = CREATE_RUN.now
+create_text name.RevokedKeyId = CREATE_REVOKED.now
+create_text name.Ca = CREATE_CA.now
 
 -- all of them, in the order in which they are created
 abbrev pub in_order : List TableName

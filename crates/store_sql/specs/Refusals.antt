@@ -14,7 +14,7 @@ use Rattle.store_sql.specs.declared.runs.RunRow.{RunRow}
 use Rattle.store_sql.specs.declared.table_fault.Fault.{Fault}
 use Rattle.store_sql.specs.declared.table_fault.Fault.TheVariants.{Device, Damaged, NoMemory}
 use Rattle.store_sql.specs.Cells.{ca_cells, cert_cells, department_cells, key_id_cells, office_cells, request_cells}
-use Rattle.store_sql.specs.Changes.{counted, renumbered, signed}
+use Rattle.store_sql.specs.Changes.{counted, renumbered, signed_row}
 use Rattle.store_sql.specs.Contents.{Contents, Means}
 use Rattle.store_sql.specs.Faults.{HasFailed}
 
@@ -52,7 +52,7 @@ RefusesCert cert c =
 -- the certificate with this serial is too long with the signature
 abbrev pub RefusesSignature : (serial : ℕ) → (signature : List ℕ) → Contents → Type 0
 RefusesSignature serial signature c =
-    HasOne (λ d. (d.serial ≡ serial) × IsTooLong (cert_cells (signed signature d))) c.certs
+    HasOne (λ d. (d.serial ≡ serial) × IsTooLong (cert_cells (signed_row signature d))) c.certs
 
 -- its caller has used its request ID, or it is too long, or there is no room for one more
 abbrev pub RefusesRequest : RequestRow → Contents → Type 0

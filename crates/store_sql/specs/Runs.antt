@@ -29,8 +29,8 @@ FindsIts of old new (Err e) = (c : Contents) → Means old.now c → Fails old n
 -- ---- the runs between two ends
 
 -- the run begins between the two ends, both included
-abbrev pub begins : RunRow → RunRow → Bool
-begins ends r = nat_le ends.lo r.lo && nat_le r.lo ends.hi
+abbrev pub begins_between : RunRow → RunRow → Bool
+begins_between ends r = nat_le ends.lo r.lo && nat_le r.lo ends.hi
 
 abbrev pub without_runs : RunRow → Contents → Contents
-without_runs ends c = record c { runs = filter (λ r. not (begins ends r)) c.runs }
+without_runs ends c = record c { runs = filter (λ r. not (begins_between ends r)) c.runs }

@@ -13,8 +13,8 @@ use Rattle.sqlite.specs.Schema.{Schema}
 use Rattle.sqlite.specs.Change.{created}
 
 -- a column of a STRICT table, which may be NULL
-abbrev pub optional : List ℕ → Kind → Column
-optional name kind = record {
+abbrev pub optional_column : List ℕ → Kind → Column
+optional_column name kind = record {
   name = name;
   kind = kind;
   is_strict = true;
@@ -25,8 +25,8 @@ optional name kind = record {
 }
 
 -- a column that is NOT NULL, or part of the primary key
-abbrev pub required : List ℕ → Kind → Column
-required name kind = record (optional name kind) { not_null = true }
+abbrev pub required_column : List ℕ → Kind → Column
+required_column name kind = record (optional_column name kind) { not_null = true }
 
 -- a STRICT table with no key
 abbrev pub keyless : List ℕ → List Column → Table
@@ -56,16 +56,16 @@ by_key name columns places = record (keyless name columns)
 
 abbrev pub office : Table
 office = by_number (codes "office") (
-    optional (codes "id") Integer ∷ required (codes "schema") Integer ∷ required (codes "ca") Blob
-    ∷ required (codes "root") Text ∷ required (codes "station") Text ∷ required (codes "first") Integer
-    ∷ required (codes "last") Integer ∷ required (codes "next") Integer
-    ∷ required (codes "version") Integer ∷ required (codes "date") Integer ∷ [])
+    optional_column (codes "id") Integer ∷ required_column (codes "schema") Integer ∷ required_column (codes "ca") Blob
+    ∷ required_column (codes "root") Text ∷ required_column (codes "station") Text ∷ required_column (codes "first") Integer
+    ∷ required_column (codes "last") Integer ∷ required_column (codes "next") Integer
+    ∷ required_column (codes "version") Integer ∷ required_column (codes "date") Integer ∷ [])
 
 abbrev pub department : Table
 department = by_key (codes "department") (
-    required (codes "name") Text ∷ required (codes "kind") Integer ∷ required (codes "admins") Text
-    ∷ required (codes "rules") Text ∷ required (codes "options") Text ∷ required (codes "extensions") Text
-    ∷ required (codes "maxlife") Integer ∷ required (codes "namespaces") Text ∷ []) (1 ∷ [])
+    required_column (codes "name") Text ∷ required_column (codes "kind") Integer ∷ required_column (codes "admins") Text
+    ∷ required_column (codes "rules") Text ∷ required_column (codes "options") Text ∷ required_column (codes "extensions") Text
+    ∷ required_column (codes "maxlife") Integer ∷ required_column (codes "namespaces") Text ∷ []) (1 ∷ [])
 
 -- REFERENCES department, on the column at this place
 abbrev pub to_department : ℕ → Reference
@@ -80,23 +80,23 @@ to_department place = record {
 
 abbrev pub cert : Table
 cert = record (by_number (codes "cert") (
-    optional (codes "serial") Integer ∷ required (codes "department") Text ∷ required (codes "keyid") Text
-    ∷ required (codes "body") Blob ∷ optional (codes "signature") Blob ∷ [])) { references = to_department 2 ∷ [] }
+    optional_column (codes "serial") Integer ∷ required_column (codes "department") Text ∷ required_column (codes "keyid") Text
+    ∷ required_column (codes "body") Blob ∷ optional_column (codes "signature") Blob ∷ [])) { references = to_department 2 ∷ [] }
 
 abbrev pub request : Table
 request = by_key (codes "request") (
-    required (codes "caller") Text ∷ required (codes "key") Text ∷ required (codes "message") Blob
-    ∷ required (codes "reply") Text ∷ []) (1 ∷ 2 ∷ [])
+    required_column (codes "caller") Text ∷ required_column (codes "key") Text ∷ required_column (codes "message") Blob
+    ∷ required_column (codes "reply") Text ∷ []) (1 ∷ 2 ∷ [])
 
 abbrev pub run : Table
-run = by_number (codes "run") (optional (codes "lo") Integer ∷ required (codes "hi") Integer ∷ [])
+run = by_number (codes "run") (optional_column (codes "lo") Integer ∷ required_column (codes "hi") Integer ∷ [])
 
 abbrev pub revoked_keyid : Table
-revoked_keyid = by_key (codes "revoked_keyid") (required (codes "keyid") Text ∷ []) (1 ∷ [])
+revoked_keyid = by_key (codes "revoked_keyid") (required_column (codes "keyid") Text ∷ []) (1 ∷ [])
 
 abbrev pub ca : Table
 ca = record (by_number (codes "ca") (
-    optional (codes "number") Integer ∷ required (codes "ca") Blob ∷ required (codes "since") Integer ∷ []))
+    optional_column (codes "number") Integer ∷ required_column (codes "ca") Blob ∷ required_column (codes "since") Integer ∷ []))
     { uniques = (2 ∷ []) ∷ []; orders = plain ∷ [] }
 
 abbrev pub no_schema : Schema
@@ -127,23 +127,23 @@ abbrev pub whole : Schema
 whole = created without_ca ca
 
 -- the tables with their trees; an index has the tree after its table's
-abbrev pub office_at : Table
-office_at = record office { tree = 0 }
+abbrev pub placed_office : Table
+placed_office = record office { tree = 0 }
 
-abbrev pub department_at : Table
-department_at = record department { tree = 1 }
+abbrev pub placed_department : Table
+placed_department = record department { tree = 1 }
 
-abbrev pub cert_at : Table
-cert_at = record cert { tree = 3 }
+abbrev pub placed_cert : Table
+placed_cert = record cert { tree = 3 }
 
-abbrev pub request_at : Table
-request_at = record request { tree = 4 }
+abbrev pub placed_request : Table
+placed_request = record request { tree = 4 }
 
-abbrev pub run_at : Table
-run_at = record run { tree = 6 }
+abbrev pub placed_run : Table
+placed_run = record run { tree = 6 }
 
-abbrev pub revoked_at : Table
-revoked_at = record revoked_keyid { tree = 7 }
+abbrev pub placed_revoked : Table
+placed_revoked = record revoked_keyid { tree = 7 }
 
-abbrev pub ca_at : Table
-ca_at = record ca { tree = 9 }
+abbrev pub placed_ca : Table
+placed_ca = record ca { tree = 9 }

@@ -24,9 +24,9 @@ pub record Wrote {X : Type 0} (after : Contents → Contents) (Causes : State �
   pub survives : Survives old new (MayLeave after old)
 
 -- for a connection, and contents that may refuse the write
-abbrev pub Writes : {S X : Type 0} → Ghosts S → (Contents → Contents) → (Contents → Type 0) → Held S → Held S
+abbrev pub WritesRows : {S X : Type 0} → Ghosts S → (Contents → Contents) → (Contents → Type 0) → Held S → Held S
     → Result X Fault → Type 0
-Writes g after Refuses old new r = Wrote after (RefusedFor Refuses) (state g old) (state g new) r
+WritesRows g after Refuses old new r = Wrote after (RefusedFor Refuses) (state g old) (state g new) r
 
 -- for a connection, and a deletion, which no contents refuse
 abbrev pub Deletes : {S X : Type 0} → Ghosts S → (Contents → Contents) → Held S → Held S → Result X Fault → Type 0

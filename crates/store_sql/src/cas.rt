@@ -3,9 +3,9 @@
 ghost use Rattle.std.specs.Prelude.{◌≡◌, ◌∷◌, []};
 ghost use Rattle.std.specs.Ordering.{nat_cmp};
 ghost use Rattle.store_sql.specs.Cells.{ca_cells};
-ghost use Rattle.store_sql.specs.Changes.{with_ca};
+ghost use Rattle.store_sql.specs.Changes.{with_ca_row};
 ghost use Rattle.store_sql.specs.Refusals.{RefusesCa};
-ghost use Rattle.store_sql.specs.Statements.{ReadsSorted, Writes};
+ghost use Rattle.store_sql.specs.Statements.{ReadsSorted, WritesRows};
 
 use crate::columns::{Columns, found};
 use crate::kind::{Kind, blob_at, is_row_of, number_at};
@@ -72,7 +72,7 @@ impl Columns for CaRow {
 
 /// Inserts a CA. `Device` also if its number or its key blob is taken, or the row is too long.
 pub fn insert_ca<S: Alter>(conn: &mut Connection<S>, ca: &CaRow) -> Result<(), Fault>
-    ensures { Writes S.Store (with_ca ca.now) (RefusesCa ca.now) conn.old conn.new result }
+    ensures { WritesRows S.Store (with_ca_row ca.now) (RefusesCa ca.now) conn.old conn.new result }
 {
     done(conn.execute(INSERT_CA, &ca.values()))
 }

@@ -4,10 +4,10 @@ ghost use Rattle.std.specs.Prelude.{◌≡◌, ◌∷◌, []};
 ghost use Rattle.std.specs.Ordering.{nat_cmp};
 ghost use Rattle.sqlite.specs.declared.types.Value.TheVariants.{Blob};
 ghost use Rattle.store_sql.specs.Cells.{cert_cells};
-ghost use Rattle.store_sql.specs.Changes.{certs_numbered, certs_within, with_cert, with_signature};
+ghost use Rattle.store_sql.specs.Changes.{certs_numbered, certs_within, with_cert, with_cert_signature};
 ghost use Rattle.store_sql.specs.Calls.{FindsOne};
 ghost use Rattle.store_sql.specs.Refusals.{RefusesCert, RefusesSignature};
-ghost use Rattle.store_sql.specs.Statements.{Reads, ReadsSorted, Writes};
+ghost use Rattle.store_sql.specs.Statements.{Reads, ReadsSorted, WritesRows};
 
 use crate::columns::{Columns, found, found_first};
 use crate::kind::{Kind, blob_at, is_row_of, number_at, optional_blob, optional_blob_at, text_at};
@@ -90,7 +90,7 @@ impl Columns for CertRow {
 
 /// Inserts a certificate. `Device` also if its serial is taken, its department is missing, or the row is too long.
 pub fn insert_cert<S: Alter>(conn: &mut Connection<S>, cert: &CertRow) -> Result<(), Fault>
-    ensures { Writes S.Store (with_cert cert.now) (RefusesCert cert.now) conn.old conn.new result }
+    ensures { WritesRows S.Store (with_cert cert.now) (RefusesCert cert.now) conn.old conn.new result }
 {
     done(conn.execute(INSERT_CERT, &cert.values()))
 }
@@ -128,7 +128,7 @@ pub fn update_signature<S: Alter>(
     serial: Number,
     signature: &[u8],
 ) -> Result<(), Fault>
-    ensures { Writes S.Store (with_signature serial signature.now) (RefusesSignature serial signature.now)
+    ensures { WritesRows S.Store (with_cert_signature serial signature.now) (RefusesSignature serial signature.now)
         conn.old conn.new result }
 {
     done(conn.execute(SIGN_CERT, &[serial.value(), ValueRef::Blob(signature)]))

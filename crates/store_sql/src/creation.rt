@@ -3,7 +3,7 @@
 ghost use Rattle.std.specs.Prelude.{◌≡◌, IfErr, Ok};
 ghost use Rattle.sqlite.specs.Compile.{table_defined_by};
 ghost use Rattle.store_sql.specs.Schema.{no_schema, without_ca, ca};
-ghost use Rattle.store_sql.specs.Making.{before, made, text_of};
+ghost use Rattle.store_sql.specs.Making.{before, created_table, create_text};
 ghost use Rattle.store_sql.specs.Faults.{IsOfStatement};
 ghost use Rattle.store_sql.specs.Calls.{AddsCa, Completes, Creates, FailsWhere, IsBare, Stays, WaitsAt};
 ghost use Rattle.store_sql.specs.Honest.{On, OutlivesBy};
@@ -30,8 +30,8 @@ enum TableName {
 impl TableName {
     /// The statement that creates the table.
     fn create(self) -> &'static str
-        ensures text { result.now ≡ text_of self }
-        ensures defines { table_defined_by result.now ≡ Ok (made self) }
+        ensures text { result.now ≡ create_text self }
+        ensures defines { table_defined_by result.now ≡ Ok (created_table self) }
     {
         match self {
             TableName::Office => CREATE_OFFICE,
@@ -47,7 +47,7 @@ impl TableName {
 
 /// Creates this table, if the tables before it exist.
 fn create<S: Alter>(conn: &mut Connection<S>, name: TableName) -> Result<(), Fault>
-    ensures creates { On S.Store (Creates (before name) (made name)) conn.old conn.new result }
+    ensures creates { On S.Store (Creates (before name) (created_table name)) conn.old conn.new result }
     ensures fault { On S.Store (FailsWhere (λ s. s.now.schema ≡ before name)) conn.old conn.new result }
     ensures undamaged { IfErr result IsOfStatement }
     ensures stays { On S.Store Stays conn.old conn.new result }

@@ -4,10 +4,10 @@ ghost use Rattle.std.specs.Prelude.{◌≡◌, ◌∷◌, []};
 ghost use Rattle.std.specs.Ordering.{nat_cmp};
 ghost use Rattle.std.specs.Cmp.Lexicographic.{slice_cmp};
 ghost use Rattle.store_sql.specs.Cells.{department_cells};
-ghost use Rattle.store_sql.specs.Changes.{departments_named, with_department};
+ghost use Rattle.store_sql.specs.Changes.{departments_named, with_department_row};
 ghost use Rattle.store_sql.specs.Calls.{FindsOne};
 ghost use Rattle.store_sql.specs.Refusals.{RefusesDepartment};
-ghost use Rattle.store_sql.specs.Statements.{Reads, ReadsSorted, Writes};
+ghost use Rattle.store_sql.specs.Statements.{Reads, ReadsSorted, WritesRows};
 
 use crate::columns::{Columns, found, found_first};
 use crate::kind::{Kind, is_row_of, number_at, text_at};
@@ -103,7 +103,7 @@ pub fn put_department<S: Alter>(
     conn: &mut Connection<S>,
     department: &DepartmentRow,
 ) -> Result<(), Fault>
-    ensures { Writes S.Store (with_department department.now) (RefusesDepartment department.now) conn.old conn.new result }
+    ensures { WritesRows S.Store (with_department_row department.now) (RefusesDepartment department.now) conn.old conn.new result }
 {
     done(conn.execute(PUT_DEPARTMENT, &department.values()))
 }

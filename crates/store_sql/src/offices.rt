@@ -7,7 +7,7 @@ ghost use Rattle.store_sql.specs.Cells.{office_cells, counter_cells};
 ghost use Rattle.store_sql.specs.Changes.{with_office, with_counters, with_schema};
 ghost use Rattle.store_sql.specs.Contents.{Contents, HasOffices, Means, MeansWithoutCa};
 ghost use Rattle.store_sql.specs.Refusals.{RefusesCounters, RefusesNumber, RefusesOffice};
-ghost use Rattle.store_sql.specs.Statements.{ReadsSortedIn, Writes};
+ghost use Rattle.store_sql.specs.Statements.{ReadsSortedIn, WritesRows};
 
 use crate::columns::{Columns, found};
 use crate::kind::{Kind, blob_at, is_row_of, number_at, text_at};
@@ -138,7 +138,7 @@ impl Columns for OfficeRow {
 
 /// Inserts the row of an office. `Device` also if its id is taken, or the row is too long.
 pub fn insert_office<S: Alter>(conn: &mut Connection<S>, office: &OfficeRow) -> Result<(), Fault>
-    ensures { Writes S.Store (with_office office.now) (RefusesOffice office.now) conn.old conn.new result }
+    ensures { WritesRows S.Store (with_office office.now) (RefusesOffice office.now) conn.old conn.new result }
 {
     done(conn.execute(INSERT_OFFICE, &office.values()))
 }
@@ -162,14 +162,14 @@ pub fn the_office_is_first()
 
 /// Updates the office's counters, in the row with id 1, if there is one. `Device` also if the row then is too long.
 pub fn update_office<S: Alter>(conn: &mut Connection<S>, counters: &Counters) -> Result<(), Fault>
-    ensures { Writes S.Store (with_counters counters.now) (RefusesCounters counters.now) conn.old conn.new result }
+    ensures { WritesRows S.Store (with_counters counters.now) (RefusesCounters counters.now) conn.old conn.new result }
 {
     done(conn.execute(COUNT_OFFICE, &counters.values()))
 }
 
 /// Sets the office's schema number, in the row with id 1, if there is one. `Device` also if the row then is too long.
 pub fn update_schema<S: Alter>(conn: &mut Connection<S>, schema: Number) -> Result<(), Fault>
-    ensures { Writes S.Store (with_schema schema) (RefusesNumber schema) conn.old conn.new result }
+    ensures { WritesRows S.Store (with_schema schema) (RefusesNumber schema) conn.old conn.new result }
 {
     done(conn.execute(NUMBER_OFFICE, &[schema.value()]))
 }

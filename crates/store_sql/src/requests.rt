@@ -5,7 +5,7 @@ ghost use Rattle.store_sql.specs.Cells.{request_cells};
 ghost use Rattle.store_sql.specs.Changes.{requests_for, with_request};
 ghost use Rattle.store_sql.specs.Calls.{FindsOne};
 ghost use Rattle.store_sql.specs.Refusals.{RefusesRequest};
-ghost use Rattle.store_sql.specs.Statements.{Reads, Writes};
+ghost use Rattle.store_sql.specs.Statements.{Reads, WritesRows};
 
 use crate::columns::{Columns, found_first};
 use crate::kind::{Kind, blob_at, is_row_of, text_at};
@@ -71,7 +71,7 @@ impl Columns for RequestRow {
 /// Inserts an accepted request. `Device` also if its caller has used its request ID before, the row is too long, or no
 /// row number is left.
 pub fn insert_request<S: Alter>(conn: &mut Connection<S>, request: &RequestRow) -> Result<(), Fault>
-    ensures { Writes S.Store (with_request request.now) (RefusesRequest request.now) conn.old conn.new result }
+    ensures { WritesRows S.Store (with_request request.now) (RefusesRequest request.now) conn.old conn.new result }
 {
     done(conn.execute(INSERT_REQUEST, &request.values()))
 }

@@ -6,7 +6,7 @@ ghost use Rattle.store_sql.specs.Cells.{key_id_cells};
 ghost use Rattle.store_sql.specs.Changes.{revoked_as, with_revoked};
 ghost use Rattle.store_sql.specs.Calls.{FindsOne};
 ghost use Rattle.store_sql.specs.Refusals.{RefusesKeyId};
-ghost use Rattle.store_sql.specs.Statements.{Reads, ReadsSorted, Writes};
+ghost use Rattle.store_sql.specs.Statements.{Reads, ReadsSorted, WritesRows};
 
 use crate::columns::{Columns, found, found_first};
 use crate::kind::{Kind, is_row_of, text_at};
@@ -40,7 +40,7 @@ impl Columns for Text {
 
 /// Inserts a revoked key ID. `Device` also if it is there already, the row is too long, or no row number is left.
 pub fn insert_revoked<S: Alter>(conn: &mut Connection<S>, key_id: &[u8]) -> Result<(), Fault>
-    ensures { Writes S.Store (with_revoked key_id.now) (RefusesKeyId key_id.now) conn.old conn.new result }
+    ensures { WritesRows S.Store (with_revoked key_id.now) (RefusesKeyId key_id.now) conn.old conn.new result }
 {
     done(conn.execute(INSERT_REVOKED, &[ValueRef::Text(key_id)]))
 }

@@ -6,7 +6,7 @@ ghost use Rattle.store_sql.specs.Cells.{run_cells};
 ghost use Rattle.store_sql.specs.Changes.{with_run};
 ghost use Rattle.store_sql.specs.Runs.{FindsIts, last_run, without_runs};
 ghost use Rattle.store_sql.specs.Refusals.{RefusesRun};
-ghost use Rattle.store_sql.specs.Statements.{Deletes, Reads, ReadsSorted, Writes};
+ghost use Rattle.store_sql.specs.Statements.{Deletes, Reads, ReadsSorted, WritesRows};
 
 use crate::columns::{Columns, found, found_first};
 use crate::kind::{Kind, is_row_of, number_at};
@@ -63,7 +63,7 @@ impl Columns for RunRow {
 
 /// Inserts a run. `Device` also if another one begins with its first serial.
 pub fn insert_run<S: Alter>(conn: &mut Connection<S>, run: &RunRow) -> Result<(), Fault>
-    ensures { Writes S.Store (with_run run.now) (RefusesRun run.now) conn.old conn.new result }
+    ensures { WritesRows S.Store (with_run run.now) (RefusesRun run.now) conn.old conn.new result }
 {
     done(conn.execute(INSERT_RUN, &run.values()))
 }

@@ -15,7 +15,7 @@ use Rattle.office.specs.declared.publication.Pending.{Pending}
 use Rattle.office.specs.declared.store_fault.StoreFault.{StoreFault}
 use Rattle.office.specs.declared.store_fault.StoreFault.TheVariants.{AlreadyAnOffice, NotAnOffice, WrongSchema, Damaged}
 use Rattle.office.specs.declared.store_fault.StoreFault.TheVariants.{Device, NoMemory}
-use Rattle.office.specs.Faults.{HasCause, IsOfARegister}
+use Rattle.office.specs.Faults.{HasRegisterCause, IsOfARegister}
 use Rattle.office.specs.History.{state}
 use Rattle.office.specs.Listing.{AreRevocations, is_named, waiting_rows}
 use Rattle.office.specs.Publication.{is_pending, issued_of, issued_row, pending_of}
@@ -197,7 +197,7 @@ known_with means old new seen rows revoked kept a stays next o l m = record {
 -- ---- a request for the pending certificates
 
 -- a fault's cause implies each weaker cause
-pub caused : (e : StoreFault) (A B : Type 0) → (A → B) → HasCause e A → HasCause e B
+pub caused : (e : StoreFault) (A B : Type 0) → (A → B) → HasRegisterCause e A → HasRegisterCause e B
 caused Device A B f a = f a
 caused NoMemory A B f a = tt
 caused AlreadyAnOffice A B f a = tt
@@ -205,13 +205,13 @@ caused NotAnOffice A B f a = tt
 caused WrongSchema A B f a = tt
 caused Damaged A B f a = tt
 
-pub cause_as : {T : Type 0} (r : Result T StoreFault) (A B : Type 0) → (A → B) → IfErr r (λ e. HasCause e A)
-    → IfErr r (λ e. HasCause e B)
+pub cause_as : {T : Type 0} (r : Result T StoreFault) (A B : Type 0) → (A → B) → IfErr r (λ e. HasRegisterCause e A)
+    → IfErr r (λ e. HasRegisterCause e B)
 cause_as (Ok x) A B f is = tt
 cause_as (Err e) A B f is = caused e A B f is
 
 -- a fault passed on by `?`
 pub raised : {X : Type 0} (r : Result X StoreFault) (e : StoreFault) (A B : Type 0) → IsErrAnd r (λ f. f ≡ e) → (A → B)
-    → HasCause e A → IfErr r (λ f. HasCause f B)
+    → HasRegisterCause e A → IfErr r (λ f. HasRegisterCause f B)
 raised (Ok x) e A B is f a = tt
-raised (Err x) e A B is f a = subst (λ (y : StoreFault). HasCause y B) (sym is) (caused e A B f a)
+raised (Err x) e A B is f a = subst (λ (y : StoreFault). HasRegisterCause y B) (sym is) (caused e A B f a)

@@ -2,7 +2,7 @@
 
 ghost use Rattle.std.specs.Prelude.{◌≡◌, ◌≤◌, [], ◌∷◌, ◌++◌, ◌&&◌, IfOk, IfErr, OnOk, is_none, length, not, take};
 ghost use Rattle.std.specs.Prelude.{if◌then◌else◌};
-ghost use Rattle.office.specs.Faults.{HasCause};
+ghost use Rattle.office.specs.Faults.{HasRegisterCause};
 ghost use Rattle.office.specs.History.{state};
 ghost use Rattle.office.specs.Listing.{AreRevocations, is_named, waiting_rows};
 ghost use Rattle.office.specs.Publication.{pending_of};
@@ -32,7 +32,7 @@ fn waits_still<R: Registry>(
     ensures preserves { Preserves R.is_honest R.is_open R.is_as_before R.means register.old register.new }
     ensures row { R.is_honest register.new → AnswersBy R.means register.old result (λ o l is.
         AreRevocations revocations.now (state o l) → is ≡ serial_waits (state o l) serial) }
-    ensures cause { IfErr result (λ e. HasCause e (R.fails register.old register.new)) }
+    ensures cause { IfErr result (λ e. HasRegisterCause e (R.fails register.old register.new)) }
     ensures only { R.is_honest register.new → FailsAsARegister R.means register.old result }
 {
     match register.certificate(alloc, serial)? {
@@ -63,7 +63,7 @@ fn push_waiting<R: Registry>(
     ensures row { R.is_honest register.new → AnswersBy R.means register.old result (λ o l _.
         AreRevocations revocations.now (state o l) → rows.new.items ≡ rows.old.items
         ++ (if serial_waits (state o l) row.now.serial then row.now ∷ [] else [])) }
-    ensures cause { IfErr result (λ e. HasCause e (R.fails register.old register.new)) }
+    ensures cause { IfErr result (λ e. HasRegisterCause e (R.fails register.old register.new)) }
     ensures only { R.is_honest register.new → FailsAsARegister R.means register.old result }
 {
     let waits = waits_still(register, alloc, revocations, row.serial)?;
@@ -82,7 +82,7 @@ fn still_waiting<R: Registry>(
     ensures row { R.is_honest register.new → AnswersBy R.means register.old result (λ o l kept.
         AreRevocations revocations.now (state o l) → kept.items ≡ still_waiting (state o l) rows.now) }
     ensures cause { R.is_honest register.new
-        → IfErr result (λ e. HasCause e (FailsWithin R.means R.fails register.old register.new)) }
+        → IfErr result (λ e. HasRegisterCause e (FailsWithin R.means R.fails register.old register.new)) }
     ensures only { R.is_honest register.new → FailsAsARegister R.means register.old result }
 {
     let mut kept = Vec::new(alloc);
@@ -107,7 +107,7 @@ fn learned<R: Registry>(
         → (all.seen ≡ length (state o l).certificates)
         × (all.rows.items ≡ waiting_rows revocations.now (state o l).certificates)) }
     ensures cause { R.is_honest register.new
-        → IfErr result (λ e. HasCause e (FailsWithin R.means R.fails register.old register.new)) }
+        → IfErr result (λ e. HasRegisterCause e (FailsWithin R.means R.fails register.old register.new)) }
     ensures only { R.is_honest register.new → FailsAsARegister R.means register.old result }
 {
     let mut rows = known.rows;
@@ -132,7 +132,7 @@ fn revocations_by<R: Registry>(
     ensures preserves { Preserves R.is_honest R.is_open R.is_as_before R.means register.old register.new }
     ensures row { R.is_honest register.new → AnswersBy R.means register.old result (λ o l r.
         IsKept kept (state o l) → AreRevocations r (state o l)) }
-    ensures cause { IfErr result (λ e. HasCause e (R.fails register.old register.new)) }
+    ensures cause { IfErr result (λ e. HasRegisterCause e (R.fails register.old register.new)) }
     ensures only { R.is_honest register.new → FailsAsARegister R.means register.old result }
 {
     match kept {
@@ -156,7 +156,7 @@ pub(crate) fn asked<R: Registry>(
         → Knows all.0.seen all.0.rows.items (state o l) × (all.0.rows.items ≡ pending_of (state o l))
         × AreRevocations all.1 (state o l)) }
     ensures cause { R.is_honest register.new
-        → IfErr result (λ e. HasCause e (FailsWithin R.means R.fails register.old register.new)) }
+        → IfErr result (λ e. HasRegisterCause e (FailsWithin R.means R.fails register.old register.new)) }
     ensures only { R.is_honest register.new → FailsAsARegister R.means register.old result }
 {
     let revocations = revocations_by(register, alloc, kept)?;

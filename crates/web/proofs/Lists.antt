@@ -9,7 +9,7 @@ use Rattle.office.specs.declared.arrival.Arrival.{Arrival}
 use Rattle.office.specs.declared.ca.Ca.{Ca}
 use Rattle.office.specs.declared.store_fault.StoreFault.{StoreFault}
 use Rattle.office.specs.declared.publication.Revoked.{Revoked}
-use Rattle.office.specs.Faults.{HasCause, IsOfARegister}
+use Rattle.office.specs.Faults.{HasRegisterCause, IsOfARegister}
 use Rattle.office.specs.declared.certificate.Certificate.{Certificate}
 use Rattle.office.specs.State.{State, has_any, is_range_revoked, is_key_id_revoked}
 use Rattle.office.specs.Refusals.{refusals}
@@ -72,10 +72,10 @@ list_only (Err e) count means h few = λ o l m. elim h [
 ]
 
 -- and one that it may return even if the database hasn't failed
-pub list_cause : {T : Type 0} (r : Result T StoreFault) (count : ℕ) (failed : Type 0) → IfErr r (IsOfAList count) → IfErr r (λ e. HasCause e failed)
+pub list_cause : {T : Type 0} (r : Result T StoreFault) (count : ℕ) (failed : Type 0) → IfErr r (IsOfAList count) → IfErr r (λ e. HasRegisterCause e failed)
 list_cause (Ok x) count failed h = tt
 list_cause (Err e) count failed h =
-    let P : StoreFault → Type 0 = λ f. HasCause f failed in elim h [
+    let P : StoreFault → Type 0 = λ f. HasRegisterCause f failed in elim h [
       | inl same ↦ subst P (sym same) tt
       | inr many ↦ subst P (sym many.0) tt
     ]

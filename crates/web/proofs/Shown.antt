@@ -9,7 +9,7 @@ use Rattle.office.specs.declared.arrival.Arrival.{Arrival}
 use Rattle.office.specs.declared.store_fault.StoreFault.{StoreFault}
 use Rattle.office.specs.declared.store_fault.StoreFault.TheVariants.{AlreadyAnOffice, NotAnOffice, WrongSchema, Damaged}
 use Rattle.office.specs.declared.store_fault.StoreFault.TheVariants.{Device, NoMemory}
-use Rattle.office.specs.Faults.{HasCause, IsOfARegister}
+use Rattle.office.specs.Faults.{HasRegisterCause, IsOfARegister}
 use Rattle.office.specs.Registers.{FailsWithin}
 use Rattle.web.specs.Answers.{AsksNoChange, IsNoMessage}
 
@@ -39,12 +39,12 @@ memory_only (Ok x) means is = tt
 memory_only (Err e) means is = λ o l m. subst IsOfARegister (sym is) tt
 
 pub memory_cause : {T : Type 0} (r : Result T StoreFault) (failed : Type 0) → IfErr r (λ e. e ≡ NoMemory)
-    → IfErr r (λ e. HasCause e failed)
+    → IfErr r (λ e. HasRegisterCause e failed)
 memory_cause (Ok x) failed is = tt
-memory_cause (Err e) failed is = subst (λ (f : StoreFault). HasCause f failed) (sym is) tt
+memory_cause (Err e) failed is = subst (λ (f : StoreFault). HasRegisterCause f failed) (sym is) tt
 
 -- the cause of a fault may be replaced by one that it implies
-caused : (e : StoreFault) (A B : Type 0) → (A → B) → HasCause e A → HasCause e B
+caused : (e : StoreFault) (A B : Type 0) → (A → B) → HasRegisterCause e A → HasRegisterCause e B
 caused Device A B f a = f a
 caused NoMemory A B f a = tt
 caused AlreadyAnOffice A B f a = tt
@@ -52,15 +52,15 @@ caused NotAnOffice A B f a = tt
 caused WrongSchema A B f a = tt
 caused Damaged A B f a = tt
 
-pub cause_as : {T : Type 0} (r : Result T StoreFault) (A B : Type 0) → (A → B) → IfErr r (λ e. HasCause e A)
-    → IfErr r (λ e. HasCause e B)
+pub cause_as : {T : Type 0} (r : Result T StoreFault) (A B : Type 0) → (A → B) → IfErr r (λ e. HasRegisterCause e A)
+    → IfErr r (λ e. HasRegisterCause e B)
 cause_as (Ok x) A B f is = tt
 cause_as (Err e) A B f is = caused e A B f is
 
 -- and by a failure within a register that still meant the same histories
 pub cause_within : {T S : Type 0} (means : S → Opening → List Arrival → Type 0) (fails : S → S → Type 0) (old new : S)
-    (r : Result T StoreFault) → IfErr r (λ e. HasCause e (fails old new))
-    → IfErr r (λ e. HasCause e (FailsWithin means fails old new))
+    (r : Result T StoreFault) → IfErr r (λ e. HasRegisterCause e (fails old new))
+    → IfErr r (λ e. HasRegisterCause e (FailsWithin means fails old new))
 cause_within means fails old new r is =
     cause_as r (fails old new) (FailsWithin means fails old new) (λ f. record {
       before = old;

@@ -3,13 +3,13 @@ use Rattle.std.proofs.Common.{◌≡◌, sym, ◌∙◌}
 use Rattle.std.specs.Prelude.{Result, Ok, Err, IsErrAnd}
 use Rattle.office.specs.declared.store_fault.StoreFault.{StoreFault}
 use Rattle.office.specs.declared.store_fault.StoreFault.TheVariants.{AlreadyAnOffice, NotAnOffice, WrongSchema, Damaged, Device, NoMemory}
-use Rattle.office.specs.Faults.{HasCause, IsOfARegister}
+use Rattle.office.specs.Faults.{HasRegisterCause, IsOfARegister}
 use Rattle.web.specs.declared.serve_fault.ServeFault.{ServeFault}
 use Rattle.web.specs.declared.serve_fault.ServeFault.TheVariants.{Store}
-use Rattle.web.specs.Faults.{fault_of}
+use Rattle.web.specs.Faults.{serving_fault}
 
 -- for a register that means a history, only a fault with a cause is reported as `Store`
-cause_of : (e : StoreFault) (stopped : Type 0) → fault_of e ≡ Store → IsOfARegister e → HasCause e stopped → stopped
+cause_of : (e : StoreFault) (stopped : Type 0) → serving_fault e ≡ Store → IsOfARegister e → HasRegisterCause e stopped → stopped
 cause_of Device stopped same only cause = cause
 cause_of NoMemory stopped same only cause = absurd (cc)
 cause_of AlreadyAnOffice stopped same only cause = absurd only
@@ -18,8 +18,8 @@ cause_of WrongSchema stopped same only cause = absurd only
 cause_of Damaged stopped same only cause = absurd only
 
 -- a result that reports `Store` has that cause
-pub cause_of_store : {T : Type 0} (told : Result T ServeFault) (e : StoreFault) (stopped : Type 0) → IsErrAnd told (λ f. f ≡ fault_of e)
-    → told ≡ Err Store → IsOfARegister e → HasCause e stopped → stopped
+pub cause_of_store : {T : Type 0} (told : Result T ServeFault) (e : StoreFault) (stopped : Type 0) → IsErrAnd told (λ f. f ≡ serving_fault e)
+    → told ≡ Err Store → IsOfARegister e → HasRegisterCause e stopped → stopped
 cause_of_store (Ok x) e stopped gives same only cause = absurd (cc)
 cause_of_store (Err f) e stopped gives same only cause =
     let of_store : f ≡ Store = cc in cause_of e stopped (sym gives ∙ of_store) only cause

@@ -109,7 +109,7 @@ Keeps means is_open s o l = means s o l × is_open s
 -- The response is the one specified for what the request asks, and the list is returned only if it may be. The register
 -- then means the history followed by the request's arrival, if it has one. If the ask needed the register, it preserves
 -- that history.
-pub record Answers (o : Opening) (l : List Arrival) (request : List ℕ) (moment : ℕ) (nonce response : List ℕ)
+pub record AnswersAsk (o : Opening) (l : List Arrival) (request : List ℕ) (moment : ℕ) (nonce response : List ℕ)
     (means keeps : List Arrival → Type 0) : Type 0 where
   pub ask : Ask
   pub asks : Asks request ask
@@ -122,4 +122,4 @@ pub record Answers (o : Opening) (l : List Arrival) (request : List ℕ) (moment
 abbrev pub IsAnswered : (before after keeps : Opening → List Arrival → Type 0) → (request : List ℕ) → ℕ
     → (nonce response : List ℕ) → Type 0
 IsAnswered before after keeps request moment nonce response = (o : Opening) (l : List Arrival) → before o l
-    → Answers o l request moment nonce response (after o) (keeps o)
+    → AnswersAsk o l request moment nonce response (after o) (keeps o)

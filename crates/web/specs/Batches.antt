@@ -3,7 +3,7 @@ use Rattle.std.specs.Prelude.{◌≡◌, ◌+◌, ◌++◌, List, length, ℕ, B
 use Rattle.std.specs.List.{flat_map}
 use Rattle.office.specs.declared.certificate.Certificate.{Certificate}
 use Rattle.office.specs.declared.listing.Revocations.{Revocations}
-use Rattle.office.specs.Listing.{is_among}
+use Rattle.office.specs.Listing.{is_certificate_among}
 use Rattle.office.specs.Publication.{entry_as, standing_as}
 use Rattle.web.specs.Reports.{entry_line, total_line}
 
@@ -13,7 +13,7 @@ line_as is_revoked c = entry_line (entry_as (standing_as is_revoked c) c)
 
 -- the line of a certificate, given the revocations
 abbrev pub line_among : Revocations → Certificate → List ℕ
-line_among revocations c = line_as (is_among revocations c) c
+line_among revocations c = line_as (is_certificate_among revocations c) c
 
 -- the table of these certificates
 abbrev pub table_among : Revocations → List Certificate → (version : ℕ) → List ℕ

@@ -6,13 +6,13 @@ use Rattle.web.specs.declared.serve_fault.ServeFault.{ServeFault}
 use Rattle.web.specs.declared.serve_fault.ServeFault.TheVariants.{Read, Nonces, Store, NoMemory, Write}
 
 -- the fault of serving for a fault of the register
-abbrev pub fault_of : StoreFault → ServeFault
-fault_of store.NoMemory = NoMemory
-fault_of store.AlreadyAnOffice = Store
-fault_of store.NotAnOffice = Store
-fault_of store.WrongSchema = Store
-fault_of store.Damaged = Store
-fault_of store.Device = Store
+abbrev pub serving_fault : StoreFault → ServeFault
+serving_fault store.NoMemory = NoMemory
+serving_fault store.AlreadyAnOffice = Store
+serving_fault store.NotAnOffice = Store
+serving_fault store.WrongSchema = Store
+serving_fault store.Damaged = Store
+serving_fault store.Device = Store
 
 -- a reader failed
 abbrev pub is_read : {A : Type 0} → Result A ServeFault → Bool

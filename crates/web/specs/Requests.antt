@@ -25,7 +25,7 @@ abbrev pub IsFilled : (left : Option (List ℕ)) → List ℕ → ℕ → Type 0
 IsFilled left bytes size = (length bytes ≡ size) ⊎ ((length bytes < size) × IsAtEnd left)
 
 -- a head that isn't refused at once, and as much of the body that it announces as there is
-pub record IsWhole (left : Option (List ℕ)) (bytes : List ℕ) : Type 0 where
+pub record IsWholeRequest (left : Option (List ℕ)) (bytes : List ℕ) : Type 0 where
   pub head : RequestHead
   pub body : List ℕ
   pub good : IsGood bytes head body
@@ -34,13 +34,13 @@ pub record IsWhole (left : Option (List ℕ)) (bytes : List ℕ) : Type 0 where
   pub filled : IsFilled left body size
 
 -- no such head, and no more bytes than it takes to see that
-pub record IsRefused (left : Option (List ℕ)) (bytes : List ℕ) : Type 0 where
+pub record IsRefusedRequest (left : Option (List ℕ)) (bytes : List ℕ) : Type 0 where
   pub none : (h : RequestHead) (rest : List ℕ) → ¬ (IsGood bytes h rest)
   pub front : IsFront left bytes
 
 -- the bytes of exactly one request; `left` are those after it
 abbrev pub IsOneRequest : (left : Option (List ℕ)) → List ℕ → Type 0
-IsOneRequest left bytes = IsWhole left bytes ⊎ IsRefused left bytes
+IsOneRequest left bytes = IsWholeRequest left bytes ⊎ IsRefusedRequest left bytes
 
 -- the ask of a request
 abbrev pub request_ask : Request → Ask

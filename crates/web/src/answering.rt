@@ -5,7 +5,7 @@ ghost use Rattle.http_requests.specs.declared.response.MediaType.TheVariants.{Pl
 ghost use Rattle.http_requests.specs.Responses.{response_text};
 ghost use Rattle.office.specs.declared.arrival.Arrival.{Arrival};
 ghost use Rattle.office.specs.History.{due};
-ghost use Rattle.office.specs.Faults.{HasCause};
+ghost use Rattle.office.specs.Faults.{HasRegisterCause};
 ghost use Rattle.office.specs.Laws.{ReplyFits};
 ghost use Rattle.office.specs.Registers.{AnswersBy, FailsAsARegister, FailuresPersist, MeansOneMore, MeansTheSame};
 ghost use Rattle.web.specs.Answers.{outcome_response};
@@ -61,7 +61,7 @@ pub(crate) fn to_arrival<R: Registry>(
     ensures fault { R.is_honest registry.new → OnErr result (MeansTheSame R.means registry.old registry.new) }
     ensures before { R.is_honest registry.new → R.is_open registry.new
         → IfErr result (λ e. e ≢ StoreFault.Damaged → R.is_as_before registry.old registry.new) }
-    ensures cause { IfErr result (λ e. HasCause e (R.stops registry.old registry.new arrival)) }
+    ensures cause { IfErr result (λ e. HasRegisterCause e (R.stops registry.old registry.new arrival)) }
     ensures only { R.is_honest registry.new → FailsAsARegister R.means registry.old result }
 {
     let room = room(alloc, ROOM)?;

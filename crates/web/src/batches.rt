@@ -4,7 +4,7 @@ ghost use Rattle.std.specs.Prelude.{◌≡◌, ◌≤◌, ◌++◌, IfOk, OnOk, 
 ghost use Rattle.std.specs.List.{flat_map};
 ghost use Rattle.office.specs.Listing.{batch_of};
 ghost use Rattle.office.specs.History.{state};
-ghost use Rattle.office.specs.Faults.{HasCause};
+ghost use Rattle.office.specs.Faults.{HasRegisterCause};
 ghost use Rattle.office.specs.Registers.{AnswersBy, FailsAsARegister, FailsWithin, Preserves};
 ghost use Rattle.web.specs.Batches.{Says, line_among, line_as};
 
@@ -52,7 +52,7 @@ fn put_batch<R: Registry>(
     ensures stays_open { R.is_honest registry.new → OnOk result (R.is_open registry.new) }
     ensures row { R.is_honest registry.new → AnswersBy R.means registry.old result (λ o l next.
         Says revocations.now (batch_of (state o l) place) place next out.old.items out.new.items) }
-    ensures cause { IfErr result (λ e. HasCause e (R.fails registry.old registry.new)) }
+    ensures cause { IfErr result (λ e. HasRegisterCause e (R.fails registry.old registry.new)) }
     ensures only { R.is_honest registry.new → FailsAsARegister R.means registry.old result }
 {
     let batch = registry.certificates(alloc, place)?;
@@ -72,7 +72,7 @@ pub(crate) fn put_all<R: Registry>(
     ensures row { R.is_honest registry.new → AnswersBy R.means registry.old result (λ o l count.
         Says revocations.now (state o l).certificates 0 count out.old.items out.new.items) }
     ensures cause { R.is_honest registry.new
-        → IfErr result (λ e. HasCause e (FailsWithin R.means R.fails registry.old registry.new)) }
+        → IfErr result (λ e. HasRegisterCause e (FailsWithin R.means R.fails registry.old registry.new)) }
     ensures only { R.is_honest registry.new → FailsAsARegister R.means registry.old result }
 {
     let mut place = 0;

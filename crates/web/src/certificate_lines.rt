@@ -6,7 +6,7 @@ ghost use Rattle.http_requests.specs.Responses.{response_text};
 ghost use Rattle.office.specs.State.{body_of};
 ghost use Rattle.office.specs.Publication.{issued_of};
 ghost use Rattle.office.specs.History.{state};
-ghost use Rattle.office.specs.Faults.{HasCause};
+ghost use Rattle.office.specs.Faults.{HasRegisterCause};
 ghost use Rattle.office.specs.Registers.{AnswersBy, FailsAsARegister, FailsWithin, Preserves};
 ghost use Rattle.web.specs.Answers.{body_response, certificate_response, issued_response};
 ghost use Rattle.web.specs.Reports.{pending_line, pending_lines, pending_report};
@@ -30,7 +30,7 @@ pub(crate) fn to_serial_body<R: Registry>(
     ensures stays_open { R.is_honest registry.new → OnOk result (R.is_open registry.new) }
     ensures row { R.is_honest registry.new → AnswersBy R.means registry.old result
         (λ o l v. v.items ≡ body_response (body_of (state o l) serial)) }
-    ensures cause { IfErr result (λ e. HasCause e (R.fails registry.old registry.new)) }
+    ensures cause { IfErr result (λ e. HasRegisterCause e (R.fails registry.old registry.new)) }
     ensures only { R.is_honest registry.new → FailsAsARegister R.means registry.old result }
 {
     match registry.body(alloc, serial)? {
@@ -64,7 +64,7 @@ pub(crate) fn to_certificate<R: Registry>(
     ensures stays_open { R.is_honest registry.new → OnOk result (R.is_open registry.new) }
     ensures row { R.is_honest registry.new → AnswersBy R.means registry.old result
         (λ o l v. v.items ≡ certificate_response (issued_of (state o l) serial)) }
-    ensures cause { IfErr result (λ e. HasCause e (R.fails registry.old registry.new)) }
+    ensures cause { IfErr result (λ e. HasRegisterCause e (R.fails registry.old registry.new)) }
     ensures only { R.is_honest registry.new → FailsAsARegister R.means registry.old result }
 {
     match registry.certificate(alloc, serial)? {
@@ -101,7 +101,7 @@ pub(crate) fn to_pending<R: Registry>(
     ensures row { R.is_honest registry.new → AnswersBy R.means registry.old result
         (λ o l v. v.items ≡ response_text 200 PlainText (pending_report (state o l))) }
     ensures cause { R.is_honest registry.new → IfErr result
-        (λ e. HasCause e (FailsWithin R.means R.fails registry.old registry.new)) }
+        (λ e. HasRegisterCause e (FailsWithin R.means R.fails registry.old registry.new)) }
     ensures only { R.is_honest registry.new → FailsAsARegister R.means registry.old result }
 {
     let rows = registry.pending(alloc)?;

@@ -6,7 +6,7 @@ ghost use Rattle.http_requests.specs.declared.response.MediaType.TheVariants.{Pl
 ghost use Rattle.http_requests.specs.Responses.{response_text};
 ghost use Rattle.office.specs.Publication.{published_list};
 ghost use Rattle.office.specs.History.{state};
-ghost use Rattle.office.specs.Faults.{HasCause};
+ghost use Rattle.office.specs.Faults.{HasRegisterCause};
 ghost use Rattle.office.specs.Registers.{AnswersBy, FailsAsARegister, FailsWithin, Preserves, WhereMeant};
 ghost use Rattle.lines.specs.Digests.{fingerprint_text};
 ghost use Rattle.lines.specs.Signers.{signers_text};
@@ -60,7 +60,7 @@ pub(crate) fn to_list<R: Registry>(registry: &mut R, alloc: Global) -> Result<Ve
         (λ o l v. v.items ≡ response_text 200 Bytes (published_list (state o l))) }
     ensures fits { R.is_honest registry.new → OnOk result
         (WhereMeant R.means registry.old (λ o l. ListFits (state o l))) }
-    ensures cause { IfErr result (λ e. HasCause e (R.fails registry.old registry.new)) }
+    ensures cause { IfErr result (λ e. HasRegisterCause e (R.fails registry.old registry.new)) }
     ensures only { R.is_honest registry.new → FailsAsARegister R.means registry.old result }
 {
     let revoked = registry.revoked(alloc)?;
@@ -152,7 +152,7 @@ pub(crate) fn to_signers<R: Registry>(
     ensures row { R.is_honest registry.new → AnswersBy R.means registry.old result
         (λ o l v. v.items ≡ response_text 200 PlainText (signers_report (state o l))) }
     ensures cause { R.is_honest registry.new → IfErr result
-        (λ e. HasCause e (FailsWithin R.means R.fails registry.old registry.new)) }
+        (λ e. HasRegisterCause e (FailsWithin R.means R.fails registry.old registry.new)) }
     ensures only { R.is_honest registry.new → FailsAsARegister R.means registry.old result }
 {
     let departments = registry.departments(alloc)?;
@@ -196,7 +196,7 @@ pub(crate) fn to_cas<R: Registry>(registry: &mut R, alloc: Global) -> Result<Vec
     ensures stays_open { R.is_honest registry.new → OnOk result (R.is_open registry.new) }
     ensures row { R.is_honest registry.new → AnswersBy R.means registry.old result
         (λ o l v. v.items ≡ response_text 200 PlainText (ca_report (state o l))) }
-    ensures cause { IfErr result (λ e. HasCause e (R.fails registry.old registry.new)) }
+    ensures cause { IfErr result (λ e. HasRegisterCause e (R.fails registry.old registry.new)) }
     ensures only { R.is_honest registry.new → FailsAsARegister R.means registry.old result }
 {
     let cas = registry.cas(alloc)?;

@@ -4,7 +4,7 @@ ghost use Rattle.std.specs.Prelude.{◌≡◌, ◌++◌, OnOk, IfErr};
 ghost use Rattle.http_requests.specs.declared.response.MediaType.TheVariants.{PlainText};
 ghost use Rattle.http_requests.specs.Responses.{response_text};
 ghost use Rattle.office.specs.History.{state};
-ghost use Rattle.office.specs.Faults.{HasCause};
+ghost use Rattle.office.specs.Faults.{HasRegisterCause};
 ghost use Rattle.office.specs.Registers.{AnswersBy, FailsAsARegister, FailsWithin, Preserves};
 ghost use Rattle.message.specs.Texts.{kind_text};
 ghost use Rattle.web.specs.Reports.{entry_line, gap, moment_places, serial_places, standing_word, table_report, total_line};
@@ -89,7 +89,7 @@ fn table_beside<R: Registry>(
     ensures row { R.is_honest registry.new → AnswersBy R.means registry.old result
         (λ o l v. v.items ≡ table_among revocations.now (state o l).certificates version) }
     ensures cause { R.is_honest registry.new
-        → IfErr result (λ e. HasCause e (FailsWithin R.means R.fails registry.old registry.new)) }
+        → IfErr result (λ e. HasRegisterCause e (FailsWithin R.means R.fails registry.old registry.new)) }
     ensures only { R.is_honest registry.new → FailsAsARegister R.means registry.old result }
 {
     let mut report = Vec::new(alloc);
@@ -105,7 +105,7 @@ pub(crate) fn to_table<R: Registry>(registry: &mut R, alloc: Global) -> Result<V
     ensures row { R.is_honest registry.new → AnswersBy R.means registry.old result
         (λ o l v. v.items ≡ response_text 200 PlainText (table_report (state o l))) }
     ensures cause { R.is_honest registry.new → IfErr result
-        (λ e. HasCause e (FailsWithin R.means R.fails registry.old registry.new)) }
+        (λ e. HasRegisterCause e (FailsWithin R.means R.fails registry.old registry.new)) }
     ensures only { R.is_honest registry.new → FailsAsARegister R.means registry.old result }
 {
     let version = registry.revoked(alloc)?.head.version;

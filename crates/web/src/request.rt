@@ -4,7 +4,7 @@ ghost use Rattle.std.specs.Prelude.{◌≡◌, ◌≢◌, ℕ, List, IfOk, OnOk,
 ghost use Rattle.http_requests.specs.declared.resource.Resource.TheVariants.{RevocationList};
 ghost use Rattle.http_requests.specs.Asked.{ask_of};
 ghost use Rattle.http_requests.specs.Asks.{Asks};
-ghost use Rattle.office.specs.Faults.{HasCause};
+ghost use Rattle.office.specs.Faults.{HasRegisterCause};
 ghost use Rattle.office.specs.History.{state};
 ghost use Rattle.office.specs.Registers.{AnswersBy, FailsAsARegister, FailsWithin, FailuresPersist, MeansTheSame};
 ghost use Rattle.office.specs.Registers.{Preserves, WhereMeant};
@@ -72,7 +72,7 @@ fn to_resource<R: Registry>(
     ensures fits { R.is_honest registry.new → resource ≡ RevocationList
         → OnOk result (WhereMeant R.means registry.old (λ o l. ListFits (state o l))) }
     ensures cause { R.is_honest registry.new → IfErr result
-        (λ e. HasCause e (FailsWithin R.means R.fails registry.old registry.new)) }
+        (λ e. HasRegisterCause e (FailsWithin R.means R.fails registry.old registry.new)) }
     ensures only { R.is_honest registry.new → FailsAsARegister R.means registry.old result }
 {
     match resource {
@@ -105,7 +105,7 @@ pub(crate) fn answer_request<R: Registry>(
     ensures reads { R.is_honest registry.new → R.is_open registry.new → IsNoMessage (request_ask request)
         → R.is_as_before registry.old registry.new }
     ensures cause { R.is_honest registry.new → (bytes : List ℕ) → Asks bytes (request_ask request) → IfErr result
-        (λ e. HasCause e (StopsAt R.means R.fails R.stops bytes moment nonce.now registry.old registry.new)) }
+        (λ e. HasRegisterCause e (StopsAt R.means R.fails R.stops bytes moment nonce.now registry.old registry.new)) }
     ensures only { R.is_honest registry.new → FailsAsARegister R.means registry.old result }
 {
     match request {
@@ -147,7 +147,7 @@ pub fn answer_by<R: Registry>(
     ensures reads { R.is_honest registry.new → R.is_open registry.new → AsksNoChange request.now
         → R.is_as_before registry.old registry.new }
     ensures cause { R.is_honest registry.new → IfErr result
-        (λ e. HasCause e (StopsAt R.means R.fails R.stops request.now moment nonce.now registry.old registry.new)) }
+        (λ e. HasRegisterCause e (StopsAt R.means R.fails R.stops request.now moment nonce.now registry.old registry.new)) }
     ensures only { R.is_honest registry.new → FailsAsARegister R.means registry.old result }
 {
     let request = Request::of(alloc, asks(routes, request))?;
@@ -185,7 +185,7 @@ pub fn answer<R: Registry>(
     ensures reads { R.is_honest registry.new → R.is_open registry.new → AsksNoChange request.now
         → R.is_as_before registry.old registry.new }
     ensures cause { R.is_honest registry.new → IfErr result
-        (λ e. HasCause e (StopsAt R.means R.fails R.stops request.now moment nonce.now registry.old registry.new)) }
+        (λ e. HasRegisterCause e (StopsAt R.means R.fails R.stops request.now moment nonce.now registry.old registry.new)) }
     ensures only { R.is_honest registry.new → FailsAsARegister R.means registry.old result }
 {
     let routes = Routes::new(alloc)?;

@@ -2,7 +2,7 @@
 
 ghost use Rattle.std.specs.Prelude.{◌≡◌};
 ghost use Rattle.web.specs.declared.serve_fault.ServeFault.TheVariants.{NoMemory};
-ghost use Rattle.web.specs.Faults.{fault_of};
+ghost use Rattle.web.specs.Faults.{serving_fault};
 
 use office::StoreFault;
 
@@ -30,7 +30,7 @@ impl From<text::NoMemory> for ServeFault {
 }
 
 impl From<StoreFault> for ServeFault {
-    ghost from_gives = { λ fault e. e ≡ fault_of fault };
+    ghost from_gives = { λ fault e. e ≡ serving_fault fault };
 
     fn from(fault: StoreFault) -> ServeFault {
         match fault {

@@ -1,7 +1,7 @@
 //! CA 1, from the office's row.
 
 ghost use Rattle.std.specs.Prelude.{◌≡◌, IfOk};
-ghost use Rattle.store.specs.Former.{ca_of, first_ca};
+ghost use Rattle.store.specs.Former.{ca_of, first_ca_row};
 ghost use Rattle.store.specs.Migrating.{IsCaDue};
 
 use crate::rows::number;
@@ -14,7 +14,7 @@ use text::NoMemory;
 const FORMER_SCHEMA: u64 = 1;
 
 fn first_ca(alloc: Global, office: &OfficeRow) -> Result<CaRow, NoMemory>
-    ensures { IfOk result (λ ca. ca ≡ first_ca office.now) }
+    ensures { IfOk result (λ ca. ca ≡ first_ca_row office.now) }
 {
     Ok(CaRow {
         number: number(1),

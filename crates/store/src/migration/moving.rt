@@ -2,7 +2,7 @@
 
 ghost use Rattle.store_sql.specs.Calls.{Stays};
 ghost use Rattle.store_sql.specs.Honest.{On, OutlivesBy};
-ghost use Rattle.store_sql.specs.Changes.{with_ca, with_schema};
+ghost use Rattle.store_sql.specs.Changes.{with_ca_row, with_schema};
 ghost use Rattle.store.specs.Transactions.{Does, Makes, Waits};
 ghost use Rattle.store.specs.Former.{Had, migrated};
 ghost use Rattle.store.specs.Migrating.{HasNoCa, IsRefused, JudgesInside};
@@ -18,7 +18,7 @@ use store_sql::{CaRow, Fault, create_ca, every_office, insert_ca, update_schema}
 const SCHEMA: u64 = 2;
 
 fn put<S: Alter>(conn: &mut Connection<S>, ca: &CaRow) -> Result<(), Fault>
-    ensures { Does S.Store (λ c. with_schema 2 (with_ca ca.now c)) (IsRefused ca.now) conn.old conn.new result }
+    ensures { Does S.Store (λ c. with_schema 2 (with_ca_row ca.now c)) (IsRefused ca.now) conn.old conn.new result }
 {
     insert_ca(conn, ca)?;
     update_schema(conn, number(SCHEMA))

@@ -5,7 +5,7 @@
 ghost use Rattle.std.specs.Prelude.{◌≡◌, IfOk, IfSome, IsTrue};
 ghost use Rattle.message.specs.Values.{is_department};
 ghost use Rattle.office.specs.State.{department_named};
-ghost use Rattle.store.specs.Departments.{department_in};
+ghost use Rattle.store.specs.Departments.{department_of_row};
 ghost use Rattle.store.specs.Reading.{IsRead};
 ghost use Rattle.store.specs.ShowingRows.{AsksRows};
 ghost use Rattle.store.specs.Finding.{value_in};
@@ -17,7 +17,7 @@ use std::alloc::Global;
 use store_sql::{DepartmentRow, Fault, find_department as find_row};
 
 fn read_found(alloc: Global, found: Option<DepartmentRow>) -> Result<Option<Department>, Fault>
-    ensures exact { IsRead (value_in department_in found) result }
+    ensures exact { IsRead (value_in department_of_row found) result }
     ensures lawful { IfOk result (λ found. IfSome found (λ d. IsTrue (is_department d))) }
 {
     match found {

@@ -10,7 +10,8 @@ ghost use Rattle.office.specs.declared.certificate.Certificate.{Certificate};
 ghost use Rattle.office.specs.Certificates.{IsCertificate};
 ghost use Rattle.store.specs.Reading.{IsRead};
 ghost use Rattle.store.specs.Rows.{cert_row};
-ghost use Rattle.store.specs.Certificates.{IsSigned, certificate_in, certificate_of, certificate_with, fits};
+ghost use Rattle.store.specs.Certificates.{IsSigned, certificate_in, certificate_of_row, certificate_with_row};
+ghost use Rattle.store.specs.Certificates.{row_matches};
 ghost use Rattle.store.specs.Certificates.{signature_in};
 
 use cert::{CertFault, CertFields, read_body};
@@ -34,7 +35,7 @@ fn signature_in(bytes: &Option<Text>) -> Option<Option<Signature>>
 }
 
 fn fits(row: &CertRow, fields: &CertFields) -> bool
-    ensures { result ≡ fits row.now fields.now }
+    ensures { result ≡ row_matches row.now fields.now }
 {
     fields.serial == row.serial.get()
         && fields.key_id.is(row.key_id.as_slice())
@@ -58,7 +59,7 @@ fn certificate_with(
     fields: CertFields,
     signature: Option<Signature>,
 ) -> Result<Certificate, Fault>
-    ensures { IsRead (Some (certificate_with row.now fields signature)) result }
+    ensures { IsRead (Some (certificate_with_row row.now fields signature)) result }
 {
     match both(row.department.copied(alloc), row.body.copied(alloc)) {
         Ok((department, body)) => Ok(Certificate {
@@ -77,7 +78,7 @@ fn certificate_with(
 fn certificate_of(alloc: Global, row: &CertRow, fields: CertFields) -> Result<Certificate, Fault>
     requires lawful { IsCertFields fields }
     requires body { row.now.body ≡ body_text fields }
-    ensures exact { IsRead (certificate_of row.now fields) result }
+    ensures exact { IsRead (certificate_of_row row.now fields) result }
     ensures found { IfOk result (λ c. IsCertificate c × (row.now ≡ cert_row c)) }
 {
     match signature_in(&row.signature) {

@@ -10,7 +10,7 @@ ghost use Rattle.lines.specs.Signers.{list_text};
 ghost use Rattle.store.specs.Rows.{department_row};
 ghost use Rattle.store.specs.Reading.{IsRead};
 ghost use Rattle.cert.specs.Reading.{kind_of};
-ghost use Rattle.store.specs.Departments.{department_in, if_lawful, parted, parts_of};
+ghost use Rattle.store.specs.Departments.{department_of_row, if_lawful, parted, parts_of};
 
 use crate::rows::numbers::number;
 use message::{
@@ -164,7 +164,7 @@ fn if_lawful(department: Department) -> Result<Department, Fault>
 }
 
 fn lawful_in(alloc: Global, row: &DepartmentRow) -> Result<Department, Fault>
-    ensures { IsRead (department_in row.now) result }
+    ensures { IsRead (department_of_row row.now) result }
 {
     let Some(kind) = kind_of(row.kind) else {
         return Err(Fault::Damaged);
@@ -177,7 +177,7 @@ fn lawful_in(alloc: Global, row: &DepartmentRow) -> Result<Department, Fault>
 
 /// The valid department of a row, `Damaged` if there is none, `NoMemory` if an allocation was refused.
 pub fn read_department(alloc: Global, row: &DepartmentRow) -> Result<Department, Fault>
-    ensures exact { IsRead (department_in row.now) result }
+    ensures exact { IsRead (department_of_row row.now) result }
 
     // The department's row is this one.
     ensures found { IfOk result (λ d. IsTrue (is_department d) × (row.now ≡ department_row d)) }

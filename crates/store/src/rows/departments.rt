@@ -12,9 +12,9 @@ use std::alloc::Global;
 use store_sql::{DepartmentRow, Fault, every_department};
 
 impl OfRow<DepartmentRow> for Department {
-    ghost use Rattle.store.specs.Departments.{department_in};
+    ghost use Rattle.store.specs.Departments.{department_of_row};
 
-    ghost value = { department_in };
+    ghost value = { department_of_row };
 
     fn of_row(alloc: Global, row: &DepartmentRow) -> Result<Department, Fault> {
         read_department(alloc, row)

@@ -1,14 +1,14 @@
 //! Faults of the tables as faults of the register.
 
 ghost use Rattle.std.specs.Prelude.{◌≡◌};
-ghost use Rattle.store.specs.Faults.{fault_of, told};
+ghost use Rattle.store.specs.Faults.{store_fault_of, told};
 
 use office::StoreFault;
 use store_sql::Fault;
 
 /// The register's fault for a fault of the tables.
 pub fn fault_of(fault: Fault) -> StoreFault
-    ensures { result ≡ fault_of fault }
+    ensures { result ≡ store_fault_of fault }
 {
     match fault {
         Fault::Device => StoreFault::Device,

@@ -10,7 +10,7 @@ ghost use Rattle.office.specs.Decided.{IsLawfulChange};
 ghost use Rattle.store_sql.specs.Refusals.{RefusesCa, RefusesCert, RefusesDepartment};
 ghost use Rattle.store.specs.Rows.{cert_row, department_row};
 ghost use Rattle.store.specs.Transactions.{Does, FailsFor, Has, Makes, Waits};
-ghost use Rattle.store.specs.Changing.{ca_from, with_change, with_key_id};
+ghost use Rattle.store.specs.Changing.{ca_from, with_change, with_key_id_row};
 ghost use Rattle.store.specs.Refused.{RefusesChange};
 
 use crate::rows::{department_row, number as row_number};
@@ -53,7 +53,7 @@ fn add_certificate<S: Alter>(
 }
 
 fn add_key_id<S: Alter>(alloc: Global, conn: &mut Connection<S>, key_id: &Text) -> Result<(), Fault>
-    ensures { Does S.Store (with_key_id key_id.now) (RefusesChange 0 0 (change.KeyId key_id.now))
+    ensures { Does S.Store (with_key_id_row key_id.now) (RefusesChange 0 0 (change.KeyId key_id.now))
         conn.old conn.new result }
 {
     match find_revoked(alloc, conn, key_id.as_slice())? {

@@ -3,7 +3,7 @@
 ghost use Rattle.std.specs.Prelude.{◌≡◌, ◌<◌, ◌≤◌, ◌^◌, IsTrue};
 ghost use Rattle.message.specs.Values.{is_range};
 ghost use Rattle.store.specs.Transactions.{Does};
-ghost use Rattle.store.specs.Ranges.{joined_high, joined_low, run_from, with_joined, with_range};
+ghost use Rattle.store.specs.Ranges.{joined_high, joined_low, run_from, with_joined, with_range_rows};
 ghost use Rattle.store.specs.Refused.{RefusesJoined, RefusesRange};
 
 use crate::rows::number;
@@ -71,7 +71,7 @@ pub(crate) fn put_range<S: Alter>(
     range: SerialRange,
 ) -> Result<(), Fault>
     requires { IsTrue (is_range range) }
-    ensures { Does S.Store (with_range range) (RefusesRange range) conn.old conn.new result }
+    ensures { Does S.Store (with_range_rows range) (RefusesRange range) conn.old conn.new result }
 {
     let found = last_run(alloc, conn, number(range.lo))?;
     put_from(alloc, conn, range, joined_low(range.lo, found))

@@ -1,5 +1,5 @@
 use Rattle.std.proofs.Common.{◌≡◌, ◌-◌, arith, drop, inl, inr, length, length-drop, refl, subst, sym, take, take_all}
-use Rattle.http_requests.specs.Asks.{Ask, IsLawful}
+use Rattle.http_requests.specs.Asks.{Ask, IsLawfulAsk}
 use Rattle.http_requests.proofs.Asking.{lawful_of_head}
 use Rattle.http_requests.proofs.asked.asks.Goals as goal
 
@@ -21,5 +21,5 @@ returns-clause-lawful c =
     let len = c.in-Some.head.len in
     let rest = take (length c.args.request.now - len) (drop len c.args.request.now) in
     let plan = c.head_plan.ensures found.0 found.1.0.reads.0 found.2 in
-    let P : Ask → Type 0 = IsLawful in
+    let P : Ask → Type 0 = IsLawfulAsk in
     subst P (sym c.with.ensures) (lawful_of_head found.0 rest _ (plan.asks rest))

@@ -2,7 +2,7 @@ use Rattle.std.proofs.Common.{ℕ, List, length, sym, ap, ◌∙◌, subst, arit
 use Rattle.std.specs.Prelude.{nat_lt}
 use Rattle.std.proofs.lemmas.List.{length-take}
 use Rattle.httparse.proofs.GrammarLemmas.{request_unique}
-use Rattle.http_requests.specs.Heads.{AreLawful, values, lengths, States}
+use Rattle.http_requests.specs.Heads.{AreLawfulLengths, values, lengths, States}
 use Rattle.http_requests.proofs.Heads.{head_of_front, head_in_front, fields_fit}
 use Rattle.http_requests.proofs.head.read_head.Goals as goal
 
@@ -17,7 +17,7 @@ returns-in_default-stated_length-clause-none c = λ h rest good.
     let found = c.in-Some.ensures.found in
     let same = request_unique _ found.0 h _ _ found.1.reads
     (head_in_front c.args.bytes.now _ h rest c.min.ensures good.0.size good.0.reads) in
-    let P : List (List ℕ) → Type 0 = AreLawful in
+    let P : List (List ℕ) → Type 0 = AreLawfulLengths in
     c.in_default-stated_length.ensures.none
     (subst P (sym (ap (values (codes "content-length")) found.1.fields ∙ ap lengths same.0)) good.1)
 
@@ -27,7 +27,7 @@ returns-clause-found c =
     let fits = c.in-Some.ensures.within.section.len_fits in
     let short = fields_fit _ c.spans_of.new.headers _ _ found.1.fields in
     let e = ap (values (codes "content-length")) found.1.fields in
-    let P : List (List ℕ) → Type 0 = AreLawful in
+    let P : List (List ℕ) → Type 0 = AreLawfulLengths in
     let Q : List (List ℕ) → Type 0 = States c.in-Some-stated_length.stated in (
       found.0,
       (

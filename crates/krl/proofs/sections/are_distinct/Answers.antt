@@ -1,5 +1,5 @@
 use Rattle.krl.proofs.Words.{CaPart, refl, subst, sym, ◌∙◌, ◌∷◌, ◌≢◌}
-use Rattle.krl.specs.Published.{AreDistinctCas, IsCaPartOf}
+use Rattle.krl.specs.Published.{AreDistinctCas, IsMemberOf}
 use Rattle.krl.proofs.WholeSections.{another_part, first_section, no_more, no_other, others_whole}
 use Rattle.krl.proofs.sections.are_distinct.Goals as goal
 
@@ -29,7 +29,7 @@ loop-section-preserved c ids cas h e =
     left.1 left.2 c.in-Some.ensures.reads in
     let others = (others_whole ids left.0 first.1 first.0 left.1 first.2).1 in
     let runs = c.runs_of_ca.ensures ids first.1 others first.5 in
-    let apart : (q : CaPart) → IsCaPartOf q first.1 → q.ca ≢ first.0.ca = λ q part same.
+    let apart : (q : CaPart) → IsMemberOf q first.1 → q.ca ≢ first.0.ca = λ q part same.
     no_other ids s.ca first.1 c.runs_of_ca.result (λ r. (r.listed.now, r.ranges.now)) runs
     (sym c.is_some.ensures ∙ c.if-is_some.false) q part (same ∙ sym first.3) in (
       first.1,

@@ -1,6 +1,6 @@
 use Rattle.std.proofs.Common.{ap, arith, refl, subst, sym}
 use Rattle.sqlite.specs.State.{State, HasCleanDisk}
-use Rattle.office_jobs.specs.Making.{IsMade}
+use Rattle.office_jobs.specs.Making.{IsOfficeMade}
 use Rattle.office_jobs.proofs.Unlike.{had_no_office}
 use Rattle.sqlite.specs.Held.{state}
 use Rattle.office_jobs.proofs.Made.{unmade}
@@ -16,7 +16,7 @@ pub returns-in-Ok-clause-makes : goal.returns-in-Ok-clause-makes
 returns-in-Ok-clause-makes g c = λ honest.
     let back = ap (state g.S.Store) c.into_connection.ensures in
     let clean : HasCleanDisk (state g.S.Store c.in-Ok.store.conn) = subst HasCleanDisk back honest in
-    subst (λ (s : State). IsMade c.args.opening.now (state g.S.Store c.args.conn) s) (sym back) (record {
+    subst (λ (s : State). IsOfficeMade c.args.opening.now (state g.S.Store c.args.conn) s) (sym back) (record {
       unlike = had_no_office (state g.S.Store c.args.conn) _ c.in-Ok.store _ refl c.in-Ok.ensures.already;
       made = c.in-Ok.ensures.made clean;
       is_open = c.in-Ok.ensures.stays_open clean;

@@ -1,5 +1,5 @@
 use Rattle.std.proofs.Common.{◌∷◌, ◌++◌, decimal, length, ap, ◌∙◌}
-use Rattle.exchanges.specs.Reading.{after}
+use Rattle.exchanges.specs.Reading.{rest_after}
 use Rattle.office_jobs.proofs.Bodies.{end, found_is, not_found, rest_found, sized_found}
 use Rattle.office_jobs.proofs.reporting.body_of.Goals as goal
 
@@ -20,4 +20,4 @@ returns c = λ body small same.
     (c.in-Some.ensures ∙ sized_found c.args.response.now body same) in
     let rest = found_is c.in-Some-past.rest.now (end ++ body)
     (c.in-Some-past.ensures ∙ rest_found c.in-Some.sized.now body small sized) in
-    c.after-2.ensures ∙ ap (after end) rest
+    c.after-2.ensures ∙ ap (rest_after end) rest

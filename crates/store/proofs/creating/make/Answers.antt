@@ -6,7 +6,7 @@ use Rattle.sqlite.specs.Held.{state}
 use Rattle.store_sql.specs.Schema.{no_schema}
 use Rattle.store_sql.specs.Contents.{no_contents}
 use Rattle.store_sql.specs.Calls.{IsBare, Steps, WaitsAt}
-use Rattle.store_sql.specs.Changes.{with_ca, with_office}
+use Rattle.store_sql.specs.Changes.{with_ca_row, with_office}
 use Rattle.store_sql.proofs.Staying.{stays_then}
 use Rattle.store.specs.Transactions.{Has, Waits}
 use Rattle.store.proofs.Steps.{Leads, goes, answers_then, waits_then}
@@ -37,8 +37,8 @@ returns g c =
     let refused = RefusesFirst c.args.office.now c.args.ca.now in
     record {
       makes = λ clean. answers_then (λ (_ : Unit {0}). IsBare no_schema) (λ _ _. Unit {0})
-          (λ _. with_ca c.args.ca.now (with_office c.args.office.now no_contents)) Has (λ _ _. Unit {0})
-          (λ x. with_ca c.args.ca.now (with_office c.args.office.now x)) (λ _. no_contents) old mid new c.fill.result
+          (λ _. with_ca_row c.args.ca.now (with_office c.args.office.now no_contents)) Has (λ _ _. Unit {0})
+          (λ x. with_ca_row c.args.ca.now (with_office c.args.office.now x)) (λ _. no_contents) old mid new c.fill.result
           (bare_leads old mid (one.completes (still clean))) (rest.makes clean) (λ _ _ _. tt) (λ _. refl);
       fault = λ clean. fails_then (λ (_ : Unit {0}). IsBare no_schema) Has refused (λ _. refused no_contents)
           (λ _. no_contents) (WaitsAt no_schema old) old mid new c.fill.result

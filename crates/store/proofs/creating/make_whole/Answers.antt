@@ -6,7 +6,7 @@ use Rattle.sqlite.specs.State.{HasCleanDisk}
 use Rattle.store_sql.specs.Schema.{no_schema}
 use Rattle.store_sql.specs.Contents.{no_contents}
 use Rattle.store_sql.specs.Calls.{IsBare}
-use Rattle.store_sql.specs.Changes.{with_ca, with_office}
+use Rattle.store_sql.specs.Changes.{with_ca_row, with_office}
 use Rattle.store.specs.Transactions.{Waits}
 use Rattle.store.proofs.Before.{concludes_before}
 use Rattle.store.proofs.Causes.{stops_for}
@@ -27,7 +27,7 @@ returns g c =
     let r = c.make-made.result in
     let q = c.conclude.result in
     let Bare = λ (_ : Unit {0}) (db : Database). IsBare no_schema db in
-    let after = λ (_ : Unit {0}). with_ca c.args.ca.now (with_office c.args.office.now no_contents) in
+    let after = λ (_ : Unit {0}). with_ca_row c.args.ca.now (with_office c.args.office.now no_contents) in
     let late : HasCleanDisk new → HasCleanDisk last = λ clean. omega (arith, end.survives.clean) in
     let early : HasCleanDisk new → HasCleanDisk first = λ clean.
     omega (arith, end.survives.clean, part.survives.clean) in

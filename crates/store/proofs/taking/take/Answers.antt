@@ -5,7 +5,7 @@ use Rattle.store.specs.Transactions.{Waits}
 use Rattle.store.proofs.Before.{concludes_before, concludes_unaccepted}
 use Rattle.store.proofs.Causes.{stops_for}
 use Rattle.store.proofs.Steps.{ends, left_due}
-use Rattle.store.specs.Arriving.{IsAfter, IsAnswered, IsAny, ExceedsTables, contents_with}
+use Rattle.store.specs.Arriving.{IsAfter, IsDueAnswer, IsAny, ExceedsTables, contents_with}
 use Rattle.store.proofs.taking.take.Goals as goal
 
 pub returns-in-Ok : goal.returns-in-Ok
@@ -25,9 +25,9 @@ returns-in-Ok g c =
     let early : HasCleanDisk new → HasCleanDisk first = λ clean.
     omega (arith, end.survives.clean, part.survives.clean) in
     record {
-      ends = λ clean. ends (IsAfter IsAny) (IsAnswered a) (contents_with a) old first last new r q
+      ends = λ clean. ends (IsAfter IsAny) (IsDueAnswer a) (contents_with a) old first last new r q
           (begins (early clean)) (part.settles (late clean) tt) (end.concludes clean);
-      cause = λ clean. stops_for (IsAfter IsAny) (IsAnswered a) (contents_with a) (ExceedsTables a)
+      cause = λ clean. stops_for (IsAfter IsAny) (IsDueAnswer a) (contents_with a) (ExceedsTables a)
           (Waits (IsAfter IsAny) first) old first last new started part.survives (early clean) (late clean)
           end.survives.counts r q (begins (early clean)) (part.settles (late clean) tt) (part.fails (late clean))
           (end.concludes clean) (end.cause clean);
@@ -35,7 +35,7 @@ returns-in-Ok g c =
           (end.concludes clean);
       unaccepted = λ clean. concludes_unaccepted old first last new r q (begins (early clean)) (part.keeps (late clean))
           (end.concludes clean);
-      survives = left_due (IsAfter IsAny) (IsAnswered a) (contents_with a) old first last new r begins
+      survives = left_due (IsAfter IsAny) (IsDueAnswer a) (contents_with a) old first last new r begins
           (λ clean. part.settles clean tt) started
           part.survives end.survives;
     }

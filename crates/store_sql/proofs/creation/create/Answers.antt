@@ -1,4 +1,4 @@
-use Rattle.store_sql.proofs.Words.{Creates, Executes, HasCause, [], before, made, state, subst}
+use Rattle.store_sql.proofs.Words.{Creates, Executes, HasCause, [], before, created_table, state, subst}
 use Rattle.store_sql.proofs.Makes.{create_faults, makeable, create_stays, creates, creates_left, makes}
 use Rattle.store_sql.proofs.FoundLemmas.{done_as, fault_done}
 use Rattle.store_sql.proofs.Statements.{survives_as}
@@ -11,7 +11,7 @@ returns g c =
     let new = state g.S.Store c.execute.new.self in
     let ran = subst (λ sql. Executes sql [] old new c.execute.result) c.create.ensures.text in
     record {
-      creates = λ clean. done_as (Creates (before name) (made name) old new) (Creates (before name) (made name) old new)
+      creates = λ clean. done_as (Creates (before name) (created_table name) old new) (Creates (before name) (created_table name) old new)
           (λ n x h. h) (λ e h. h) c.execute.result c.done.result c.done.ensures.is
           (creates (makes name) old new c.execute.result (ran (c.execute.ensures.runs clean)));
       fault = λ clean has. fault_done (HasCause old new) c.execute.result c.done.result c.done.ensures.is

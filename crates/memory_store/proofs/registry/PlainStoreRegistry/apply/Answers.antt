@@ -3,7 +3,7 @@ use Rattle.std.specs.Prelude.{option_copied}
 use Rattle.office.specs.declared.arrival.Kept.{Kept}
 use Rattle.office.specs.History.{reply_kept}
 use Rattle.office.proofs.Steps.{shows_repeated}
-use Rattle.memory_store.specs.Contents.{Contents, state_of}
+use Rattle.memory_store.specs.Contents.{MemoryContents, state_of}
 use Rattle.memory_store.proofs.Accepted.{accepted}
 use Rattle.memory_store.proofs.registry.PlainStoreRegistry.apply.Goals as goal
 
@@ -11,7 +11,7 @@ pub returns-in-Some-clause-next : goal.returns-in-Some-clause-next
 returns-in-Some-clause-next c honest o l m =
     let t = c.args.self.now in
     let a = c.args.arrival in
-    let kept : t.kept ≡ c.as_slice.result.now = sym (c.as_slice.ensures.value ∙ ap (λ (x : Contents). x.kept) c.self.view_is) in
+    let kept : t.kept ≡ c.as_slice.result.now = sym (c.as_slice.ensures.value ∙ ap (λ (x : MemoryContents). x.kept) c.self.view_is) in
     let known : reply_kept t.kept a ≡ Some c.in-Some.reply.now =
     ap (λ (ks : List Kept). reply_kept ks a) kept ∙ sym c.kept_reply.ensures ∙ ap option_copied c.in-Some.is in
     (shows_repeated (state_of t) t.kept o l a c.in-Some.reply.now known m).1
@@ -20,7 +20,7 @@ pub returns-in_ok-accept-in-Ok-clause-due : goal.returns-in_ok-accept-in-Ok-clau
 returns-in_ok-accept-in-Ok-clause-due c honest o l m =
     let t = c.args.self.now in
     let a = c.args.arrival in
-    let kept : t.kept ≡ c.as_slice.result.now = sym (c.as_slice.ensures.value ∙ ap (λ (x : Contents). x.kept) c.self.view_is) in
+    let kept : t.kept ≡ c.as_slice.result.now = sym (c.as_slice.ensures.value ∙ ap (λ (x : MemoryContents). x.kept) c.self.view_is) in
     let first : reply_kept t.kept a ≡ None = ap (λ (ks : List Kept). reply_kept ks a) kept ∙ sym c.kept_reply.ensures ∙ ap option_copied c.in_default.is in
     rw c.in_ok-accept-in-Ok.ensures.reply (accepted t c.accept.new.self o l a c.in-Ok.decision _ first refl (omega (arith, c.in-Ok.ensures.version)) c.in-Ok.ensures.judges c.in_ok-accept-in-Ok.ensures.ok m).0
 
@@ -28,6 +28,6 @@ pub returns-in_ok-accept-in-Ok-clause-next : goal.returns-in_ok-accept-in-Ok-cla
 returns-in_ok-accept-in-Ok-clause-next c honest o l m =
     let t = c.args.self.now in
     let a = c.args.arrival in
-    let kept : t.kept ≡ c.as_slice.result.now = sym (c.as_slice.ensures.value ∙ ap (λ (x : Contents). x.kept) c.self.view_is) in
+    let kept : t.kept ≡ c.as_slice.result.now = sym (c.as_slice.ensures.value ∙ ap (λ (x : MemoryContents). x.kept) c.self.view_is) in
     let first : reply_kept t.kept a ≡ None = ap (λ (ks : List Kept). reply_kept ks a) kept ∙ sym c.kept_reply.ensures ∙ ap option_copied c.in_default.is in
     (accepted t c.accept.new.self o l a c.in-Ok.decision _ first refl (omega (arith, c.in-Ok.ensures.version)) c.in-Ok.ensures.judges c.in_ok-accept-in-Ok.ensures.ok m).1

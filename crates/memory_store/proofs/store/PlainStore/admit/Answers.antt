@@ -3,7 +3,7 @@ use Rattle.std.specs.List.{list_any}
 use Rattle.std.proofs.lemmas.Bool.{le-ltb, lt-ltb}
 use Rattle.office.specs.declared.arrival.Kept.{Kept}
 use Rattle.office.specs.History.{has_key}
-use Rattle.memory_store.specs.Contents.{Contents}
+use Rattle.memory_store.specs.Contents.{MemoryContents}
 use Rattle.memory_store.proofs.Verdicts.{bad_moment, judges_by_decide}
 use Rattle.memory_store.proofs.store.PlainStore.admit.Goals as goal
 
@@ -15,7 +15,7 @@ pub returns-clause-judges : goal.returns-clause-judges
 returns-clause-judges c =
     let t = c.args.self.now in
     let arrival = c.args.arrival.now in
-    let kept : c.as_slice.result.now ≡ t.kept = c.as_slice.ensures.value ∙ ap (λ (x : Contents). x.kept) c.self.view_is in
+    let kept : c.as_slice.result.now ≡ t.kept = c.as_slice.ensures.value ∙ ap (λ (x : MemoryContents). x.kept) c.self.view_is in
     let new : list_any (has_key arrival) t.kept ≡ false =
     ap (λ (ks : List Kept). list_any (has_key arrival) ks) (sym kept) ∙ sym c.is_known.ensures ∙ c.if-is_known.false in
     judges_by_decide c.decided.result t arrival c.args.message.now c.requires.read (le-ltb _ _ c.if-arrival-gt-LATEST_MOMENT.false) new c.decided.ensures.decided

@@ -2,11 +2,11 @@ use Rattle.std.proofs.Common.{subst}
 use Rattle.std.specs.Prelude.{IfSome}
 use Rattle.office.specs.Certificates.{IsCertificate}
 use Rattle.office.specs.Machine.{certificate_of}
-use Rattle.memory_store.specs.Contents.{Contents, state_of}
+use Rattle.memory_store.specs.Contents.{MemoryContents, state_of}
 use Rattle.memory_store.proofs.Keeping.{issued_lawful}
 use Rattle.memory_store.proofs.store.PlainStore.certificate_of.Goals as goal
 
 pub returns-in-Some-clause-lawful : goal.returns-in-Some-clause-lawful
 returns-in-Some-clause-lawful c =
-    let lawful = subst (λ (t : Contents). IfSome (certificate_of (state_of t) c.in-Some.serial) IsCertificate) c.self.view_is (issued_lawful _ c.in-Some.serial c.self.invariant) in
+    let lawful = subst (λ (t : MemoryContents). IfSome (certificate_of (state_of t) c.in-Some.serial) IsCertificate) c.self.view_is (issued_lawful _ c.in-Some.serial c.self.invariant) in
     rw c.issued.ensures lawful

@@ -3,8 +3,8 @@ use Rattle.std.specs.Prelude.{find, option_copied, option_and_then}
 use Rattle.message.specs.declared.department.Department.{Department}
 use Rattle.office.specs.Concerns.{named_department}
 use Rattle.office.specs.Machine.{department_named}
-use Rattle.memory_store.specs.Departments.{has_name}
-use Rattle.memory_store.specs.Contents.{Contents, state_of}
+use Rattle.memory_store.specs.Departments.{has_department_name}
+use Rattle.memory_store.specs.Contents.{MemoryContents, state_of}
 use Rattle.office.proofs.Agreeing.{department_of_concerned, department_of_named}
 use Rattle.memory_store.proofs.Found.{find-entries, found_lawful}
 use Rattle.memory_store.proofs.store.PlainStore.department_of.Goals as goal
@@ -14,28 +14,28 @@ returns-in-Some-default-clause-is c =
     let t = c.args.self.now in
     let m = c.args.message.now in
     let certificate = c.in-Some-default.certificate.now in
-    let rows : c.as_slice-departments.result.now ≡ t.departments = c.as_slice-departments.ensures.value ∙ ap (λ (x : Contents). x.departments) c.self.view_is in
-    let found : option_copied c.named.result ≡ find (λ d. has_name d certificate.department) t.departments =
-    c.named.ensures ∙ ap₂ (λ (name : List ℕ) (ds : List Department). find (λ d. has_name d name) ds) c.as_slice.ensures rows in
+    let rows : c.as_slice-departments.result.now ≡ t.departments = c.as_slice-departments.ensures.value ∙ ap (λ (x : MemoryContents). x.departments) c.self.view_is in
+    let found : option_copied c.named.result ≡ find (λ d. has_department_name d certificate.department) t.departments =
+    c.named.ensures ∙ ap₂ (λ (name : List ℕ) (ds : List Department). find (λ d. has_department_name d name) ds) c.as_slice.ensures rows in
     found ∙ sym (find-entries certificate.department t.departments)
     ∙ sym (department_of_concerned (state_of t) m certificate (sym c.requires ∙ ap option_copied c.in-Some-default.is-0))
 
 pub returns-in-Some-default-clause-lawful : goal.returns-in-Some-default-clause-lawful
 returns-in-Some-default-clause-lawful c =
-    rw (c.named.ensures, c.as_slice-departments.ensures.value) (found_lawful (λ d. has_name d c.as_slice.result.now) c.self.inside.departments.items c.self.invariant.departments)
+    rw (c.named.ensures, c.as_slice-departments.ensures.value) (found_lawful (λ d. has_department_name d c.as_slice.result.now) c.self.inside.departments.items c.self.invariant.departments)
 
 pub returns-in-None-Some-clause-is : goal.returns-in-None-Some-clause-is
 returns-in-None-Some-clause-is c =
     let t = c.args.self.now in
     let m = c.args.message.now in
     let name = c.in-None-Some.name.now in
-    let rows : c.as_slice-departments.result.now ≡ t.departments = c.as_slice-departments.ensures.value ∙ ap (λ (x : Contents). x.departments) c.self.view_is in
+    let rows : c.as_slice-departments.result.now ≡ t.departments = c.as_slice-departments.ensures.value ∙ ap (λ (x : MemoryContents). x.departments) c.self.view_is in
     let said : named_department m ≡ Some name = sym c.concerned.ensures.department ∙ ap option_copied c.in-None-Some.is-1 in
-    c.named-in-None-Some.ensures ∙ ap (λ (ds : List Department). find (λ d. has_name d name) ds) rows
+    c.named-in-None-Some.ensures ∙ ap (λ (ds : List Department). find (λ d. has_department_name d name) ds) rows
     ∙ sym (find-entries name t.departments)
     ∙ sym (department_of_named (state_of t) m (sym c.requires ∙ ap option_copied c.in-None-Some.is-0)
     ∙ ap (option_and_then (department_named (state_of t))) said)
 
 pub returns-in-None-Some-clause-lawful : goal.returns-in-None-Some-clause-lawful
 returns-in-None-Some-clause-lawful c =
-    rw (c.named-in-None-Some.ensures, c.as_slice-departments.ensures.value) (found_lawful (λ d. has_name d c.in-None-Some.name.now) c.self.inside.departments.items c.self.invariant.departments)
+    rw (c.named-in-None-Some.ensures, c.as_slice-departments.ensures.value) (found_lawful (λ d. has_department_name d c.in-None-Some.name.now) c.self.inside.departments.items c.self.invariant.departments)

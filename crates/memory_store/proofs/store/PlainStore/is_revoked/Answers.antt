@@ -1,7 +1,7 @@
 use Rattle.std.proofs.Common.{sym, subst, ◌∙◌}
 use Rattle.std.specs.Prelude.{IsTrue, ◌↔◌}
 use Rattle.krl.specs.Sets.{HasAll, contains}
-use Rattle.memory_store.specs.Contents.{Contents, state_of}
+use Rattle.memory_store.specs.Contents.{MemoryContents, state_of}
 use Rattle.office.proofs.Ranges.{range_flag}
 use Rattle.office.proofs.Agreeing.{range_order, range_says}
 use Rattle.memory_store.proofs.store.PlainStore.is_revoked.Goals as goal
@@ -13,6 +13,6 @@ returns-in-None-Some c =
     let r = c.in-None-Some.range in
     let flag = c.has_all-in-None-Some.result in
     let is = sym c.concerned-concern.ensures.range ∙ c.in-None-Some.is-1 in
-    let each = subst (λ (x : Contents). IsTrue flag ↔ HasAll (contains x.runs) r.lo r.hi) c.self.view_is c.has_all-in-None-Some.ensures in
+    let each = subst (λ (x : MemoryContents). IsTrue flag ↔ HasAll (contains x.runs) r.lo r.hi) c.self.view_is c.has_all-in-None-Some.ensures in
     range_says flag (state_of t) m r (sym c.concerned-concern.ensures.serial ∙ c.in-None-Some.is-0) is
     (range_flag flag (state_of t) r (range_order m r c.requires is) each)

@@ -5,7 +5,7 @@ use Rattle.krl.specs.Sets.{contains, is_within}
 use Rattle.office.specs.declared.view.Change.{Change}
 use Rattle.office.specs.Machine.{State}
 use Rattle.office.specs.Decided.{HasRoom, IsLawfulChange, changed}
-use Rattle.memory_store.specs.Contents.{Contents, state_of}
+use Rattle.memory_store.specs.Contents.{MemoryContents, state_of}
 use Rattle.memory_store.proofs.Keeping.{with_department, with_certificate, with_signature, with_ca}
 use Rattle.memory_store.proofs.store.PlainStore.make.Goals as goal
 
@@ -17,7 +17,7 @@ pub invariant_of-self-in-Continue-branch-2 : goal.invariant_of-self-in-Continue-
 invariant_of-self-in-Continue-branch-2 c =
     let room = subst (λ (x : Change). HasRoom x (state_of c.args.self.now)) c.in-Certificate.is c.requires.room in
     let inside_room : c.self.inside.opening.first + length c.self.inside.certificates.items ≤ c.self.inside.opening.last =
-    subst (λ (t : Contents). t.opening.first + length t.certificates ≤ t.opening.last) (sym c.self.view_is) room in
+    subst (λ (t : MemoryContents). t.opening.first + length t.certificates ≤ t.opening.last) (sym c.self.view_is) room in
     rw c.in_ok-push-in-Certificate.ensures.items
     (with_certificate _ c.in-Certificate.certificate c.self.invariant (subst IsLawfulChange c.in-Certificate.is c.requires.lawful) inside_room)
 
@@ -27,15 +27,15 @@ invariant_of-self-in-Signature c = rw c.sign.ensures (with_signature _ _ c.in-Si
 pub invariant_of-self-in-Continue-branch-5 : goal.invariant_of-self-in-Continue-branch-5
 invariant_of-self-in-Continue-branch-5 c =
     let room = subst (λ (x : Change). HasRoom x (state_of c.args.self.now)) c.in-Ca.is c.requires.room in
-    let next = subst (λ (t : Contents). c.in-Ca.ca.since ≡ t.opening.first + length t.certificates) (sym c.self.view_is) room.1 in
+    let next = subst (λ (t : MemoryContents). c.in-Ca.ca.since ≡ t.opening.first + length t.certificates) (sym c.self.view_is) room.1 in
     rw c.in_ok-push-in-Ca.ensures.items (with_ca _ c.in-Ca.ca c.self.invariant next)
 
 pub returns-in_ok-add_range-in-Range-clause-ok : goal.returns-in_ok-add_range-in-Range-clause-ok
 returns-in_ok-add_range-in-Range-clause-ok c =
     let runs = c.add_range.new.self in
     let range = c.in-Range.range in
-    let with_runs : Contents → State = λ t. record (state_of t) { revoked = contains runs } in
-    let joined : Contents → ℕ → Bool = λ t n. is_within n (record { lo = range.lo; hi = range.hi }) || contains t.runs n in
+    let with_runs : MemoryContents → State = λ t. record (state_of t) { revoked = contains runs } in
+    let joined : MemoryContents → ℕ → Bool = λ t n. is_within n (record { lo = range.lo; hi = range.hi }) || contains t.runs n in
     let set : contains runs ≡ joined c.args.self.now = fun_ext c.in_ok-add_range-in-Range.ensures.union ∙ ap joined c.self.view_is in
     ap with_runs c.self.view_is
     ∙ ap (λ (f : ℕ → Bool). record (state_of c.args.self.now) { revoked = f }) set

@@ -1,6 +1,6 @@
 use Rattle.office.specs.State.{department_named}
 use Rattle.store_sql.specs.Changes.{departments_named}
-use Rattle.store.specs.Departments.{department_in}
+use Rattle.store.specs.Departments.{department_of_row}
 use Rattle.store.specs.Rows.{department_row}
 use Rattle.store.proofs.NamedRow.{department_again, named}
 use Rattle.store.proofs.OneRow.{shows_one}
@@ -12,7 +12,7 @@ returns-clause-asks g c =
     let name = c.args.name.now in
     let q = c.in_ok-found.ensures in
     rows_asked q.survives q.reads (λ clean.
-    shows_one department_in department_row (departments_named name) (λ s. department_named s name) (named name)
+    shows_one department_of_row department_row (departments_named name) (λ s. department_named s name) (named name)
     (department_again name) _ _ c.in_ok-found.found c.read_found.result (q.finds clean) c.read_found.ensures.exact)
 
 pub returns-in_err-found-clause-asks : goal.returns-in_err-found-clause-asks

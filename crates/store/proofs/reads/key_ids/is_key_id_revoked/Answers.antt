@@ -1,5 +1,5 @@
 use Rattle.std.proofs.Common.{◌∙◌}
-use Rattle.store_sql.specs.Changes.{is_key_id}
+use Rattle.store_sql.specs.Changes.{is_same_key_id}
 use Rattle.store.specs.Rows.{contents_of}
 use Rattle.store.proofs.Found.{any_found}
 use Rattle.store.proofs.Sorting.{rows_asked, rows_failed}
@@ -10,7 +10,7 @@ returns g c =
     let q = c.in_ok-found.ensures in
     rows_asked q.survives q.reads (λ clean s kept lawful means.
     let f = q.finds clean (contents_of s kept) means in
-    (c.is_some.ensures ∙ any_found (is_key_id c.args.key_id.now) s.revoked_key_ids c.in_ok-found.found f.1, f.0))
+    (c.is_some.ensures ∙ any_found (is_same_key_id c.args.key_id.now) s.revoked_key_ids c.in_ok-found.found f.1, f.0))
 
 pub returns-in_err-found : goal.returns-in_err-found
 returns-in_err-found g c =

@@ -7,7 +7,7 @@ use Rattle.sqlite_trees.proofs.ListLemmas.{ascending-map}
 use Rattle.store_sql.specs.Contents.{Contents}
 use Rattle.store_sql.specs.declared.departments.DepartmentRow.{DepartmentRow}
 use Rattle.office.specs.Publication.{departments_of}
-use Rattle.store.specs.Departments.{department_in}
+use Rattle.store.specs.Departments.{department_of_row}
 use Rattle.store.specs.Rows.{department_row}
 use Rattle.store.proofs.DepartmentRows.{departments_again}
 use Rattle.store.proofs.Sorting.{shows_each, rows_asked, rows_failed}
@@ -17,7 +17,7 @@ pub returns : goal.returns
 returns g c =
     let q = c.in_ok-rows.ensures in
     rows_asked q.survives q.reads (λ clean.
-    shows_each department_in (λ (k : Contents). k.departments) (λ (r : DepartmentRow). r.name) (slice_cmp nat_cmp)
+    shows_each department_of_row (λ (k : Contents). k.departments) (λ (r : DepartmentRow). r.name) (slice_cmp nat_cmp)
     nat_list_cmp_total departments_of
     (λ s kept lawful. ascending-map (λ (a b : DepartmentRow). slice_cmp nat_cmp a.name b.name ≡ Less)
     (λ e. department_row e.1) s.departments lawful.names)

@@ -2,7 +2,7 @@ use Rattle.std.proofs.Common.{inl, inr, sym, ap, ◌∙◌, Bool, cond, false}
 use Rattle.std.specs.Prelude.{is_some}
 use Rattle.std.specs.List.{list_any}
 use Rattle.std.proofs.lemmas.Result.{err_from_is_err_and}
-use Rattle.store_sql.specs.Changes.{is_key_id, with_revoked}
+use Rattle.store_sql.specs.Changes.{is_same_key_id, with_revoked}
 use Rattle.store.proofs.Found.{any_found}
 use Rattle.store.proofs.TransactionParts.{found_done, found_then, not_found, written}
 use Rattle.store.proofs.Once.{not_there}
@@ -18,14 +18,14 @@ returns g c =
       | in-None w ↦ rw (w.conn-is, w.result-is) (
           let put = rw w.as_slice-in-None.ensures at w.insert_revoked.ensures in
           found_then (λ (b : Bool) d. cond b d (with_revoked key_id d)) false
-          (λ d. list_any (is_key_id key_id) d.revoked) found
+          (λ d. list_any (is_same_key_id key_id) d.revoked) found
           (λ clean d means. sym (ap is_some w.in-None.is)
-          ∙ any_found (is_key_id key_id) d.revoked _ (found.finds clean d means).1)
+          ∙ any_found (is_same_key_id key_id) d.revoked _ (found.finds clean d means).1)
           (written put)
           (λ d is why. elim why [ inl there ↦ absurd (not_there key_id d.revoked (sym is) there) | inr more ↦ more ]))
       | in-Some w ↦ rw (w.conn-is, w.result-is) (found_done found (λ clean d means.
           ap (λ (b : Bool). cond b d (with_revoked key_id d)) (sym (ap is_some w.in-Some.is)
-          ∙ any_found (is_key_id key_id) d.revoked _ (found.finds clean d means).1)))
+          ∙ any_found (is_same_key_id key_id) d.revoked _ (found.finds clean d means).1)))
     ]
 
 pub returns-in_err-find_revoked : goal.returns-in_err-find_revoked
