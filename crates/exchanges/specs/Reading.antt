@@ -7,12 +7,9 @@ use Rattle.std.specs.Result.{result_ok}
 use Rattle.std.specs.Str.{bytes_eq}
 use Rattle.hex.specs.Hex.{decode_sized, encode_lower}
 use Rattle.values.specs.Decimals.{number_of}
+pub use Rattle.message.specs.Reading.{rest_after}
 use Rattle.web.specs.declared.exchange.Exchange.{Exchange}
 use Rattle.exchanges.specs.declared.exchange_reader.Record.{Record}
-
--- the bytes after this prefix
-abbrev pub rest_after : List ℕ → List ℕ → Option (List ℕ)
-rest_after head t = if bytes_eq (take (length head) t) head then Some (drop (length head) t) else None
 
 -- the bytes before the first occurrence of this byte, and the bytes after it
 abbrev pub cut_of : ℕ → List ℕ → Option (List ℕ × List ℕ)

@@ -8,6 +8,7 @@ use Rattle.krl.specs.declared.run.Run.{Run}
 use Rattle.krl.specs.declared.ca_part.CaPart.{CaPart}
 use Rattle.krl.specs.declared.krl_head.KrlHead.{KrlHead}
 use Rattle.krl.specs.Sets.{is_within, is_among, contains}
+pub use Rattle.krl.specs.Sets.{IsMemberOf}
 use Rattle.krl.specs.Format.{Part, Serials, Range, KeyIds, OtherPart, part_text, Section, Certificates, section_data}
 use Rattle.krl.specs.Format.{section_text, Header, RevocationList, krl_text, IsCut, is_supported, revokes}
 
@@ -108,11 +109,6 @@ fits cas ids = list_all (part_fits ids) cas
 -- whether the key id is in the list
 abbrev pub is_listed_key_id : List (List ℕ) → List ℕ → Bool
 is_listed_key_id ids key_id = list_any (λ i. bytes_eq i key_id) ids
-
--- the CA part is in the list
-abbrev pub IsMemberOf : CaPart → List CaPart → Type 0
-IsMemberOf p [] = ⊥
-IsMemberOf p (q ∷ qs) = (q ≡ p) ⊎ IsMemberOf p qs
 
 -- no two parts have the same CA
 abbrev pub AreDistinctCas : List CaPart → Type 0

@@ -36,8 +36,8 @@ pub record IsRunOf (set : ℕ → Bool) (r : Run) : Type 0 where
   pub below : (n : ℕ) → n + 1 ≡ r.lo → set n ≡ false
   pub above : set (r.hi + 1) ≡ false
 
--- the run is in the list
-abbrev pub IsMemberOf : Run → List Run → Type 0
+-- it is in the list
+abbrev pub IsMemberOf : {X : Type 0} → X → List X → Type 0
 IsMemberOf r [] = ⊥
 IsMemberOf r (s ∷ rs) = (s ≡ r) ⊎ IsMemberOf r rs
 

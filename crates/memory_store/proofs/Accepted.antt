@@ -9,10 +9,10 @@ use Rattle.office.specs.declared.arrival.Outcome.TheVariants as outcome
 use Rattle.office.specs.declared.view.Decision.{Decision}
 use Rattle.office.specs.Machine.{State}
 use Rattle.office.specs.Decided.{written}
-use Rattle.office.specs.History.{First, judged, change, kept_row, reply_kept, due}
+use Rattle.office.specs.History.{First, judged, change, kept_row, reply_kept, due, kept_of}
 use Rattle.office.specs.Shows.{Shows}
 use Rattle.office.proofs.Steps.{shows_accepted}
-use Rattle.memory_store.specs.Contents.{MemoryContents, state_of, row_of, WritesDecision}
+use Rattle.memory_store.specs.Contents.{MemoryContents, state_of, WritesDecision}
 
 -- a decision that was written is the specified outcome
 pub accepted : (t new : MemoryContents) (o : Opening) (l : List Arrival) (a : Arrival) (d : Decision) (j : Result First Refusal)
@@ -25,8 +25,8 @@ accepted t new o l a d (Err x) first e small found w m = absurd found
 accepted t new o l a d (Ok f) first e small found w m =
     let version : d.version ≡ (change (state_of t) f).version = ap (λ (s : State). s.version) found.2 in
     let r = shows_accepted (state_of t) t.kept o l a f first e (omega (arith, small, version)) m in
-    let row : kept_row f ≡ row_of a d.reply =
-    ap (λ (x : Arrival). row_of x f.reply) found.0 ∙ ap (λ (x : List ℕ). row_of a x) found.1 in
+    let row : kept_row f ≡ kept_of a d.reply =
+    ap (λ (x : Arrival). kept_of x f.reply) found.0 ∙ ap (λ (x : List ℕ). kept_of a x) found.1 in
     let kept : t.kept ++ kept_row f ∷ [] ≡ new.kept = ap (λ (k : Kept). t.kept ++ k ∷ []) row ∙ sym w.kept in
     let state : change (state_of t) f ≡ state_of new = sym found.2 ∙ sym w.state in (
       ap (λ (x : List ℕ). outcome.Accepted x) (sym found.1) ∙ r.0,

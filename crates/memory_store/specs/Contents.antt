@@ -19,7 +19,7 @@ use Rattle.office.specs.declared.view.Stop.{Stop}
 use Rattle.office.specs.declared.view.Stop.TheVariants as stop
 use Rattle.office.specs.Machine.{State}
 use Rattle.office.specs.Decided.{written}
-use Rattle.office.specs.History.{judged, change}
+use Rattle.office.specs.History.{judged, change, kept_of}
 use Rattle.memory_store.specs.Departments.{entries}
 
 pub record MemoryContents : Type 0 where
@@ -52,9 +52,6 @@ state_of t = record {
   date = t.date;
 }
 
-abbrev pub row_of : Arrival → List ℕ → Kept
-row_of a reply = record { caller = a.caller; key = a.key; bytes = a.bytes; reply = reply }
-
 -- what is decided about an arrival that isn't a repeat
 abbrev pub JudgesArrival : Result Decision Stop → MemoryContents → Arrival → Type 0
 JudgesArrival (Ok d) t a = IsOkAnd (judged (state_of t) t.kept a) (λ f. (f.arrival ≡ a) × (f.reply ≡ d.reply)
@@ -64,7 +61,7 @@ JudgesArrival (Err stop.NoMemory) t a = Unit {0}
 
 -- the contents after a decision was written, with a row for the arrival
 pub record WritesDecision (old : MemoryContents) (a : Arrival) (d : Decision) (new : MemoryContents) : Type 0 where
-  pub kept : new.kept ≡ old.kept ++ row_of a d.reply ∷ []
+  pub kept : new.kept ≡ old.kept ++ kept_of a d.reply ∷ []
   pub state : state_of new ≡ written d (state_of old)
 
 -- the invariants: valid configuration and rows, serials in range, CAs in order, none starting after the next serial

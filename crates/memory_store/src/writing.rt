@@ -4,7 +4,8 @@
 
 ghost use Rattle.std.specs.Prelude.{◌≡◌, ◌++◌, ◌∷◌, [], IfOk, OnOk, OnErr};
 ghost use Rattle.office.specs.Decided.{HasRoom, IsLawfulChange, changed};
-ghost use Rattle.memory_store.specs.Contents.{WritesDecision, row_of, state_of};
+ghost use Rattle.memory_store.specs.Contents.{WritesDecision, state_of};
+ghost use Rattle.office.specs.History.{kept_of};
 
 use crate::departments::put_department;
 use crate::issued::sign;
@@ -108,7 +109,7 @@ impl PlainStore {
 
 /// The row that is kept for an arrival with its reply.
 fn row_of(arrival: Arrival, reply: Text) -> Kept
-    ensures { result ≡ row_of arrival reply }
+    ensures { result ≡ kept_of arrival reply }
 {
     let Arrival {
         caller,

@@ -22,9 +22,13 @@ pub record First : Type 0 where
   pub message : Message
   pub reply : List ℕ
 
+-- the stored request for a received request with this reply
+abbrev pub kept_of : Arrival → List ℕ → Kept
+kept_of a reply = record { caller = a.caller; key = a.key; bytes = a.bytes; reply = reply }
+
 -- its stored row
 abbrev pub kept_row : First → Kept
-kept_row f = record { caller = f.arrival.caller; key = f.arrival.key; bytes = f.arrival.bytes; reply = f.reply }
+kept_row f = kept_of f.arrival f.reply
 
 abbrev pub kept_by : List First → List Kept
 kept_by fs = map kept_row fs

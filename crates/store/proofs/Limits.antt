@@ -32,9 +32,8 @@ use Rattle.store_sql.specs.Cells.{cert_cells}
 use Rattle.store_sql.specs.Changes.{with_counters, with_request}
 use Rattle.store_sql.specs.Contents.{Contents}
 use Rattle.store_sql.specs.Runs as runs
-use Rattle.store.specs.Rows.{run_row, office_contents, revoked_runs, cert_row, request_row}
+use Rattle.store.specs.Rows.{ca_row, run_row, office_contents, revoked_runs, cert_row, request_row}
 use Rattle.store.specs.Lawful.{IsLawful}
-use Rattle.store.specs.Changing.{ca_from}
 use Rattle.store.specs.Due.{counters_of, kept_of}
 use Rattle.store.specs.Ranges.{joined_run}
 use Rattle.store.specs.Refused.{RefusesChange, RefusesDecision, RefusesRange}
@@ -120,7 +119,7 @@ module _ (p : Past) (a : Arrival) (d : Decision) (serving : List Ca) (history : 
       ]
 
   ca_limited : (since : ℕ) (ca : Ca) → d.change ≡ change.Ca ca
-      → RefusesCa (ca_from (length serving + 1) since ca) rows → ⊥
+      → RefusesCa (ca_row (length serving + 1) since ca) rows → ⊥
   ca_limited since ca e why =
       let same : s.cas ++ ca ∷ [] ≡ (after s step.message a.moment a.nonce).cas =
       sym (ap (λ ch. (changed ch s).cas) e) ∙ ap (λ (t : State). t.cas) step.made in

@@ -48,16 +48,16 @@ signed_rows n serial (suc place) (c ∷ cs) signature counted is =
 -- ---- CAs
 
 ca_last : (n : ℕ) (cas : List Ca) (ca : Ca)
-    → ca_rows n (cas ++ ca ∷ []) ≡ ca_rows n cas ++ ca_row (n + length cas) ca ∷ []
-ca_last n [] ca = ap (λ (k : ℕ). ca_row k ca ∷ []) (omega arith)
+    → ca_rows n (cas ++ ca ∷ []) ≡ ca_rows n cas ++ ca_row (n + length cas) ca.since ca ∷ []
+ca_last n [] ca = ap (λ (k : ℕ). ca_row k ca.since ca ∷ []) (omega arith)
 ca_last n (c ∷ cas) ca =
     let same : suc n + length cas ≡ n + suc (length cas) = omega arith in
-    ap (λ (rows : List CaRow). ca_row n c ∷ rows)
-    (ca_last (suc n) cas ca ∙ ap (λ (k : ℕ). ca_rows (suc n) cas ++ ca_row k ca ∷ []) same)
+    ap (λ (rows : List CaRow). ca_row n c.since c ∷ rows)
+    (ca_last (suc n) cas ca ∙ ap (λ (k : ℕ). ca_rows (suc n) cas ++ ca_row k ca.since ca ∷ []) same)
 
 pub ca_added : (cas : List Ca) (ca : Ca)
-    → IsPermutation (ca_row (suc (length cas)) ca ∷ ca_rows 1 cas) (ca_rows 1 (cas ++ ca ∷ []))
+    → IsPermutation (ca_row (suc (length cas)) ca.since ca ∷ ca_rows 1 cas) (ca_rows 1 (cas ++ ca ∷ []))
 ca_added cas ca =
     let number : 1 + length cas ≡ suc (length cas) = omega arith in
     rw (ca_last 1 cas ca, number)
-    (IsPermutation-sym _ _ (IsPermutation-to_front (ca_rows 1 cas) (ca_row (suc (length cas)) ca)))
+    (IsPermutation-sym _ _ (IsPermutation-to_front (ca_rows 1 cas) (ca_row (suc (length cas)) ca.since ca)))

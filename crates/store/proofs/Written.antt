@@ -27,7 +27,7 @@ use Rattle.store_sql.specs.Changes.{is_same_key_id, with_counters, with_request,
 use Rattle.store.specs.Lawful.{IsLawful}
 use Rattle.store.specs.Rows.{ca_row, cert_row, contents_of, office_row, request_row, run_row}
 use Rattle.store.proofs.Same.{IsSame}
-use Rattle.store.specs.Changing.{ca_from, with_change, with_key_id_row}
+use Rattle.store.specs.Changing.{with_change, with_key_id_row}
 use Rattle.store.specs.Due.{IsDue, contents_after, counters_of, kept_of}
 use Rattle.office.proofs.Decisions.{serial_of_one}
 use Rattle.office.proofs.Growth.{length-signed_at}
@@ -93,8 +93,8 @@ change_made number since os rs (change.Range r) s kept lawful room is numbered n
 change_made number since os rs (change.KeyId key_id) s kept lawful room is numbered next fits issued =
     key_id_changed key_id os rs s kept lawful
 change_made number since os rs (change.Ca ca) s kept lawful room is numbered next fits issued =
-    let row : ca_from number since ca ≡ ca_row (suc (length s.cas)) ca =
-    ap₂ (λ (n : ℕ) (k : ℕ). ca_from n k ca) numbered (next ∙ sym room.1) in
+    let row : ca_row number since ca ≡ ca_row (suc (length s.cas)) ca.since ca =
+    ap₂ (λ (n : ℕ) (k : ℕ). ca_row n k ca) numbered (next ∙ sym room.1) in
     (same _, same _, same _, same _, rw row (ca_added s.cas ca))
 
 -- ---- the other tables

@@ -23,7 +23,7 @@ RefusesFirst office ca c = RefusesOffice office c ⊎ RefusesCa ca (with_office 
 
 -- the rules of empty tables refuse the rows of this initial configuration
 abbrev pub RefusesOpening : Opening → Type 0
-RefusesOpening o = RefusesFirst (office_row (opened o)) (ca_row 1 (first_ca o)) no_contents
+RefusesOpening o = RefusesFirst (office_row (opened o)) (ca_row 1 o.first (first_ca o)) no_contents
 
 -- ---- a database without tables
 

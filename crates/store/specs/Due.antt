@@ -7,14 +7,11 @@ use Rattle.office.specs.declared.ca.Ca.{Ca}
 use Rattle.office.specs.declared.view.Decision.{Decision}
 use Rattle.office.specs.State.{State, next_serial}
 use Rattle.office.specs.Decided.{HasRoom, written}
+pub use Rattle.office.specs.History.{kept_of}
 use Rattle.store_sql.specs.declared.offices.Counters.{Counters}
 use Rattle.store_sql.specs.Contents.{Contents, Means}
 use Rattle.store.specs.Lawful.{IsLawful}
 use Rattle.store.specs.Rows.{contents_of}
-
--- the stored request for a received request with this reply
-abbrev pub kept_of : Arrival → List ℕ → Kept
-kept_of a reply = record { caller = a.caller; key = a.key; bytes = a.bytes; reply = reply }
 
 abbrev pub counters_of : Decision → Counters
 counters_of d = record { next = d.next; version = d.version; date = d.date }

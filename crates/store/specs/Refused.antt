@@ -14,8 +14,7 @@ use Rattle.store_sql.specs.Changes.{with_counters, with_request}
 use Rattle.store_sql.specs.Runs.{without_runs}
 use Rattle.store_sql.specs.Refusals.{IsFull, IsTooLong, RefusesCa, RefusesCert, RefusesCounters}
 use Rattle.store_sql.specs.Refusals.{RefusesDepartment, RefusesRequest, RefusesRun, RefusesSignature}
-use Rattle.store.specs.Rows.{cert_row, department_row, request_row}
-use Rattle.store.specs.Changing.{ca_from}
+use Rattle.store.specs.Rows.{ca_row, cert_row, department_row, request_row}
 use Rattle.store.specs.Due.{counters_of, kept_of}
 use Rattle.store.specs.Ranges.{joined_run}
 use Rattle.store_sql.specs.declared.runs.RunRow.{RunRow}
@@ -36,7 +35,7 @@ RefusesChange number since (change.Certificate cert) c = RefusesCert (cert_row c
 RefusesChange number since (change.Signature serial signature) c = RefusesSignature serial signature.bytes c
 RefusesChange number since (change.Range r) c = RefusesRange r c
 RefusesChange number since (change.KeyId key_id) c = IsTooLong (key_id_cells key_id) ⊎ IsFull c.revoked
-RefusesChange number since (change.Ca ca) c = RefusesCa (ca_from number since ca) c
+RefusesChange number since (change.Ca ca) c = RefusesCa (ca_row number since ca) c
 
 -- the counters are refused, or after them the row of the request
 abbrev pub RefusesRecord : Counters → RequestRow → Contents → Type 0

@@ -64,13 +64,13 @@ request_row k = record { caller = k.caller; key = k.key; message = k.bytes; repl
 abbrev pub run_row : Run → RunRow
 run_row r = record { lo = r.lo; hi = r.hi }
 
-abbrev pub ca_row : ℕ → Ca → CaRow
-ca_row number ca = record { number = number; ca = key_blob ca.key; since = ca.since }
+abbrev pub ca_row : (number since : ℕ) → Ca → CaRow
+ca_row number since ca = record { number = number; ca = key_blob ca.key; since = since }
 
 -- the rows of CAs, numbered from this number on
 abbrev pub ca_rows : ℕ → List Ca → List CaRow
 ca_rows number [] = []
-ca_rows number (ca ∷ cas) = ca_row number ca ∷ ca_rows (suc number) cas
+ca_rows number (ca ∷ cas) = ca_row number ca.since ca ∷ ca_rows (suc number) cas
 
 -- the maximal runs of the revoked serials
 abbrev pub revoked_runs : State → List Run

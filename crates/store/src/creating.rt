@@ -42,7 +42,7 @@ fn office_row(alloc: Global, opening: &Opening) -> Result<OfficeRow, NoMemory>
 
 fn ca_row(alloc: Global, opening: &Opening) -> Result<CaRow, NoMemory>
     requires { IsOpening opening.now }
-    ensures { IfOk result (λ row. row ≡ ca_row 1 (first_ca opening.now)) }
+    ensures { IfOk result (λ row. row ≡ ca_row 1 opening.now.first (first_ca opening.now)) }
 {
     Ok(CaRow {
         number: number(1),

@@ -8,9 +8,9 @@ ghost use Rattle.office.specs.declared.view.Change.TheVariants as change;
 ghost use Rattle.office.specs.Certificates.{IsCertificate};
 ghost use Rattle.office.specs.Decided.{IsLawfulChange};
 ghost use Rattle.store_sql.specs.Refusals.{RefusesCa, RefusesCert, RefusesDepartment};
-ghost use Rattle.store.specs.Rows.{cert_row, department_row};
+ghost use Rattle.store.specs.Rows.{ca_row, cert_row, department_row};
 ghost use Rattle.store.specs.Transactions.{Does, FailsFor, Has, Makes, Waits};
-ghost use Rattle.store.specs.Changing.{ca_from, with_change, with_key_id_row};
+ghost use Rattle.store.specs.Changing.{with_change, with_key_id_row};
 ghost use Rattle.store.specs.Refused.{RefusesChange};
 
 use crate::rows::{department_row, number as row_number};
@@ -69,7 +69,7 @@ fn add_ca<S: Alter>(
     since: Number,
     ca: &Ca,
 ) -> Result<(), Fault>
-    ensures { Does S.Store (with_change number since (change.Ca ca.now)) (RefusesCa (ca_from number since ca.now))
+    ensures { Does S.Store (with_change number since (change.Ca ca.now)) (RefusesCa (ca_row number since ca.now))
         conn.old conn.new result }
 {
     let row = ca_row(alloc, number, since, ca)?;

@@ -2,8 +2,7 @@
 
 ghost use Rattle.std.specs.Prelude.{◌≡◌, ◌<◌, ◌^◌, IfOk, IfSome, IsSome};
 ghost use Rattle.std.specs.Option.{option_map};
-ghost use Rattle.store.specs.Rows.{cert_row, request_row};
-ghost use Rattle.store.specs.Changing.{ca_from};
+ghost use Rattle.store.specs.Rows.{ca_row, cert_row, request_row};
 ghost use Rattle.store.specs.Due.{Fits, counters_of, kept_of};
 
 use crate::rows::number;
@@ -43,7 +42,7 @@ pub(crate) fn ca_row(
     since: Number,
     ca: &Ca,
 ) -> Result<CaRow, NoMemory>
-    ensures { IfOk result (λ row. row ≡ ca_from number since ca.now) }
+    ensures { IfOk result (λ row. row ≡ ca_row number since ca.now) }
 {
     let blob = Text::from_slice(alloc, &key_blob_of(&ca.key))?;
     Ok(CaRow {
