@@ -1,18 +1,16 @@
 -- What a request asks for: it is valid, later bytes don't change it, and it is short exactly when bytes are missing.
-use Rattle.std.proofs.Common.{lit≤, ◌≡◌, ◌↔◌, inl, inr, ℕ, ◌<◌, ◌≤◌, List, [], ◌∷◌, ◌++◌, length, take, Bool, true}
-use Rattle.std.proofs.Common.{false, cond, refl, sym, ap, subst, ◌∙◌, arith, length-append, codes, nat_lt}
+use Rattle.http_requests.proofs.Words.{Ask, Asks, BadHead, Bool, HeadAsks, IsLawfulAsk, IsPath, List, Path}
+use Rattle.http_requests.proofs.Words.{ReadsRequest-append, RequestHead, [], ap, arith, asked_at, codes, cond}
+use Rattle.http_requests.proofs.Words.{digits_value, false, inl, inr, length, length-append, length-take, lengths, lit≤}
+use Rattle.http_requests.proofs.Words.{message, nat_lt, nat_tests, refl, resource, subst, sym, take, take-append-le}
+use Rattle.http_requests.proofs.Words.{true, ℕ, ◌++◌, ◌<◌, ◌∙◌, ◌∷◌, ◌≡◌, ◌≤◌}
+use Rattle.std.proofs.Common.{◌↔◌}
 use Rattle.std.specs.Str.{bytes_eq}
-use Rattle.std.specs.Str.Parse.{digits_value}
 use Rattle.std.proofs.lemmas.Bool.{cond_both}
-use Rattle.std.proofs.lemmas.Bool.Decides.{nat_tests}
-use Rattle.std.proofs.lemmas.List.{length-take, take-append-le}
-use Rattle.httparse.specs.Grammar.{RequestHead}
-use Rattle.httparse.proofs.GrammarLemmas.{ReadsRequest-append}
-use Rattle.values.specs.declared.refusal.Refusal.TheVariants.{BadHead, NoRoute, WrongMethod}
+use Rattle.values.specs.declared.refusal.Refusal.TheVariants.{NoRoute, WrongMethod}
 use Rattle.values.specs.declared.refusal.Refusal.TheVariants.{LengthRequired, TooLong, ShortBody}
-use Rattle.http_requests.specs.Heads.{IsHead, lengths, is_coded}
-use Rattle.http_requests.specs.Paths.{Path, message, resource, IsPath}
-use Rattle.http_requests.specs.Asks.{Ask, refused, get, post, posted, asked_at, HeadAsks, Asks, IsLawfulAsk}
+use Rattle.http_requests.specs.Heads.{IsHead, is_coded}
+use Rattle.http_requests.specs.Asks.{refused, get, post, posted}
 use Rattle.http_requests.specs.BodySizes.{stated_size, size_at, WantsBody}
 use Rattle.http_requests.proofs.OneAsk.{same_path}
 

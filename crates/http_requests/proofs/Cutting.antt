@@ -1,13 +1,10 @@
 -- Dividing the path of a message into caller and key.
-use Rattle.std.proofs.Common.{◌≡◌, ℕ, List, ◌∷◌, ◌++◌, length, drop, take, Some, ap, refl, sym, ◌∙◌}
-use Rattle.std.proofs.Common.{arith, ◌==◌, codes, length-append}
+use Rattle.http_requests.proofs.Words.{IsPath, List, Some, and_parts, ap, arith, codes, drop, drop-append_seam}
+use Rattle.http_requests.proofs.Words.{has_size, is_name_byte, lacks_from, length, length-append, lt-ltb, message}
+use Rattle.http_requests.proofs.Words.{path_text, refl, sym, take, take-append_seam, ℕ, ◌++◌, ◌==◌, ◌∙◌, ◌∷◌, ◌≡◌}
 use Rattle.std.specs.Prelude.{position}
-use Rattle.std.proofs.lemmas.Bool.{and_parts, lt-ltb}
 use Rattle.std.proofs.lemmas.Option.{same_Some}
-use Rattle.std.proofs.Math.Seq.{take-append_seam, drop-append_seam}
-use Rattle.values.specs.Names.{is_name_byte, has_size}
-use Rattle.values.proofs.Lacking.{first_after, lacks_from}
-use Rattle.http_requests.specs.Paths.{message, IsPath, path_text}
+use Rattle.values.proofs.Lacking.{first_after}
 
 -- the rest of a message's path, after its prefix, is divided at its first slash
 pub record IsCut (rest caller key : List ℕ) : Type 0 where

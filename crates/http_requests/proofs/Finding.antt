@@ -1,26 +1,17 @@
 -- The text of each path finds its route.
-use Rattle.std.proofs.Common.{◌≡◌, ℕ, ◌<◌, List, [], ◌∷◌, ◌++◌, length, get_or, true, false, IsTrue, nat_le, Bool, Some}
-use Rattle.std.proofs.Common.{refl, sym, ap, ◌∙◌, subst, arith, codes, decimal, ◌==◌}
+use Rattle.http_requests.proofs.Words.{Body, Bool, Certificate, Fixed, IsPath, IsTrue, List, Message, Path, RouteKind}
+use Rattle.http_requests.proofs.Words.{RouteOf, Some, [], and_parts, ap, arith, codes, decimal, false, first, get_or}
+use Rattle.http_requests.proofs.Words.{has_size, is_name, is_name_byte, is_serial, lacks_from, length, list_all}
+use Rattle.http_requests.proofs.Words.{message, nat_le, nat_tests, path_text, refl, resource, route_row, routing}
+use Rattle.http_requests.proofs.Words.{serial_small, subst, sym, true, ℕ, ◌++◌, ◌<◌, ◌==◌, ◌∙◌, ◌∷◌, ◌≡◌}
 use Rattle.std.specs.Char.{is_ascii_digit}
-use Rattle.std.specs.List.{list_all}
-use Rattle.std.proofs.lemmas.Bool.{and_parts, leb-true}
-use Rattle.std.proofs.lemmas.Bool.Decides.{nat_tests}
+use Rattle.std.proofs.lemmas.Bool.{leb-true}
 use Rattle.std.proofs.lemmas.Fmt.{decimal_nonempty, digits_decimal}
 use Rattle.std.proofs.lemmas.List.Elements.{recursion_from_All}
 use Rattle.std.proofs.lemmas.List.Sums.{AllPass-from_list_all}
-use Rattle.matchit.specs.Router.{RouteOf}
-use Rattle.matchit.specs.Seek.{first}
 use Rattle.matchit.proofs.OnLiterals.{matchit_on_literals}
-use Rattle.values.specs.Names.{is_name, is_name_byte, has_size}
-use Rattle.values.specs.Serials.{is_serial}
 use Rattle.values.proofs.DecimalLemmas.{own}
-use Rattle.values.proofs.Lacking.{lacks_from}
-use Rattle.values.proofs.SerialLemmas.{serial_small}
 use Rattle.http_requests.specs.declared.resource.Resource.TheVariants as a
-use Rattle.http_requests.specs.declared.router.RouteKind.{RouteKind}
-use Rattle.http_requests.specs.declared.router.RouteKind.TheVariants.{Message, Certificate, Body, Fixed}
-use Rattle.http_requests.specs.Paths.{Path, message, resource, IsPath, path_text}
-use Rattle.http_requests.specs.Routing.{routing, route_row}
 use Rattle.http_requests.proofs.Seeking.{IsPart, lits, at_end, cuts_none, cuts_slash, to_slash, to_end}
 
 -- ---- parameters

@@ -1,12 +1,11 @@
 -- Heads in the bytes of a request and in a prefix of them.
-use Rattle.std.proofs.Common.{◌≡◌, ℕ, ◌+◌, ◌-◌, ◌≤◌, List, ◌++◌, length, take}
-use Rattle.std.proofs.Common.{drop, min, sym, ap, ◌∙◌, arith, length-append}
+use Rattle.http_requests.proofs.Words.{Field, List, ReadsRequest, ReadsRequest-append, RequestHead, ap, arith, drop}
+use Rattle.http_requests.proofs.Words.{length, length-append, length-take, min, print_request, sym, take}
+use Rattle.http_requests.proofs.Words.{take-append-drop, ℕ, ◌++◌, ◌+◌, ◌-◌, ◌∙◌, ◌≡◌, ◌≤◌}
 use Rattle.std.proofs.Math.Seq.{take-append-add}
-use Rattle.std.proofs.lemmas.List.{take-append-drop, drop-append-le, length-map, length-take}
+use Rattle.std.proofs.lemmas.List.{drop-append-le, length-map}
 use Rattle.httparse.specs.declared.spans.HeaderSpan.{HeaderSpan}
-use Rattle.httparse.specs.Grammar.{RequestHead, Field, ReadsRequest, print_request}
 use Rattle.httparse.specs.Spans.{AreFieldsAt}
-use Rattle.httparse.proofs.GrammarLemmas.{ReadsRequest-append}
 
 -- a head of the prefix is a head of the bytes
 pub head_of_front : (bytes : List ℕ) (n k : ℕ) (h : RequestHead) → k ≤ length (take n bytes)

@@ -1,18 +1,14 @@
 -- What a found route implies about the path.
-use Rattle.std.proofs.Common.{◌≡◌, ◌⊎◌, inl, inr, ℕ, zero, suc, ◌-◌, List, [], ◌∷◌, length, drop}
-use Rattle.std.proofs.Common.{Option, Some, None, Bool, true, false, cond, refl, ap, ◌∙◌, subst, ◌==◌}
-use Rattle.std.specs.Prelude.{⊤, ltb}
-use Rattle.std.specs.List.{list_all, AllByRecursion}
-use Rattle.std.proofs.lemmas.Bool.{and_parts, eqb-true}
-use Rattle.matchit.specs.Rows.{RowsOf, param_token, catch_all_token}
-use Rattle.matchit.specs.Router.{RouteOf}
-use Rattle.matchit.specs.Seek.{own, step, or_else, seek, first, param_step, has_slash}
-use Rattle.matchit.specs.Seek.{with_suffix, same_text, segment, longest_suffix}
-use Rattle.http_requests.specs.declared.resource.Resource.{Resource}
-use Rattle.http_requests.specs.declared.router.RouteKind.{RouteKind}
-use Rattle.http_requests.specs.declared.router.RouteKind.TheVariants.{Fixed}
-use Rattle.http_requests.specs.Paths.{resource, IsPath, path_text}
-use Rattle.http_requests.specs.Routing.{routing}
+use Rattle.http_requests.proofs.Words.{AllByRecursion, Bool, Fixed, IsPath, List, None, Option, Resource, RouteKind}
+use Rattle.http_requests.proofs.Words.{RouteOf, RowsOf, Some, [], and_parts, ap, cond, drop, false, first, has_slash}
+use Rattle.http_requests.proofs.Words.{inl, inr, length, list_all, longest_suffix, ltb, own, param_token, path_text}
+use Rattle.http_requests.proofs.Words.{refl, resource, routing, segment, step, subst, suc, true, with_suffix, zero, ℕ}
+use Rattle.http_requests.proofs.Words.{◌-◌, ◌==◌, ◌∙◌, ◌∷◌, ◌≡◌, ◌⊎◌}
+use Rattle.std.specs.Prelude.{⊤}
+use Rattle.std.proofs.lemmas.Bool.{eqb-true}
+use Rattle.matchit.specs.Rows.{catch_all_token}
+use Rattle.matchit.specs.Seek.{or_else, seek, param_step}
+use Rattle.matchit.specs.Seek.{same_text}
 
 -- the property holds of each row: of the rest of its pattern, and of its key
 abbrev AllRows : {K : Type 0} → (List ℕ → K → Type 0) → RowsOf K → Type 0

@@ -1,18 +1,10 @@
 -- Distinct paths have distinct texts, so a request has at most one reading.
-use Rattle.std.proofs.Common.{◌≡◌, true, inl, inr, ℕ, List, length, drop}
-use Rattle.std.proofs.Common.{refl, sym, ap, ◌∙◌, subst, codes, decimal}
+use Rattle.http_requests.proofs.Words.{Ask, Asks, Fixed, HeadAsks, IsPath, List, Path, RequestHead, Resource, ap}
+use Rattle.http_requests.proofs.Words.{asked_at, codes, decimal, decimal_injective, drop, inl, inr, is_serial, length}
+use Rattle.http_requests.proofs.Words.{message, path_text, refl, request_unique, resource, route_row, serial_small}
+use Rattle.http_requests.proofs.Words.{subst, sym, true, ℕ, ◌∙◌, ◌≡◌}
 use Rattle.std.proofs.lemmas.List.{append_cancel_right}
-use Rattle.std.proofs.lemmas.Fmt.{decimal_injective}
-use Rattle.httparse.specs.Grammar.{RequestHead}
-use Rattle.httparse.proofs.GrammarLemmas.{request_unique}
-use Rattle.http_requests.specs.declared.resource.Resource.{Resource}
 use Rattle.http_requests.specs.declared.resource.Resource.TheVariants.{Certificate, Body}
-use Rattle.http_requests.specs.declared.router.RouteKind.TheVariants.{Fixed}
-use Rattle.values.specs.Serials.{is_serial}
-use Rattle.values.proofs.SerialLemmas.{serial_small}
-use Rattle.http_requests.specs.Paths.{Path, message, resource, IsPath, path_text}
-use Rattle.http_requests.specs.Routing.{route_row}
-use Rattle.http_requests.specs.Asks.{Ask, HeadAsks, Asks, asked_at}
 use Rattle.http_requests.proofs.Finding.{routed, same_route, kind_at}
 use Rattle.http_requests.proofs.Cutting.{message_cut}
 

@@ -1,14 +1,11 @@
 -- Heads in bytes that come one at a time.
-use Rattle.std.proofs.Common.{◌≡◌, ℕ, ◌≤◌, List, [], ◌∷◌, ◌++◌, length, take, Bool, true}
-use Rattle.std.proofs.Common.{false, refl, sym, ap, ◌∙◌, arith, length-append, subst, nat_lt}
-use Rattle.std.proofs.Math.Seq.{take-append_seam, take-length}
-use Rattle.std.proofs.lemmas.List.{append-nil, take-append-le}
-use Rattle.std.proofs.lemmas.Bool.Decides.{nat_tests}
-use Rattle.httparse.specs.Grammar.{RequestHead, ReadsRequest, print_request}
-use Rattle.httparse.proofs.GrammarLemmas.{ReadsRequest-append}
+use Rattle.http_requests.proofs.Words.{Bool, HasCome, List, ReadsRequest, ReadsRequest-append, RequestHead, Waits, []}
+use Rattle.http_requests.proofs.Words.{ap, append-nil, arith, false, length, length-append, nat_lt, nat_tests}
+use Rattle.http_requests.proofs.Words.{print_request, refl, subst, sym, take, take-append-le, take-append_seam, true, ℕ}
+use Rattle.http_requests.proofs.Words.{◌++◌, ◌∙◌, ◌∷◌, ◌≡◌, ◌≤◌}
+use Rattle.std.proofs.Math.Seq.{take-length}
 use Rattle.http_requests.specs.Heads.{IsGood}
-use Rattle.http_requests.specs.Reading.{HoldsNone, IsNoMore, HasCome, WaitsBefore}
-use Rattle.http_requests.specs.declared.progress.Progress.TheVariants.{Waits}
+use Rattle.http_requests.specs.Reading.{HoldsNone, IsNoMore, WaitsBefore}
 
 -- the empty list has no shorter prefix
 pub waits_before_nothing : WaitsBefore []

@@ -1,15 +1,11 @@
 -- The search of a router along a path: through literal bytes, and past a parameter.
-use Rattle.std.proofs.Common.{◌≡◌, ℕ, zero, suc, ◌-◌, ◌<◌, List, [], ◌∷◌, ◌++◌, length, get_or, drop, Some, None}
-use Rattle.std.proofs.Common.{true, false, cond, refl, ap, ◌∙◌, subst, arith, ◌==◌, nat_eq, length-append}
-use Rattle.std.specs.Prelude.{ltb}
-use Rattle.std.specs.List.{AllByRecursion}
-use Rattle.std.specs.Cmp.Lexicographic.{pointwise}
-use Rattle.std.proofs.Math.Seq.{drop-append_seam}
-use Rattle.std.proofs.lemmas.Bool.{lt-ltb, and_right}
-use Rattle.std.proofs.lemmas.Bool.Decides.{nat_tests}
-use Rattle.std.proofs.lemmas.List.{append-nil}
-use Rattle.matchit.specs.Rows.{RowsOf, param_token}
-use Rattle.matchit.specs.Seek.{own, step, seek, param_step, has_slash, with_suffix, segment, longest_suffix, cuts}
+use Rattle.http_requests.proofs.Words.{AllByRecursion, List, None, RowsOf, Some, [], ap, append-nil, arith, cond, drop}
+use Rattle.http_requests.proofs.Words.{drop-append_seam, false, get_or, has_slash, length, length-append}
+use Rattle.http_requests.proofs.Words.{longest_suffix, lt-ltb, ltb, nat_eq, nat_tests, own, param_token, pointwise}
+use Rattle.http_requests.proofs.Words.{refl, segment, step, subst, suc, true, with_suffix, zero, ℕ, ◌++◌, ◌-◌, ◌<◌}
+use Rattle.http_requests.proofs.Words.{◌==◌, ◌∙◌, ◌∷◌, ◌≡◌}
+use Rattle.std.proofs.lemmas.Bool.{and_right}
+use Rattle.matchit.specs.Seek.{seek, param_step, cuts}
 
 -- the rows after these bytes
 abbrev pub steps : {K : Type 0} → List ℕ → RowsOf K → RowsOf K

@@ -1,18 +1,14 @@
 -- One more arrival over the lists.
-use Rattle.std.proofs.Common.{◌≡◌, ℕ, ◌+◌, ◌<◌, ◌≤◌, List, [], ◌∷◌, ◌++◌, None, Result, Ok, Err, sym, ap, subst, ◌∙◌, arith}
+use Rattle.memory_store.proofs.Words.{Arrival, Decision, Err, Kept, List, MemoryContents, None, Ok, Opening, Result}
+use Rattle.memory_store.proofs.Words.{Shows, State, [], ap, arith, judged, reply_kept, state_of, subst, sym, ℕ, ◌++◌}
+use Rattle.memory_store.proofs.Words.{◌+◌, ◌<◌, ◌∙◌, ◌∷◌, ◌≡◌, ◌≤◌}
 use Rattle.std.specs.Prelude.{IsOkAnd}
 use Rattle.values.specs.declared.refusal.Refusal.{Refusal}
-use Rattle.office.specs.declared.opening.Opening.{Opening}
-use Rattle.office.specs.declared.arrival.Arrival.{Arrival}
-use Rattle.office.specs.declared.arrival.Kept.{Kept}
 use Rattle.office.specs.declared.arrival.Outcome.TheVariants as outcome
-use Rattle.office.specs.declared.view.Decision.{Decision}
-use Rattle.office.specs.Machine.{State}
 use Rattle.office.specs.Decided.{written}
-use Rattle.office.specs.History.{First, judged, change, kept_row, reply_kept, due, kept_of}
-use Rattle.office.specs.Shows.{Shows}
+use Rattle.office.specs.History.{First, change, kept_row, due, kept_of}
 use Rattle.office.proofs.Steps.{shows_accepted}
-use Rattle.memory_store.specs.Contents.{MemoryContents, state_of, WritesDecision}
+use Rattle.memory_store.specs.Contents.{WritesDecision}
 
 -- a decision that was written is the specified outcome
 pub accepted : (t new : MemoryContents) (o : Opening) (l : List Arrival) (a : Arrival) (d : Decision) (j : Result First Refusal)

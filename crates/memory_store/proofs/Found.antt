@@ -1,17 +1,8 @@
 -- Finding departments by name.
-use Rattle.std.proofs.Common.{◌≡◌, ℕ, List, [], ◌∷◌, Bool, true, false, cond, Some, refl, ◌∙◌}
-use Rattle.std.specs.Prelude.{find, IsTrue, IfSome}
-use Rattle.std.specs.List.{list_all}
-use Rattle.std.specs.Str.{bytes_eq}
+use Rattle.memory_store.proofs.Words.{Bool, Department, IfSome, IsTrue, List, Some, [], and_parts, bytes_eq, cond}
+use Rattle.memory_store.proofs.Words.{entries, false, find, has_department_name, is_department, is_eq, is_eq-slice_cmp}
+use Rattle.memory_store.proofs.Words.{list_all, nat_cmp, nat_list_eq_equiv, refl, slice_cmp, true, ℕ, ◌∙◌, ◌∷◌, ◌≡◌}
 use Rattle.std.specs.FinMap.Entries as entry
-use Rattle.std.specs.Cmp.Lexicographic.{slice_cmp}
-use Rattle.std.specs.Ordering.{nat_cmp, is_eq}
-use Rattle.std.proofs.lemmas.Bool.{and_parts}
-use Rattle.std.proofs.lemmas.Cmp.{nat_list_eq_equiv}
-use Rattle.std.proofs.lemmas.Map.Text.{is_eq-slice_cmp}
-use Rattle.message.specs.declared.department.Department.{Department}
-use Rattle.message.specs.Values.{is_department}
-use Rattle.memory_store.specs.Departments.{entries, has_department_name}
 
 -- the department with a name is found among the entries
 pub find-entries : (name : List ℕ) (ds : List Department) → entry.find (slice_cmp nat_cmp) name (entries ds) ≡ find (λ d. has_department_name d name) ds

@@ -1,23 +1,16 @@
 -- The invariants of the lists, after each change.
-use Rattle.std.proofs.Common.{◌≡◌, ℕ, zero, suc, ◌+◌, ◌-◌, ◌≤◌, ◌<◌, List, [], ◌∷◌, ◌++◌, length, true, false, cond, None, arith, length-append}
-use Rattle.std.specs.Prelude.{All, IfSome, nat_lt, slice_get, slice_index_or}
-use Rattle.std.specs.FinMap.Entries.{put}
-use Rattle.std.specs.Cmp.Lexicographic.{slice_cmp}
-use Rattle.std.specs.Ordering.{nat_cmp}
+use Rattle.memory_store.proofs.Words.{Ca, Certificate, Department, IfSome, IsCertificate, List, MemoryContents, None}
+use Rattle.memory_store.proofs.Words.{Signature, [], arith, certificate_of, cond, entries, false, is_department, length}
+use Rattle.memory_store.proofs.Words.{nat_cmp, nat_lt, put, signed_at, slice_cmp, slice_get, slice_index_or, state_of}
+use Rattle.memory_store.proofs.Words.{suc, true, zero, ℕ, ◌++◌, ◌+◌, ◌<◌, ◌∷◌, ◌≡◌, ◌≤◌}
+use Rattle.std.proofs.Common.{◌-◌, length-append}
+use Rattle.std.specs.Prelude.{All}
 use Rattle.std.proofs.lemmas.List.{map-append}
 use Rattle.std.proofs.lemmas.List.Elements.{All-head, All-tail, All-push}
 use Rattle.std.proofs.lemmas.List.Sorted.{IsNonDecreasingBy-push}
-use Rattle.lines.specs.declared.signature.Signature.{Signature}
-use Rattle.message.specs.declared.department.Department.{Department}
-use Rattle.message.specs.Values.{is_department}
-use Rattle.office.specs.declared.ca.Ca.{Ca}
-use Rattle.office.specs.declared.certificate.Certificate.{Certificate}
-use Rattle.office.specs.Certificates.{IsCertificate}
-use Rattle.office.specs.Machine.{signed_at, certificate_of}
-use Rattle.memory_store.specs.Departments.{entries}
 use Rattle.office.specs.Parts.{numbers}
 use Rattle.office.proofs.Growth.{length-signed_at}
-use Rattle.memory_store.specs.Contents.{MemoryContents, AreKept, state_of}
+use Rattle.memory_store.specs.Contents.{AreKept}
 use Rattle.memory_store.proofs.Places.{all_after_put}
 
 -- an element that exists has a property that all have

@@ -1,16 +1,9 @@
 -- Key IDs put in their places.
-use Rattle.std.proofs.Common.{◌≡◌, ℕ, suc, List, [], ◌∷◌, length, Bool, true, false, cond, refl, ap, ◌∙◌}
-use Rattle.std.specs.Prelude.{slice_get}
-use Rattle.std.specs.List.{take_while, insert}
-use Rattle.std.specs.declared.cmp.Ordering.{Ordering}
-use Rattle.std.specs.declared.cmp.Ordering.TheVariants.{Less, Equal, Greater}
-use Rattle.std.specs.Cmp.Lexicographic.{slice_cmp}
-use Rattle.std.specs.Ordering.{is_gt, nat_cmp}
-use Rattle.std.specs.Str.{bytes_eq}
-use Rattle.std.proofs.lemmas.Cmp.{nat_list_eq_equiv}
-use Rattle.std.proofs.lemmas.List.Sums.{take_while-cons}
+use Rattle.memory_store.proofs.Words.{Bool, Equal, Greater, Less, List, Ordering, [], ap, bytes_eq, cond, false, insert}
+use Rattle.memory_store.proofs.Words.{is_at, is_gt, length, nat_cmp, nat_list_eq_equiv, place_among, refl, slice_cmp}
+use Rattle.memory_store.proofs.Words.{slice_get, suc, take_while, take_while-cons, true, ℕ, ◌∙◌, ◌∷◌, ◌≡◌}
 use Rattle.office.specs.Machine.{put_text}
-use Rattle.memory_store.specs.KeyIds.{comes_after, place_among, is_at}
+use Rattle.memory_store.specs.KeyIds.{comes_after}
 use Rattle.memory_store.proofs.Places.{tie_is}
 
 place-cons : (u : List ℕ) (us : List (List ℕ)) (t : List ℕ) → place_among (u ∷ us) t ≡ cond (comes_after t u) (suc (place_among us t)) 0

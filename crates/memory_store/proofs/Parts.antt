@@ -1,16 +1,11 @@
 -- The published list after a history.
-use Rattle.std.proofs.Common.{◌≡◌, List, refl, sym, subst}
-use Rattle.office.specs.declared.opening.Opening.{Opening}
-use Rattle.office.specs.declared.arrival.Arrival.{Arrival}
-use Rattle.office.specs.declared.arrival.Kept.{Kept}
+use Rattle.memory_store.proofs.Words.{AreParts, Arrival, Kept, List, MemoryContents, Opening, Shows, head_of, refl}
+use Rattle.memory_store.proofs.Words.{state_of, subst, sym, ◌≡◌}
 use Rattle.office.specs.declared.publication.Revoked.{Revoked}
-use Rattle.office.specs.Parts.{AreParts}
-use Rattle.office.specs.Publication.{AreRevoked, head_of}
+use Rattle.office.specs.Publication.{AreRevoked}
 use Rattle.office.specs.History.{state}
-use Rattle.office.specs.Shows.{Shows}
 use Rattle.office.proofs.Parts.{AreIssued, parts_are_published}
 use Rattle.office.proofs.Ranges.{revoked_is_issued}
-use Rattle.memory_store.specs.Contents.{MemoryContents, state_of}
 
 -- the published list that the lists give is that of the history
 pub shown : (t : MemoryContents) (kept : List Kept) (o : Opening) (l : List Arrival) (r : Revoked) → r.head ≡ head_of (state_of t)

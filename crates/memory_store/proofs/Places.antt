@@ -1,20 +1,14 @@
 -- Departments put in their places.
-use Rattle.std.proofs.Common.{◌≡◌, ℕ, suc, List, [], ◌∷◌, length, map, Bool, true, false, cond, ◌&&◌, refl, sym, ap, ◌∙◌}
-use Rattle.std.specs.Prelude.{slice_set, slice_get}
-use Rattle.std.specs.List.{take_while, insert, list_all}
-use Rattle.std.specs.declared.cmp.Ordering.{Ordering}
-use Rattle.std.specs.declared.cmp.Ordering.TheVariants.{Less, Equal, Greater}
-use Rattle.std.specs.FinMap.Entries.{put, by_order}
-use Rattle.std.specs.Cmp.Lexicographic.{slice_cmp}
-use Rattle.std.specs.Ordering.{is_gt, is_eq, nat_cmp}
-use Rattle.std.specs.Str.{bytes_eq}
-use Rattle.std.proofs.lemmas.List.Sums.{take_while-cons}
-use Rattle.std.proofs.lemmas.Map.Text.{is_eq-slice_cmp}
-use Rattle.std.proofs.lemmas.Bool.{and_parts, and_from}
-use Rattle.std.proofs.lemmas.Cmp.{nat_list_eq_equiv}
+use Rattle.memory_store.proofs.Words.{Bool, Department, Equal, Greater, Less, List, Ordering, [], and_parts, ap}
+use Rattle.memory_store.proofs.Words.{bytes_eq, cond, entries, false, insert, is_department_named, is_eq}
+use Rattle.memory_store.proofs.Words.{is_eq-slice_cmp, is_gt, length, list_all, nat_cmp, nat_list_eq_equiv, place_of}
+use Rattle.memory_store.proofs.Words.{put, refl, slice_cmp, slice_get, slice_set, suc, sym, take_while, take_while-cons}
+use Rattle.memory_store.proofs.Words.{true, ℕ, ◌∙◌, ◌∷◌, ◌≡◌}
+use Rattle.std.proofs.Common.{map, ◌&&◌}
+use Rattle.std.specs.FinMap.Entries.{by_order}
+use Rattle.std.proofs.lemmas.Bool.{and_from}
 use Rattle.std.proofs.lemmas.Slice.Eq.{bytes_eq-Decides}
-use Rattle.message.specs.declared.department.Department.{Department}
-use Rattle.memory_store.specs.Departments.{entry, entries, is_before, place_of, is_department_named}
+use Rattle.memory_store.specs.Departments.{entry, is_before}
 
 place-cons : (d : Department) (ds : List Department) (name : List ℕ) → place_of (d ∷ ds) name ≡ cond (is_before d name) (suc (place_of ds name)) 0
 place-cons d ds name =

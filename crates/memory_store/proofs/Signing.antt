@@ -1,9 +1,7 @@
 -- A certificate signed in its place.
-use Rattle.std.proofs.Common.{◌≡◌, ℕ, zero, suc, ◌<◌, ◌≤◌, List, [], ◌∷◌, length, refl, ap, arith}
-use Rattle.std.specs.Prelude.{slice_set, slice_index_or}
-use Rattle.lines.specs.declared.signature.Signature.{Signature}
-use Rattle.office.specs.declared.certificate.Certificate.{Certificate}
-use Rattle.office.specs.Machine.{signed, signed_at}
+use Rattle.memory_store.proofs.Words.{Certificate, List, Signature, [], ap, arith, length, refl, signed_at}
+use Rattle.memory_store.proofs.Words.{slice_index_or, slice_set, suc, zero, ℕ, ◌<◌, ◌∷◌, ◌≡◌, ◌≤◌}
+use Rattle.office.specs.Machine.{signed}
 
 -- signing the certificate c at the place, given that an indexed read with c as the default returns c
 pub set_signed : (cs : List Certificate) (c : Certificate) (place : ℕ) (s : Signature) → c ≡ slice_index_or cs place c → place < length cs → slice_set cs place (signed c s) ≡ signed_at cs place s

@@ -1,19 +1,15 @@
 -- From `decide` to `judge`, and from rows to the state.
-use Rattle.std.proofs.Common.{◌≡◌, true, false, Some, None, Result, Ok, Err, refl, sym, ap}
-use Rattle.std.specs.Prelude.{nat_lt}
-use Rattle.std.specs.List.{list_any}
+use Rattle.memory_store.proofs.Words.{Arrival, Decision, Err, MemoryContents, None, Ok, Result, Some, ap, false}
+use Rattle.memory_store.proofs.Words.{has_key, judged, list_any, message_with_text, nat_lt, refl, state_of, sym, true}
+use Rattle.memory_store.proofs.Words.{◌≡◌}
 use Rattle.values.specs.declared.limits.TheConstants.{LATEST_MOMENT}
 use Rattle.values.specs.declared.refusal.Refusal.TheVariants.{BadMessage, BadMoment, KeyReused}
 use Rattle.message.specs.declared.kinds.Message.{Message}
-use Rattle.office.specs.declared.arrival.Arrival.{Arrival}
-use Rattle.office.specs.declared.view.Decision.{Decision}
 use Rattle.office.specs.declared.view.Stop.{Stop}
 use Rattle.office.specs.declared.view.Stop.TheVariants.{Refused, NoMemory}
-use Rattle.office.specs.Messages.{message_with_text}
 use Rattle.office.specs.Machine.{Stepped, first_holding, refusals, after, reply_to}
-use Rattle.office.specs.History.{has_key, judged}
 use Rattle.office.specs.Decided.{Decided, stepped_by}
-use Rattle.memory_store.specs.Contents.{MemoryContents, state_of, JudgesArrival}
+use Rattle.memory_store.specs.Contents.{JudgesArrival}
 use Rattle.office.proofs.Judged.{step_gives}
 
 -- ---- the message

@@ -1,19 +1,13 @@
 -- Lemmas for the clauses of `Agrees`, according to the names in the message.
-use Rattle.std.proofs.Common.{◌≡◌, ℕ, ◌≤◌, List, [], ◌∷◌, length, Bool, true, false, ◌&&◌, Option, Some, None}
-use Rattle.std.proofs.Common.{refl, sym, ap, subst, ◌∙◌, arith}
-use Rattle.std.specs.Prelude.{IsTrue, ◌↔◌, ◌==◌, nat_le, not}
+use Rattle.office.proofs.Words.{Bool, Certificate, Department, HasAll, IsTrue, List, Message, None, Option, SerialRange}
+use Rattle.office.proofs.Words.{Some, State, [], and_parts, ap, arith, false, has_any, is_key_id_revoked, is_message}
+use Rattle.office.proofs.Words.{is_range_revoked, is_serial, leb-true, length, not, refl, same_from_decides, subst, sym}
+use Rattle.office.proofs.Words.{true, ℕ, ◌&&◌, ◌↔◌, ◌∙◌, ◌∷◌, ◌≡◌, ◌≤◌}
+use Rattle.std.specs.Prelude.{◌==◌, nat_le}
 use Rattle.std.specs.Option.{option_and_then, option_map_or}
-use Rattle.std.proofs.lemmas.Bool.{and_parts, leb-true, ne_eqb}
-use Rattle.std.proofs.lemmas.Bool.Decides.{same_from_decides}
-use Rattle.krl.specs.Sets.{HasAll}
-use Rattle.message.specs.declared.department.Department.{Department}
-use Rattle.message.specs.declared.serial_range.SerialRange.{SerialRange}
-use Rattle.message.specs.declared.kinds.Message.{Message}
+use Rattle.std.proofs.lemmas.Bool.{ne_eqb}
 use Rattle.message.specs.declared.kinds.Message.TheVariants as message
-use Rattle.values.specs.Serials.{is_serial}
-use Rattle.message.specs.Values.{is_message}
-use Rattle.office.specs.declared.certificate.Certificate.{Certificate}
-use Rattle.office.specs.State.{State, department_named, has_any, is_key_id_revoked, is_range_revoked}
+use Rattle.office.specs.State.{department_named}
 use Rattle.office.specs.Concerns.{named_department, named_serial, named_range, named_key_id}
 use Rattle.office.specs.Decided.{certificate_concerned, department_concerned}
 use Rattle.office.specs.Decided.{SaysAnyKeyIdRevoked, SaysRevoked, SaysKeyIdRevoked}

@@ -1,28 +1,17 @@
 -- The changes that accepted messages make to the state: an invariant needs one proof for each change.
-use Rattle.std.proofs.Common.{◌≡◌, ℕ, ◌<◌, ◌≤◌, List, ◌++◌, Bool, true}
-use Rattle.std.proofs.Common.{false, cond, leb, ltb, Option, Some, None, refl}
-use Rattle.std.specs.Prelude.{IsSome, is_none}
-use Rattle.std.specs.Option.{option_map}
-use Rattle.std.proofs.lemmas.Bool.{or_parts, leb-false, ltb-false}
-use Rattle.lines.specs.declared.signature.Signature.{Signature}
-use Rattle.values.specs.declared.limits.TheConstants.{LATEST_MOMENT}
+use Rattle.office.proofs.Words.{Arrival, Bool, Certificate, Department, IsSome, LATEST_MOMENT, List, Message, None}
+use Rattle.office.proofs.Words.{Opening, Option, Renewal, SerialRange, Signature, Some, State, after, cond, false}
+use Rattle.office.proofs.Words.{has_any, is_key_id_revoked, is_message, is_none, is_range_revoked, issued, leb}
+use Rattle.office.proofs.Words.{leb-false, ltb, ltb-false, next_serial, opened, option_map, or_parts, refl}
+use Rattle.office.proofs.Words.{renewed_certificate, state, true, with_certificate, with_range, with_signature, ℕ, ◌++◌}
+use Rattle.office.proofs.Words.{◌<◌, ◌≡◌, ◌≤◌}
 use Rattle.cert.specs.Bodies.{body_text}
-use Rattle.message.specs.declared.department.Department.{Department}
-use Rattle.message.specs.declared.renewal.Renewal.{Renewal}
-use Rattle.message.specs.declared.serial_range.SerialRange.{SerialRange}
-use Rattle.message.specs.declared.kinds.Message.{Message}
 use Rattle.message.specs.declared.kinds.Message.TheVariants as message
-use Rattle.message.specs.Values.{is_message}
-use Rattle.office.specs.declared.opening.Opening.{Opening}
-use Rattle.office.specs.declared.arrival.Arrival.{Arrival}
-use Rattle.office.specs.declared.certificate.Certificate.{Certificate}
-use Rattle.office.specs.Certificates.{renewed_certificate}
-use Rattle.office.specs.State.{State, next_serial, certificate_of, newest_key}
-use Rattle.office.specs.State.{is_ca, is_range_revoked, is_key_id_revoked, has_any}
+use Rattle.office.specs.State.{certificate_of, newest_key}
+use Rattle.office.specs.State.{is_ca}
 use Rattle.office.specs.Refusals.{refusals, first_holding}
-use Rattle.office.specs.Machine.{opened, after, issued, with_department, with_certificate, with_one_more}
-use Rattle.office.specs.Machine.{with_signature, with_range, with_key_id, with_ca, ca_from_now, republished}
-use Rattle.office.specs.History.{state}
+use Rattle.office.specs.Machine.{with_department, with_one_more}
+use Rattle.office.specs.Machine.{with_key_id, with_ca, ca_from_now, republished}
 use Rattle.office.proofs.Judged.{none_holds}
 use Rattle.office.proofs.Decisions.{serial_of_one}
 use Rattle.office.proofs.Histories.{IsKeptBy, after_all, after_more}

@@ -1,10 +1,6 @@
 -- The date of the published list is a time that arrivals may have.
-use Rattle.std.proofs.Common.{◌≤◌, List, arith}
-use Rattle.values.specs.declared.limits.TheConstants.{LATEST_MOMENT}
-use Rattle.office.specs.declared.opening.Opening.{Opening}
-use Rattle.office.specs.declared.arrival.Arrival.{Arrival}
+use Rattle.office.proofs.Words.{Arrival, LATEST_MOMENT, List, Opening, arith, state, ◌≤◌}
 use Rattle.office.specs.Machine.{State}
-use Rattle.office.specs.History.{state}
 use Rattle.office.proofs.Changes.{IsKeptByEach, always}
 
 abbrev IsDated : State → Type 0

@@ -1,26 +1,20 @@
 -- A decision is the reference model's step.
-use Rattle.std.proofs.Common.{◌≡◌, ℕ, ◌+◌, ◌-◌, ◌<◌, ◌≤◌, List, [], ◌∷◌, ltb, Option, Some, None, Ok, Err}
-use Rattle.std.proofs.Common.{Result, refl, sym, ap, subst, ◌∙◌, inl, inr, arith, length-append}
-use Rattle.std.specs.Prelude.{IfOk, IsSome, slice_get}
-use Rattle.std.proofs.lemmas.Bool.{cases_Bool, cond-true, cond-false, ltb-false}
+use Rattle.office.proofs.Words.{Certificate, Department, Err, IsSome, Issue, List, Message, None, Ok, Opening, Option}
+use Rattle.office.proofs.Words.{Refusal, Renewal, Result, Some, View, [], after, ap, arith, cases_Bool, certificate_for}
+use Rattle.office.proofs.Words.{certificate_of, department_named, first_holding, inl, inr, issue_reply, issued}
+use Rattle.office.proofs.Words.{length-append, ltb, ltb-false, refl, refusals, renewed_certificate, reply_to, step}
+use Rattle.office.proofs.Words.{subst, sym, with_certificate, ℕ, ◌+◌, ◌-◌, ◌<◌, ◌∙◌, ◌∷◌, ◌≡◌, ◌≤◌}
+use Rattle.std.specs.Prelude.{IfOk, slice_get}
+use Rattle.std.proofs.lemmas.Bool.{cond-true, cond-false}
 use Rattle.std.proofs.lemmas.Option.{slice_get_within}
-use Rattle.values.specs.declared.refusal.Refusal.{Refusal}
-use Rattle.message.specs.declared.department.Department.{Department}
-use Rattle.message.specs.declared.issue.Issue.{Issue}
-use Rattle.message.specs.declared.renewal.Renewal.{Renewal}
-use Rattle.message.specs.declared.kinds.Message.{Message}
 use Rattle.message.specs.declared.kinds.Message.TheVariants as message
-use Rattle.office.specs.declared.certificate.Certificate.{Certificate}
-use Rattle.office.specs.declared.opening.Opening.{Opening}
 use Rattle.office.specs.declared.view.Decision.{Decision}
 use Rattle.office.specs.declared.view.Stop.{Stop}
 use Rattle.office.specs.declared.view.Stop.TheVariants as stop
-use Rattle.office.specs.declared.view.View.{View}
 use Rattle.office.specs.declared.view.Change.{Change}
-use Rattle.office.specs.Replies.{issue_reply}
-use Rattle.office.specs.Certificates.{kind_or_user, certificate_for, renewed_certificate}
-use Rattle.office.specs.Machine.{State, refusals, first_holding, after, reply_to, step, next_serial}
-use Rattle.office.specs.Machine.{certificate_of, department_named, newest_key, issued, with_certificate}
+use Rattle.office.specs.Certificates.{kind_or_user}
+use Rattle.office.specs.Machine.{State, next_serial}
+use Rattle.office.specs.Machine.{newest_key}
 use Rattle.office.specs.Decided.{Agrees, Decided, IsMade, certified, changed, written}
 
 pub step_refused : (s : State) (caller : List ℕ) (m : Message) (moment : ℕ) (nonce : List ℕ) (r : Refusal)

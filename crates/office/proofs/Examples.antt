@@ -1,23 +1,17 @@
 -- Worked examples of the reference model and of histories, by computation.
-use Rattle.std.proofs.Common.{◌≡◌, [], ◌∷◌, map, refl, false, Some, None}
+use Rattle.office.proofs.Words.{Department, Host, Issue, None, Opening, Renewal, Signature, Some, User, [], after}
+use Rattle.office.proofs.Words.{certificate_of, department_named, due_on, false, first_holding, map, opened, option_map}
+use Rattle.office.proofs.Words.{published_parts, refl, refusals, reply_to, revocation_reply, rollover_reply}
+use Rattle.office.proofs.Words.{with_signature, ◌∷◌, ◌≡◌}
 use Rattle.std.specs.Prelude.{codes}
-use Rattle.std.specs.Option.{option_map}
-use Rattle.values.specs.declared.kind.Kind.TheVariants.{User, Host}
 use Rattle.values.specs.declared.refusal.Refusal.TheVariants.{NotAllowed, NoDepartment, KindFixed, BadKeyId, NotPermitted, AlreadyEnded, KeyIdRevoked, UnknownSerial, Revoked, NotSigned, SerialsExhausted, CaInUse}
-use Rattle.message.specs.declared.department.Department.{Department}
-use Rattle.message.specs.declared.issue.Issue.{Issue}
 use Rattle.lines.specs.declared.key_line.KeyLine.{KeyLine}
-use Rattle.lines.specs.declared.signature.Signature.{Signature}
-use Rattle.message.specs.declared.renewal.Renewal.{Renewal}
 use Rattle.message.specs.declared.kinds.Message.TheVariants as message
-use Rattle.office.specs.declared.opening.Opening.{Opening}
 use Rattle.office.specs.declared.arrival.Outcome.TheVariants.{Repeated}
-use Rattle.office.specs.Replies.{revocation_reply, rollover_reply}
 use Rattle.office.specs.Permissions.{meet_rules}
-use Rattle.office.specs.Machine.{State, opened, after, refusals, first_holding, reply_to, next_serial, certificate_of, department_named, with_signature}
-use Rattle.office.specs.Publication.{entries_of, published_parts}
+use Rattle.office.specs.Machine.{State, next_serial}
+use Rattle.office.specs.Publication.{entries_of}
 use Rattle.office.specs.declared.publication.Standing.TheVariants as standing
-use Rattle.office.specs.History.{due_on}
 
 abbrev office : Opening
 office = record { ca = []; root = codes "root"; station = codes "station"; first = 1; last = 2 }

@@ -1,18 +1,9 @@
 -- An accepted message preserves the opening, raises the version by at most one, and uses only serials in range.
-use Rattle.std.proofs.Common.{◌≡◌, ℕ, zero, suc, ◌+◌, ◌-◌, ◌≤◌, List, [], ◌∷◌, length, true, ◌&&◌, leb, None}
-use Rattle.std.proofs.Common.{refl, ap, ◌∙◌, arith, length-append}
-use Rattle.std.proofs.lemmas.Bool.{and_parts, leb-true}
-use Rattle.lines.specs.declared.signature.Signature.{Signature}
-use Rattle.message.specs.declared.kinds.Message.{Message}
-use Rattle.message.specs.Values.{is_message}
-use Rattle.office.specs.declared.opening.Opening.{Opening}
-use Rattle.office.specs.declared.arrival.Arrival.{Arrival}
-use Rattle.office.specs.declared.certificate.Certificate.{Certificate}
-use Rattle.office.specs.Openings.{IsOpening}
-use Rattle.office.specs.State.{State, next_serial}
+use Rattle.office.proofs.Words.{Arrival, Certificate, IsOpening, List, Message, None, Opening, Signature, State, []}
+use Rattle.office.proofs.Words.{after, and_parts, ap, arith, is_message, leb, leb-true, length, length-append}
+use Rattle.office.proofs.Words.{next_serial, refl, state, suc, true, zero, ℕ, ◌&&◌, ◌+◌, ◌-◌, ◌∙◌, ◌∷◌, ◌≡◌, ◌≤◌}
 use Rattle.office.specs.Refusals.{refusals, first_holding}
-use Rattle.office.specs.Machine.{after, signed_at}
-use Rattle.office.specs.History.{state}
+use Rattle.office.specs.Machine.{signed_at}
 use Rattle.office.proofs.Histories.{holds_after}
 use Rattle.office.proofs.Changes.{HoldsAfter, IsKeptByEach, always, holds_then}
 

@@ -1,22 +1,15 @@
 -- A property that each first acceptance preserves holds after every history, if it holds of a new office.
-use Rattle.std.proofs.Common.{◌≡◌, ◌≤◌, ℕ, List, [], ◌∷◌, ◌++◌, true, None, Some, Result, Ok, Err}
-use Rattle.std.proofs.Common.{refl, sym, ap, subst, ◌∙◌}
+use Rattle.office.proofs.Words.{Arrival, Err, First, Kept, LATEST_MOMENT, List, Message, None, Ok, Opening, Refusal}
+use Rattle.office.proofs.Words.{Result, Some, [], add_accepted, after, and_parts, ap, change, first_accepted}
+use Rattle.office.proofs.Words.{first_holding, fold_push, is_message, judged, kept_by, ltb-false, message_with_text}
+use Rattle.office.proofs.Words.{opened, refl, refusals, reply_to, state, state_after, subst, sym, true, with_arrival, ℕ}
+use Rattle.office.proofs.Words.{◌++◌, ◌∙◌, ◌∷◌, ◌≡◌, ◌≤◌}
 use Rattle.std.specs.List.{fold}
-use Rattle.std.proofs.lemmas.Bool.{and_parts, ltb-false}
-use Rattle.std.proofs.lemmas.List.Sums.{fold_push, fold-append}
+use Rattle.std.proofs.lemmas.List.Sums.{fold-append}
 use Rattle.std.proofs.lemmas.Option.{cond_some, option_and_then_some}
-use Rattle.values.specs.declared.limits.TheConstants.{LATEST_MOMENT}
-use Rattle.values.specs.declared.refusal.Refusal.{Refusal}
-use Rattle.message.specs.declared.kinds.Message.{Message}
-use Rattle.message.specs.Values.{is_message}
 use Rattle.message.specs.Reading.{message_of}
-use Rattle.office.specs.declared.opening.Opening.{Opening}
-use Rattle.office.specs.declared.arrival.Arrival.{Arrival}
-use Rattle.office.specs.declared.arrival.Kept.{Kept}
-use Rattle.office.specs.Messages.{message_with_text, if_text_of, is_text_of}
-use Rattle.office.specs.Machine.{State, opened, refusals, first_holding, after, reply_to}
-use Rattle.office.specs.History.{First, kept_by, judged, add_accepted, with_arrival}
-use Rattle.office.specs.History.{first_accepted, state, state_after, change}
+use Rattle.office.specs.Messages.{if_text_of, is_text_of}
+use Rattle.office.specs.Machine.{State}
 use Rattle.office.proofs.Judged.{IsFirst, judged_is_first}
 
 -- the message with a text is valid

@@ -1,36 +1,29 @@
 -- An allowed issue makes a valid certificate.
-use Rattle.std.proofs.Common.{◌≡◌, ℕ, List, [], ◌∷◌, ◌++◌, length, map, true, false, ◌&&◌, leb, ltb}
-use Rattle.std.proofs.Common.{None, refl, ap, subst, ◌∙◌, inl, inr, arith}
-use Rattle.std.specs.List.{list_any, list_all, AllByRecursion}
-use Rattle.std.specs.Str.{bytes_eq}
-use Rattle.std.proofs.lemmas.Bool.{and_parts, and_from, or_parts, or_cases, or_from, not-true, le-leb, lt-ltb, eqb-true}
+use Rattle.office.proofs.Words.{AllByRecursion, Certificate, Department, Host, Issue, List, None, Renewal, User, View}
+use Rattle.office.proofs.Words.{[], and_parts, ap, arith, bytes_eq, bytes_eq-Decides, certificate_for, false, flags}
+use Rattle.office.proofs.Words.{inl, inr, is_name, is_serial, leb, length, list_any, ltb, map, or_cases, or_parts, refl}
+use Rattle.office.proofs.Words.{renewed_certificate, subst, true, ℕ, ◌&&◌, ◌++◌, ◌∙◌, ◌∷◌, ◌≡◌}
+use Rattle.std.specs.List.{list_all}
+use Rattle.std.proofs.lemmas.Bool.{and_from, or_from, not-true, le-leb, lt-ltb, eqb-true}
 use Rattle.std.proofs.lemmas.List.Folds.{list_all-map, list_any-append}
 use Rattle.std.proofs.lemmas.Cmp.{nat_list_eq_equiv}
-use Rattle.std.proofs.lemmas.Slice.Eq.{bytes_eq-Decides}
 use Rattle.text.specs.declared.pair.Pair.{Pair}
-use Rattle.values.specs.Names.{is_key_id, is_name, is_principal}
+use Rattle.values.specs.Names.{is_key_id, is_principal}
 use Rattle.values.specs.Lists.{are_distinct}
 use Rattle.values.specs.Options.{is_known, known_names, is_option_value}
 use Rattle.values.specs.declared.kind.Kind.{Kind}
-use Rattle.values.specs.declared.kind.Kind.TheVariants.{User, Host}
 use Rattle.values.specs.declared.option_field.OptionField.{OptionField}
 use Rattle.values.specs.declared.option_field.OptionField.TheVariants.{CriticalOptions, Extensions}
 use Rattle.cert.specs.Options.{is_option, are_for_kind}
 use Rattle.lines.proofs.KeyLineLaws.{key_size}
 use Rattle.cert.proofs.Listing.{is_options-listing}
 use Rattle.cert.specs.OptionFaults.{first_fault, options_fault}
-use Rattle.message.specs.declared.department.Department.{Department}
-use Rattle.message.specs.declared.issue.Issue.{Issue}
-use Rattle.message.specs.declared.renewal.Renewal.{Renewal}
-use Rattle.values.specs.Serials.{is_serial}
 use Rattle.message.specs.Values.{fits_kind, is_department, is_issue, are_principals, is_end}
 use Rattle.message.specs.Values.{are_administrators, are_rules, are_option_names, are_extension_names}
-use Rattle.office.specs.declared.certificate.Certificate.{Certificate}
-use Rattle.office.specs.declared.view.View.{View}
 use Rattle.office.specs.Views.{HasSerial, IsIssuable, IsRenewable}
 use Rattle.office.specs.Permissions.{is_listed, is_permitted}
 use Rattle.office.proofs.Growth.{opening_order}
-use Rattle.office.specs.Certificates.{IsCertificate, certificate_for, renewed_certificate, flags}
+use Rattle.office.specs.Certificates.{IsCertificate}
 
 -- ---- options without a fault
 

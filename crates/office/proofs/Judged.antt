@@ -1,17 +1,9 @@
 -- The facts about an arrival that is judged to be a first acceptance.
-use Rattle.std.proofs.Common.{◌≡◌, List, [], ◌∷◌, Bool, true, false, cond, Option, Some, None, Ok, refl, subst}
-use Rattle.std.specs.Prelude.{nat_lt}
-use Rattle.std.specs.List.{list_any, AllByRecursion}
-use Rattle.values.specs.declared.limits.TheConstants.{LATEST_MOMENT}
-use Rattle.values.specs.declared.refusal.Refusal.{Refusal}
-use Rattle.values.specs.declared.refusal.Refusal.TheVariants.{BadMessage, BadMoment, KeyReused}
-use Rattle.message.specs.declared.kinds.Message.{Message}
-use Rattle.office.specs.Messages.{message_with_text}
-use Rattle.office.specs.declared.arrival.Arrival.{Arrival}
-use Rattle.office.specs.declared.arrival.Kept.{Kept}
-use Rattle.office.specs.Machine.{State, Stepped, after, reply_to, refusals, first_holding, refused_or, step}
-use Rattle.text.specs.Results.{◌>>=◌, or_fault}
-use Rattle.office.specs.History.{First, has_key, judged, first_of_step, refuse_if}
+use Rattle.office.proofs.Words.{AllByRecursion, Arrival, BadMessage, BadMoment, Bool, First, Kept, KeyReused}
+use Rattle.office.proofs.Words.{LATEST_MOMENT, List, Message, None, Ok, Option, Refusal, Some, [], after, cond, false}
+use Rattle.office.proofs.Words.{first_holding, first_of_step, has_key, judged, list_any, message_with_text, nat_lt}
+use Rattle.office.proofs.Words.{or_fault, refl, refusals, refuse_if, reply_to, step, subst, true, ◌>>=◌, ◌∷◌, ◌≡◌}
+use Rattle.office.specs.Machine.{State, Stepped, refused_or}
 
 pub record IsFirst (s : State) (kept : List Kept) (a : Arrival) (f : First) : Type 0 where
   pub arrival : f.arrival ≡ a

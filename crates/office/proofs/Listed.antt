@@ -1,12 +1,8 @@
 -- Listing by the revocations agrees with the state.
-use Rattle.std.proofs.Common.{◌≡◌, List, ap₂}
-use Rattle.std.specs.Prelude.{◌||◌, Bool}
-use Rattle.std.specs.List.{list_any}
-use Rattle.std.specs.Str.{bytes_eq}
-use Rattle.office.specs.State.{State}
-use Rattle.office.specs.declared.certificate.Certificate.{Certificate}
-use Rattle.office.specs.declared.listing.Revocations.{Revocations}
-use Rattle.office.specs.Listing.{AreRevocations, is_certificate_among}
+use Rattle.office.proofs.Words.{AreRevocations, Bool, Certificate, List, Revocations, State, ap₂, bytes_eq, list_any}
+use Rattle.office.proofs.Words.{◌≡◌}
+use Rattle.std.specs.Prelude.{◌||◌}
+use Rattle.office.specs.Listing.{is_certificate_among}
 use Rattle.office.specs.Publication.{is_certificate_revoked}
 
 -- a certificate is among the state's revocations exactly when the state revokes it

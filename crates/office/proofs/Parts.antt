@@ -1,16 +1,15 @@
 -- The parts of the published list, made from the revoked serials and the CAs.
-use Rattle.std.proofs.Common.{◌≡◌, ℕ, suc, ◌+◌, ◌≤◌, ◌<◌, List, [], ◌∷◌, length, Bool, true, false, ◌&&◌}
-use Rattle.std.proofs.Common.{refl, sym, ap, ap₂, ◌∙◌, arith}
+use Rattle.office.proofs.Words.{Bool, Ca, List, State, [], ap, ap₂, arith, contains, false, is_last_reached, length}
+use Rattle.office.proofs.Words.{next_serial, numbers, published_parts, refl, suc, sym, true, ℕ, ◌&&◌, ◌+◌, ◌<◌, ◌∙◌}
+use Rattle.office.proofs.Words.{◌∷◌, ◌≡◌, ◌≤◌}
 use Rattle.std.specs.Prelude.{slice_index_or}
 use Rattle.std.proofs.lemmas.Bool.{and_right}
 use Rattle.krl.specs.declared.run.Run.{Run}
 use Rattle.krl.specs.declared.ca_part.CaPart.{CaPart}
-use Rattle.krl.specs.Sets.{AreRuns, contains, is_counted, is_last_reached, runs_in}
+use Rattle.krl.specs.Sets.{AreRuns, is_counted, runs_in}
 use Rattle.krl.proofs.Counting.{are_counted, runs_in_only}
-use Rattle.office.specs.declared.ca.Ca.{Ca}
-use Rattle.office.specs.State.{State, next_serial}
-use Rattle.office.specs.Parts.{AreParts, AreSplitByCa, numbers, zipped}
-use Rattle.office.specs.Publication.{is_revoked_under, parts_from, published_parts}
+use Rattle.office.specs.Parts.{AreParts, AreSplitByCa, zipped}
+use Rattle.office.specs.Publication.{is_revoked_under, parts_from}
 
 -- only serials that were handed out are revoked
 abbrev pub AreIssued : State → Type 0

@@ -1,16 +1,10 @@
 -- Revoked ranges of serials, and the serials that were handed out.
-use Rattle.std.proofs.Common.{◌≡◌, ℕ, zero, suc, ◌+◌, ◌-◌, ◌<◌, ◌≤◌, List, [], ◌∷◌, Bool, true, ◌&&◌, leb}
-use Rattle.std.proofs.Common.{refl, subst, inl, inr, arith, length-append}
-use Rattle.std.specs.Prelude.{◌↔◌, IsTrue}
-use Rattle.std.proofs.lemmas.Bool.{and_parts, or_cases, leb-true, cases_lt}
-use Rattle.std.proofs.lemmas.Bool.Decides.{same_from_decides}
-use Rattle.krl.specs.Sets.{HasAll}
-use Rattle.message.specs.declared.serial_range.SerialRange.{SerialRange}
-use Rattle.office.specs.declared.opening.Opening.{Opening}
-use Rattle.office.specs.declared.arrival.Arrival.{Arrival}
-use Rattle.office.specs.State.{State, has_all, is_range_revoked}
-use Rattle.office.specs.Machine.{with_range}
-use Rattle.office.specs.History.{state}
+use Rattle.office.proofs.Words.{Arrival, Bool, HasAll, IsTrue, List, Opening, SerialRange, State, [], and_parts, arith}
+use Rattle.office.proofs.Words.{inl, inr, is_range_revoked, leb, leb-true, length-append, or_cases, refl}
+use Rattle.office.proofs.Words.{same_from_decides, state, subst, suc, true, with_range, zero, ℕ, ◌&&◌, ◌+◌, ◌-◌, ◌<◌}
+use Rattle.office.proofs.Words.{◌↔◌, ◌∷◌, ◌≡◌, ◌≤◌}
+use Rattle.std.proofs.lemmas.Bool.{cases_lt}
+use Rattle.office.specs.State.{has_all}
 use Rattle.office.proofs.Changes.{IsHandedOut, IsKeptByEach, always}
 use Rattle.office.proofs.Growth.{length-signed_at}
 use Rattle.office.proofs.Parts.{AreIssued}

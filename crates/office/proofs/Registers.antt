@@ -1,8 +1,5 @@
 -- Reading calls of a register, one after the other.
-use Rattle.std.proofs.Common.{List}
-use Rattle.office.specs.declared.opening.Opening.{Opening}
-use Rattle.office.specs.declared.arrival.Arrival.{Arrival}
-use Rattle.office.specs.Registers.{Preserves}
+use Rattle.office.proofs.Words.{Arrival, List, Opening, Preserves}
 
 -- no call
 pub preserves_none : {S : Type 0} {is_honest is_open : S → Type 0} {is_as_before : S → S → Type 0}

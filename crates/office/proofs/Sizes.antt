@@ -1,38 +1,29 @@
 -- The length of replies.
-use Rattle.std.proofs.Common.{◌≡◌, ℕ, ◌+◌, ◌*◌, ◌<◌, ◌≤◌, ◌^◌, List, [], ◌∷◌, length, true, false, cond, leb, All}
-use Rattle.std.proofs.Common.{IfSome, Option, Some, None, Result, Ok, Err, refl, ap, ◌∙◌, arith, lit<, length-append}
+use Rattle.office.proofs.Words.{AllByRecursion, Arrival, Certificate, Err, First, IsOffice, IsOpening, Kept, List}
+use Rattle.office.proofs.Words.{Message, None, Ok, Opening, Option, Refusal, Result, Some, State, [], after, and_parts}
+use Rattle.office.proofs.Words.{ap, arith, cond, department_reply, due, false, first_accepted, is_message, is_name}
+use Rattle.office.proofs.Words.{is_serial, issue_reply, judged, kept_by, kept_row, leb, leb-false, leb-true, length}
+use Rattle.office.proofs.Words.{length-append, map-append, next_serial, option_map, refl, reply_kept, reply_to}
+use Rattle.office.proofs.Words.{revocation_reply, rollover_reply, state, true, ℕ, ◌+◌, ◌<◌, ◌∙◌, ◌∷◌, ◌≡◌, ◌≤◌}
+use Rattle.std.proofs.Common.{◌*◌, ◌^◌, All}
+use Rattle.std.proofs.Common.{IfSome, lit<}
 use Rattle.std.specs.Fmt.{decimal}
-use Rattle.std.specs.List.{AllByRecursion, find}
-use Rattle.std.specs.Option.{option_map}
-use Rattle.std.proofs.lemmas.Bool.{and_parts, leb-true, leb-false}
+use Rattle.std.specs.List.{find}
 use Rattle.std.proofs.lemmas.Fmt.{length-decimal-le}
-use Rattle.std.proofs.lemmas.List.{map-append}
 use Rattle.std.proofs.lemmas.List.Elements.{All-nil, All-push, recursion_from_All}
 use Rattle.sha2.proofs.Facts256.{length-sha256}
 use Rattle.sha2.specs.Sha256.{sha256}
 use Rattle.hex.specs.Hex.{lower_digits}
 use Rattle.hex.proofs.HexLemmas.{length-encode_with}
 use Rattle.lines.specs.Digests.{digest_text}
-use Rattle.values.specs.Names.{is_name, has_size}
-use Rattle.values.specs.declared.refusal.Refusal.{Refusal}
-use Rattle.message.specs.declared.kinds.Message.{Message}
+use Rattle.values.specs.Names.{has_size}
 use Rattle.message.specs.declared.kinds.Message.TheVariants as message
-use Rattle.values.specs.Serials.{is_serial}
 use Rattle.values.proofs.SerialLemmas.{serial_bounds}
-use Rattle.message.specs.Values.{is_message}
-use Rattle.office.specs.declared.opening.Opening.{Opening}
-use Rattle.office.specs.declared.arrival.Arrival.{Arrival}
-use Rattle.office.specs.declared.arrival.Kept.{Kept}
 use Rattle.office.specs.declared.arrival.Outcome.{Outcome}
-use Rattle.office.specs.declared.certificate.Certificate.{Certificate}
-use Rattle.office.specs.Openings.{IsOpening}
-use Rattle.office.specs.Replies.{department_reply, issue_reply, delivery_reply, revocation_reply, rollover_reply}
-use Rattle.office.specs.State.{State, next_serial}
+use Rattle.office.specs.Replies.{delivery_reply}
 use Rattle.office.specs.Refusals.{refusals, first_holding}
-use Rattle.office.specs.Machine.{after, reply_to, reply_to_made, renewed}
-use Rattle.office.specs.History.{First, kept_by, kept_row, is_repeat, reply_kept, judged, due, repeated_or, outcome_of}
-use Rattle.office.specs.History.{first_accepted, state}
-use Rattle.office.specs.Shows.{IsOffice}
+use Rattle.office.specs.Machine.{reply_to_made, renewed}
+use Rattle.office.specs.History.{is_repeat, repeated_or, outcome_of}
 use Rattle.office.specs.Laws.{ReplyFits}
 use Rattle.office.proofs.Judged.{judged_is_first, none_holds}
 use Rattle.office.proofs.Histories.{IsKeptBy, after_all, message_lawful}

@@ -1,24 +1,15 @@
 -- One more arrival.
-use Rattle.std.proofs.Common.{◌≡◌, ℕ, ◌<◌, List, [], ◌∷◌, ◌++◌, Bool, true, Option, Some, None, Result, Ok, Err}
-use Rattle.std.proofs.Common.{refl, sym, ap, subst, ◌∙◌, inl, inr}
-use Rattle.std.specs.Prelude.{nat_lt, IsErr}
-use Rattle.std.specs.List.{list_any}
-use Rattle.std.proofs.lemmas.Bool.{cases_Bool, or_left, or_right}
-use Rattle.std.proofs.lemmas.List.Sums.{fold_push}
-use Rattle.std.proofs.lemmas.List.{map-append}
-use Rattle.values.specs.declared.limits.TheConstants.{LATEST_MOMENT}
-use Rattle.values.specs.declared.refusal.Refusal.{Refusal}
-use Rattle.values.specs.declared.refusal.Refusal.TheVariants.{BadMessage, BadMoment, KeyReused}
-use Rattle.message.specs.declared.kinds.Message.{Message}
-use Rattle.office.specs.Messages.{message_with_text}
-use Rattle.office.specs.declared.opening.Opening.{Opening}
-use Rattle.office.specs.declared.arrival.Arrival.{Arrival}
-use Rattle.office.specs.declared.arrival.Kept.{Kept}
+use Rattle.office.proofs.Words.{Arrival, BadMessage, BadMoment, Bool, Err, First, IsOffice, Kept, KeyReused}
+use Rattle.office.proofs.Words.{LATEST_MOMENT, List, Message, None, Ok, Opening, Option, Refusal, Result, Some, []}
+use Rattle.office.proofs.Words.{add_accepted, ap, cases_Bool, change, due, due_on, first_accepted, first_of_step}
+use Rattle.office.proofs.Words.{fold_push, has_key, inl, inr, judged, kept_by, kept_row, list_any, map-append}
+use Rattle.office.proofs.Words.{message_with_text, nat_lt, opened, or_fault, refl, refuse_if, reply_kept, state}
+use Rattle.office.proofs.Words.{state_after, step, subst, sym, true, with_arrival, ℕ, ◌++◌, ◌<◌, ◌>>=◌, ◌∙◌, ◌∷◌, ◌≡◌}
+use Rattle.std.specs.Prelude.{IsErr}
+use Rattle.std.proofs.lemmas.Bool.{or_left, or_right}
 use Rattle.office.specs.declared.arrival.Outcome.TheVariants as outcome
-use Rattle.office.specs.Machine.{State, opened, step}
-use Rattle.text.specs.Results.{◌>>=◌, or_fault}
-use Rattle.office.specs.History.{First, has_key, reply_kept, kept_row, kept_by, judged, first_of_step, refuse_if, due_on, due, add_accepted, with_arrival, first_accepted, state, state_after, change}
-use Rattle.office.specs.Shows.{IsOffice, Shows}
+use Rattle.office.specs.Machine.{State}
+use Rattle.office.specs.Shows.{Shows}
 
 -- if a message is stored, so is its request key
 has_key_kept : (kept : List Kept) (a : Arrival) (r : List ℕ) → reply_kept kept a ≡ Some r → list_any (has_key a) kept ≡ true

@@ -1,12 +1,8 @@
 -- The message that has given bytes as its text.
-use Rattle.std.proofs.Common.{◌≡◌, ℕ, List, true, Ok, Err, Some, None, refl}
-use Rattle.std.specs.Str.{bytes_eq}
-use Rattle.std.proofs.lemmas.Slice.Eq.{bytes_eq-Decides}
-use Rattle.message.specs.declared.kinds.Message.{Message}
+use Rattle.office.proofs.Words.{Err, List, Message, None, Ok, Some, bytes_eq, bytes_eq-Decides, is_message}
+use Rattle.office.proofs.Words.{message_with_text, refl, true, ℕ, ◌≡◌}
 use Rattle.message.specs.Reading.{message_at}
 use Rattle.message.specs.Texts.{message_text}
-use Rattle.message.specs.Values.{is_message}
-use Rattle.office.specs.Messages.{message_with_text}
 
 -- a message that was read is the one whose text the bytes are
 pub read_is : (bytes : List ℕ) (m : Message) → message_at bytes ≡ Ok m → is_message m ≡ true → bytes ≡ message_text m

@@ -1,15 +1,14 @@
 -- The pending certificates found batch by batch are those among all certificates.
-use Rattle.std.proofs.Common.{◌≡◌, ℕ, zero, suc, ◌+◌, ◌<◌, ◌≤◌, List, [], ◌∷◌, ◌++◌, length, get_or, map, take, drop}
-use Rattle.std.proofs.Common.{filter, Bool, true, false, cond, not, ◌&&◌, refl, sym, ap, ap₂, ◌∙◌, arith}
-use Rattle.std.specs.Prelude.{is_none}
+use Rattle.office.proofs.Words.{AreRevocations, Bool, Certificate, List, Revocations, State, [], ap, ap₂, arith, cond}
+use Rattle.office.proofs.Words.{false, is_none, length, map, not, refl, suc, sym, take, true, waiting_rows, zero, ℕ}
+use Rattle.office.proofs.Words.{◌&&◌, ◌++◌, ◌+◌, ◌<◌, ◌∙◌, ◌∷◌, ◌≡◌, ◌≤◌}
+use Rattle.std.proofs.Common.{get_or, drop}
+use Rattle.std.proofs.Common.{filter}
 use Rattle.std.specs.List.{flat_map}
 use Rattle.std.proofs.lemmas.List.{flat_map_more, length-drop, length-take, take_all, take_more}
 use Rattle.std.proofs.lemmas.List.Concat.{flat_map-append}
-use Rattle.office.specs.declared.certificate.Certificate.{Certificate}
-use Rattle.office.specs.declared.listing.Revocations.{Revocations}
 use Rattle.office.specs.declared.publication.Pending.{Pending}
-use Rattle.office.specs.State.{State}
-use Rattle.office.specs.Listing.{AreRevocations, batch_of, waiting_row, waiting_rows}
+use Rattle.office.specs.Listing.{batch_of, waiting_row}
 use Rattle.office.specs.Publication.{is_pending, pending_of, pending_row}
 use Rattle.office.proofs.Listed.{among_is}
 

@@ -1,29 +1,14 @@
 -- What a job adds to the history that the tables represent.
-use Rattle.std.proofs.Common.{◌≢◌, ℕ, List, [], append-nil, Bool, true, false, Option, Result, Ok, Err, sym, subst}
-use Rattle.std.specs.Prelude.{IsTrue}
-use Rattle.sqlite.specs.State.{State}
-use Rattle.office.specs.declared.opening.Opening.{Opening}
-use Rattle.office.specs.declared.arrival.Arrival.{Arrival}
-use Rattle.store_sql.specs.Schema.{whole}
-use Rattle.store.specs.Meaning.{KeepsTelling, Tells}
-use Rattle.web.specs.declared.exchange.Exchange.{Exchange}
-use Rattle.web.specs.declared.exchange.Given.{Given}
+use Rattle.office_jobs.proofs.Words.{AddsArrivals, Applies, Arrival, Bool, DoesOfficeJob, Err, Exchange, Given, Heard}
+use Rattle.office_jobs.proofs.Words.{IsReport, IsTrue, JobFault, KeepsTelling, List, ListingEnds, MakingEnds}
+use Rattle.office_jobs.proofs.Words.{MigratingEnds, OfficeJob, OfficePrints, Ok, Opening, Option, Report, Result}
+use Rattle.office_jobs.proofs.Words.{ServingEnds, State, Tells, [], false, subst, sym, true, whole, ℕ, ◌≢◌}
+use Rattle.std.proofs.Common.{append-nil}
 use Rattle.web.specs.Runs.{Serves as AllServed}
-use Rattle.restart.specs.Runs.{AddsArrivals}
 use Rattle.restart.proofs.Adding.{arrivals_stay}
-use Rattle.headline.specs.Headline.{OfficePrints}
-use Rattle.office_jobs.specs.declared.job.OfficeJob.{OfficeJob}
 use Rattle.office_jobs.specs.declared.job.OfficeJob.TheVariants as job
-use Rattle.office_jobs.specs.declared.job_fault.JobFault.{JobFault}
 use Rattle.office_jobs.specs.declared.job_fault.JobFault.TheVariants as fault
-use Rattle.office_jobs.specs.declared.reporting.Report.{Report}
 use Rattle.office_jobs.specs.declared.reporting.Report.TheVariants as report
-use Rattle.office_jobs.specs.Applying.{Applies}
-use Rattle.office_jobs.specs.Jobs.{DoesOfficeJob}
-use Rattle.office_jobs.specs.Listing.{ListingEnds}
-use Rattle.office_jobs.specs.Making.{MakingEnds, MigratingEnds}
-use Rattle.office_jobs.specs.Reporting.{IsReport}
-use Rattle.office_jobs.specs.Serving.{Heard, ServingEnds}
 
 -- tables that represent what they represented before add nothing
 adds_none : (old new : State) → KeepsTelling old new → AddsArrivals old new

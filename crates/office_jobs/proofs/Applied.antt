@@ -1,19 +1,12 @@
 -- What is printed for a file, from the responses to its exchanges.
-use Rattle.std.proofs.Common.{◌≡◌, ℕ, List, [], ◌∷◌, Bool, Option, Result, Ok, Err, refl, sym, ap, subst, ◌∙◌}
-use Rattle.std.specs.Prelude.{IfSome, OnOk, Some, None}
-use Rattle.values.specs.declared.limits.TheConstants.{LAST_SERIAL}
-use Rattle.office.specs.declared.opening.Opening.{Opening}
-use Rattle.office.specs.declared.arrival.Arrival.{Arrival}
-use Rattle.web.specs.declared.exchange.Exchange.{Exchange}
+use Rattle.office_jobs.proofs.Words.{Arrival, BadExchange, Bool, Err, Exchange, Fault, IfSome, JobFault, LAST_SERIAL}
+use Rattle.office_jobs.proofs.Words.{List, None, Ok, OnOk, Opening, Option, Result, RunFault, Some, [], ap, opening_of}
+use Rattle.office_jobs.proofs.Words.{refl, run_result, subst, sym, ℕ, ◌∙◌, ◌∷◌, ◌≡◌}
 use Rattle.office_jobs.specs.Trial.{AppliesToTrial}
 use Rattle.exchanges.specs.Exchanges.{AreExchanges, exchanges_text}
-use Rattle.exchanges.specs.declared.running.RunFault.{RunFault}
 use Rattle.exchanges.specs.declared.running.RunFault.TheVariants as run
-use Rattle.office_jobs.specs.Faults.{run_result}
-use Rattle.office_jobs.specs.declared.job_fault.JobFault.{JobFault}
-use Rattle.office_jobs.specs.declared.job_fault.JobFault.TheVariants.{BadExchange, Fault}
 use Rattle.exchanges.specs.Printing.{Prints}
-use Rattle.office_jobs.specs.TrialOffice.{opening_of, trial_arrival}
+use Rattle.office_jobs.specs.TrialOffice.{trial_arrival}
 
 -- The responses of a register that represents the in-memory office (trial office) are the specified ones.
 pub applies : (file : List ℕ) (es run : List Exchange) (before after keeps : Opening → List Arrival → Type 0)

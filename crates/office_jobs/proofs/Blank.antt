@@ -1,11 +1,9 @@
 -- A new database in memory.
-use Rattle.std.proofs.Common.{subst}
+use Rattle.office_jobs.proofs.Words.{IsBlank, State, subst}
 use Rattle.sqlite.specs.Effect.{Database}
-use Rattle.sqlite.specs.State.{State}
 use Rattle.sqlite.specs.Steps.{IsEmpty}
 use Rattle.store_sql.specs.Calls.{IsBare}
 use Rattle.store_sql.specs.Schema.{no_schema}
-use Rattle.store.specs.Meaning.{IsBlank}
 
 -- it has no table, and no transaction is open
 pub blank : (s : State) → IsEmpty s → IsBlank s

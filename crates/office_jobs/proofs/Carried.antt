@@ -1,21 +1,11 @@
 -- What a job does to the office that was opened, it does to the database as it was given.
-use Rattle.std.proofs.Common.{◌≡◌, ℕ, List, Bool, Option, Result, Ok, Err, true, false, refl, sym, subst, ◌∙◌}
-use Rattle.std.specs.Prelude.{IsTrue, OnOk}
-use Rattle.sqlite.specs.State.{State}
-use Rattle.office.specs.declared.store_fault.StoreFault.{StoreFault}
+use Rattle.office_jobs.proofs.Words.{Applies, Bool, DiskFailed, Err, Exchange, IsAsBefore, IsExcused, IsOfARegister}
+use Rattle.office_jobs.proofs.Words.{IsOpened, IsTrue, IsUnopened, IsUnprinted, JobFault, KeepsTelling, List}
+use Rattle.office_jobs.proofs.Words.{OfficePrints, Ok, OnOk, Option, Result, RunFault, State, StoreFault, false}
+use Rattle.office_jobs.proofs.Words.{of_store, refl, run_result, subst, sym, true, ℕ, ◌∙◌, ◌≡◌}
 use Rattle.office.specs.declared.store_fault.StoreFault.TheVariants as store
-use Rattle.office.specs.Faults.{IsOfARegister}
-use Rattle.web.specs.declared.exchange.Exchange.{Exchange}
-use Rattle.exchanges.specs.declared.running.RunFault.{RunFault}
 use Rattle.exchanges.specs.declared.running.RunFault.TheVariants as run
-use Rattle.store.specs.Transactions.{IsAsBefore}
-use Rattle.store.specs.Migrating.{IsExcused}
-use Rattle.store.specs.Meaning.{DiskFailed, KeepsTelling}
-use Rattle.headline.specs.Headline.{OfficePrints, OfficeRuns}
-use Rattle.office_jobs.specs.declared.job_fault.JobFault.{JobFault}
-use Rattle.office_jobs.specs.Faults.{of_store, run_result}
-use Rattle.office_jobs.specs.Opening.{IsUnprinted, IsOpened, IsUnopened}
-use Rattle.office_jobs.specs.Applying.{Applies}
+use Rattle.headline.specs.Headline.{OfficeRuns}
 
 -- ---- unchanged databases
 

@@ -1,20 +1,15 @@
 -- Which faults can occur.
-use Rattle.std.proofs.Common.{◌≡◌, ◌≢◌, Result, Ok, Err, refl, subst, sym}
-use Rattle.std.specs.Prelude.{IfErr}
-use Rattle.std.specs.declared.io.ErrorKind.{ErrorKind}
+use Rattle.office_jobs.proofs.Words.{BadExchange, Err, ErrorKind, Fault, File, IfErr, IsOfATrial, IsOfExchanges}
+use Rattle.office_jobs.proofs.Words.{JobFault, NoMemory, Ok, Result, RunFault, StoreFault, Write, of_store, refl}
+use Rattle.office_jobs.proofs.Words.{run_result, subst, sym, ◌≡◌, ◌≢◌}
 use Rattle.std.specs.declared.io.ErrorKind.TheVariants.{OutOfMemory}
 use Rattle.lines.specs.declared.key_line.LineFault.{LineFault}
 use Rattle.lines.specs.declared.key_line.LineFault.TheVariants as line
-use Rattle.office.specs.declared.store_fault.StoreFault.{StoreFault}
 use Rattle.office.specs.declared.store_fault.StoreFault.TheVariants as store
-use Rattle.exchanges.specs.declared.running.RunFault.{RunFault}
 use Rattle.exchanges.specs.declared.running.RunFault.TheVariants as run
 use Rattle.office_jobs.specs.declared.file_reader.ReadFault.{ReadFault}
 use Rattle.office_jobs.specs.declared.file_reader.ReadFault.TheVariants.{Failed, TooLong}
-use Rattle.office_jobs.specs.declared.job_fault.JobFault.{JobFault}
-use Rattle.office_jobs.specs.declared.job_fault.JobFault.TheVariants.{File, Write, NoMemory, BadExchange, Fault}
-use Rattle.office_jobs.specs.Faults.{IsOfAKey, IsOfATrial, IsOfChecking, IsOfExchanges, of_line, of_reading, of_store}
-use Rattle.office_jobs.specs.Faults.{run_result}
+use Rattle.office_jobs.specs.Faults.{IsOfAKey, IsOfChecking, of_line, of_reading}
 
 -- ---- reading a key
 

@@ -1,12 +1,8 @@
 -- The result of a job that isn't a server.
-use Rattle.std.proofs.Common.{◌≡◌, ℕ, List, Option, Some, None, Result, refl}
+use Rattle.office_jobs.proofs.Words.{Book, Ghosts, Held, JobFault, List, None, Option, Result, Some, refl, ℕ, ◌≡◌}
 use Rattle.sqlite_trees.specs.declared.store.Store as store
-use Rattle.sqlite.specs.Held.{Held}
-use Rattle.server.specs.Books.{Book}
 use Rattle.command_line.specs.declared.job.Job.{Job}
 use Rattle.command_line.specs.declared.job.Job.TheVariants as job
-use Rattle.office_jobs.specs.declared.world.World.{Ghosts}
-use Rattle.office_jobs.specs.declared.job_fault.JobFault.{JobFault}
 use Rattle.office_jobs.specs.Commands.{DoesJob, EndsCommand, Runs}
 
 pub not_served : {W File Tables Incoming Reader Writer : Type 0} (store : store.Ghosts Tables)

@@ -1,48 +1,34 @@
 -- What a job does is what its run was asked to do.
-use Rattle.std.proofs.Common.{◌≡◌, ◌≢◌, ℕ, zero, suc, List, [], ◌∷◌, inl, inr, false, arith}
-use Rattle.std.proofs.Common.{Option, None, Result, Ok, Err, ap, codes, refl, sym, subst}
-use Rattle.std.specs.Prelude.{All, IsTrue}
-use Rattle.std.specs.List.{list_any}
-use Rattle.std.specs.Io.KnownBytes.{Appends}
-use Rattle.sqlite.specs.State.{State, HasCleanDisk}
+use Rattle.office_jobs.proofs.Words.{All, Appends, Applies, Arrival, Asked, Asks, AsksExchanges, AsksOffice}
+use Rattle.office_jobs.proofs.Words.{AsksServing, DoesOfficeJob, Err, Exchange, Given, HasCleanDisk, Heard, IsBlank}
+use Rattle.office_jobs.proofs.Words.{IsReport, IsTrue, IsUnmade, JobFault, KeepsTelling, List, ListingEnds, MakingEnds}
+use Rattle.office_jobs.proofs.Words.{MigratingEnds, None, OfficeJob, Ok, Opening, Option, PlainText, Result}
+use Rattle.office_jobs.proofs.Words.{RevocationList, ServingEnds, Signers, State, StoreFault, Table, Tells, [], ap}
+use Rattle.office_jobs.proofs.Words.{arith, codes, false, get, inl, inr, is_office_table, list_any, refl, response_text}
+use Rattle.office_jobs.proofs.Words.{subst, sym, ℕ, ◌∷◌, ◌≡◌, ◌≢◌}
+use Rattle.std.proofs.Common.{zero, suc}
 use Rattle.sqlite.specs.Tree.{Trees}
 use Rattle.store_sql.proofs.Words.{Schema}
 use Rattle.http_requests.specs.declared.resource.Resource.{Resource}
-use Rattle.http_requests.specs.declared.resource.Resource.TheVariants.{RevocationList, Signers, Table}
 use Rattle.http_requests.specs.declared.response.MediaType.{MediaType}
-use Rattle.http_requests.specs.declared.response.MediaType.TheVariants.{Bytes, PlainText}
-use Rattle.http_requests.specs.Asks.{Asks, get}
-use Rattle.http_requests.specs.Responses.{response_text}
-use Rattle.office.specs.declared.opening.Opening.{Opening}
-use Rattle.office.specs.declared.arrival.Arrival.{Arrival}
-use Rattle.office.specs.declared.store_fault.StoreFault.{StoreFault}
+use Rattle.http_requests.specs.declared.response.MediaType.TheVariants.{Bytes}
 use Rattle.office.specs.declared.store_fault.StoreFault.TheVariants.{NotAnOffice}
 use Rattle.office.specs.Openings.{IsOpening}
 use Rattle.office.specs.History.{state}
 use Rattle.store_sql.specs.Contents.{Kept}
-use Rattle.store_sql.specs.Look.{is_office_table, none_is_office}
+use Rattle.store_sql.specs.Look.{none_is_office}
 use Rattle.store.specs.Rows.{office_contents}
-use Rattle.store.specs.Meaning.{IsBlank, IsHistory, KeepsTelling, Tells}
-use Rattle.web.specs.declared.exchange.Exchange.{Exchange}
-use Rattle.web.specs.declared.exchange.Given.{Given}
+use Rattle.store.specs.Meaning.{IsHistory}
 use Rattle.web.specs.declared.exchange.Given.TheVariants as given
 use Rattle.web.specs.Answers.{MayList, resource_response}
 use Rattle.web.specs.Runs.{AllDue}
-use Rattle.restart.specs.Lives.{Asked}
 use Rattle.restart.specs.Runs.{Does as DoesAsked, IsUnfounded}
-use Rattle.office_jobs.specs.declared.job.OfficeJob.{OfficeJob}
 use Rattle.office_jobs.specs.declared.job.OfficeJob.TheVariants as job
-use Rattle.office_jobs.specs.declared.job_fault.JobFault.{JobFault}
 use Rattle.office_jobs.specs.declared.job_fault.JobFault.TheVariants as fault
 use Rattle.office_jobs.specs.declared.reporting.Report.TheVariants as report
-use Rattle.office_jobs.specs.Applying.{Applies}
-use Rattle.office_jobs.specs.Asked.{AsksExchanges, AsksOffice, AsksResource, AsksServing, IsShown, asked_in_visits}
+use Rattle.office_jobs.specs.Asked.{AsksResource, IsShown, asked_in_visits}
 use Rattle.office_jobs.specs.Asked.{founding_asked, nothing_asked}
-use Rattle.office_jobs.specs.Jobs.{DoesOfficeJob, IsLawfulJob, IsMaking}
-use Rattle.office_jobs.specs.Listing.{ListingEnds}
-use Rattle.office_jobs.specs.Making.{IsUnmade, MakingEnds, MigratingEnds}
-use Rattle.office_jobs.specs.Reporting.{IsReport}
-use Rattle.office_jobs.specs.Serving.{Heard, ServingEnds}
+use Rattle.office_jobs.specs.Jobs.{IsLawfulJob, IsMaking}
 use Rattle.office_jobs.proofs.Asking.{asks_list, asks_signers, asks_table}
 
 -- ---- exchanges that were not run

@@ -1,12 +1,9 @@
 -- What is printed about a job once its database is closed.
-use Rattle.std.proofs.Common.{◌≡◌, ℕ, List, Option, Result, Ok, Err, refl}
-use Rattle.std.specs.Prelude.{IfErr, IsOk, OnOk}
-use Rattle.std.specs.Io.KnownBytes.{Appends}
+use Rattle.office_jobs.proofs.Words.{Appends, Err, Follows, IfErr, JobFault, List, Ok, OnOk, Option, Result, Write}
+use Rattle.office_jobs.proofs.Words.{refl, ℕ, ◌≡◌}
+use Rattle.std.specs.Prelude.{IsOk}
 use Rattle.server.specs.declared.connection_fault.SelftestFault.{SelftestFault}
-use Rattle.office_jobs.specs.declared.job_fault.JobFault.{JobFault}
-use Rattle.office_jobs.specs.declared.job_fault.JobFault.TheVariants.{Write}
 use Rattle.office_jobs.specs.Faults.{of_selftest, test_result}
-use Rattle.office_jobs.specs.Steps.{Follows}
 use Rattle.office_jobs.specs.Whole.{PrintsText}
 
 pub told : (text : List ℕ) (held holds : Option (List ℕ)) (done result : Result Unit JobFault)

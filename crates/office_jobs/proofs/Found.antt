@@ -1,23 +1,16 @@
 -- Opening a database for a job, and the office in it afterwards.
-use Rattle.std.proofs.Common.{◌≡◌, Bor, ℕ, List, Result, Ok, Err, refl, subst}
-use Rattle.std.specs.Prelude.{IsTrue}
+use Rattle.office_jobs.proofs.Words.{AddsArrivals, Asked, Bor, EndFault, Err, Follows, Ghosts, HasCleanDisk, Held}
+use Rattle.office_jobs.proofs.Words.{IsTrue, JobFault, List, OfficeJob, Ok, Opening, OpensFor, OpensThere, Result, refl}
+use Rattle.office_jobs.proofs.Words.{state, subst, ℕ, ◌≡◌}
 use Rattle.sqlite_trees.specs.declared.store.Store as store
 use Rattle.sqlite.specs.declared.error.Error.{Error}
-use Rattle.sqlite.specs.Held.{Held, state}
-use Rattle.sqlite.specs.State.{HasCleanDisk}
 use Rattle.store_sql.specs.Honest.{StaysClean}
-use Rattle.office.specs.declared.opening.Opening.{Opening}
-use Rattle.restart.specs.declared.ending.EndFault.{EndFault}
 use Rattle.restart.specs.Ending.{IsEnd}
-use Rattle.restart.specs.Lives.{Asked, End}
-use Rattle.restart.specs.Runs.{AddsArrivals, Does, KeepsOffice, RunsOn}
+use Rattle.restart.specs.Lives.{End}
+use Rattle.restart.specs.Runs.{Does, KeepsOffice, RunsOn}
 use Rattle.restart.proofs.Lives.{runs_on}
-use Rattle.office_jobs.specs.declared.world.World.{Ghosts}
-use Rattle.office_jobs.specs.declared.job_fault.JobFault.{JobFault}
-use Rattle.office_jobs.specs.declared.job.OfficeJob.{OfficeJob}
 use Rattle.office_jobs.specs.declared.job.OfficeJob.TheVariants.{Init}
-use Rattle.office_jobs.specs.Finding.{Opens, OpensFor, OpensThere, found_open}
-use Rattle.office_jobs.specs.Steps.{Follows}
+use Rattle.office_jobs.specs.Finding.{Opens, found_open}
 use Rattle.office_jobs.specs.Whole.{IsReady, KeepsDatabases}
 
 -- a job that makes no office opens an existing database

@@ -1,3 +1,4 @@
+pub mod Words
 pub mod Additions
 pub mod Applied
 pub mod Asking

@@ -1,16 +1,8 @@
 -- Offices that were not made.
-use Rattle.std.proofs.Common.{◌≡◌, Err, sym, subst}
-use Rattle.std.specs.Prelude.{IsTrue}
-use Rattle.sqlite.specs.State.{State}
-use Rattle.office.specs.declared.opening.Opening.{Opening}
-use Rattle.office.specs.declared.store_fault.StoreFault.{StoreFault}
+use Rattle.office_jobs.proofs.Words.{DiskFailed, Err, IsAsBefore, IsBlank, IsExcused, IsTrue, IsUnmade, JobFault}
+use Rattle.office_jobs.proofs.Words.{KeepsTelling, MakingEnds, Opening, State, StoreFault, of_store, subst, sym, ◌≡◌}
 use Rattle.office.specs.declared.store_fault.StoreFault.TheVariants as store
-use Rattle.store.specs.Transactions.{IsAsBefore}
-use Rattle.store.specs.Migrating.{IsExcused}
-use Rattle.store.specs.Meaning.{DiskFailed, IsBlank, KeepsTelling}
-use Rattle.office_jobs.specs.declared.job_fault.JobFault.{JobFault}
-use Rattle.office_jobs.specs.Faults.{of_store}
-use Rattle.office_jobs.specs.Making.{IsMadeWhole, IsUnmade, MakingEnds}
+use Rattle.office_jobs.specs.Making.{IsMadeWhole}
 
 makes_not : (e : StoreFault) (opening : Opening) (old new : State) → IsUnmade opening old new e
     → MakingEnds opening old new (Err (of_store e))

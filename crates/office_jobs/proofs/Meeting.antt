@@ -1,24 +1,14 @@
 -- Connections served over the office that was opened were served over the database as it was given.
-use Rattle.std.proofs.Common.{◌≡◌, ◌≤◌, ℕ, List, map, Option, Some, None, Result, Ok, Err, refl, sym, subst}
-use Rattle.std.specs.Prelude.{IsTrue}
-use Rattle.std.specs.declared.io.ErrorKind.{ErrorKind}
-use Rattle.std.specs.Io.KnownBytes.{Appends}
-use Rattle.sqlite.specs.State.{HasCleanDisk, State}
+use Rattle.office_jobs.proofs.Words.{Appends, Book, Err, ErrorKind, HasCleanDisk, IsAsBefore, IsTrue, IsUnopened}
+use Rattle.office_jobs.proofs.Words.{JobFault, KeepsTelling, List, MeetsOver, None, Ok, Option, Result, ServingEnds}
+use Rattle.office_jobs.proofs.Words.{Some, State, StoreFault, Tells, heard_of, of_store, refl, subst, sym, ℕ, ◌≡◌, ◌≤◌}
+use Rattle.std.proofs.Common.{map}
 use Rattle.office.specs.declared.registry.Registry.{Ghosts}
-use Rattle.office.specs.declared.store_fault.StoreFault.{StoreFault}
 use Rattle.office.specs.declared.store_fault.StoreFault.TheVariants as store
 use Rattle.web.specs.Runs.{Serves as AllServed}
-use Rattle.server.specs.Books.{Book}
 use Rattle.server.specs.Connections.{AreServed, Extends, Visited, Visit, exchange_of, given_of}
 use Rattle.server.specs.Names.{listening_line}
-use Rattle.store.specs.Transactions.{IsAsBefore}
-use Rattle.store.specs.Meaning.{KeepsTelling, Tells}
-use Rattle.office_jobs.specs.Faults.{of_store}
-use Rattle.office_jobs.specs.Opening.{IsUnopened}
-use Rattle.office_jobs.specs.Serving.{MeetsOver, ServingEnds}
-use Rattle.office_jobs.specs.Whole.{heard_of}
 use Rattle.office_jobs.proofs.Carried.{before_again}
-use Rattle.office_jobs.specs.declared.job_fault.JobFault.{JobFault}
 use Rattle.office_jobs.specs.declared.job_fault.JobFault.TheVariants as fault
 
 -- connections handled over a register are handled over the database of that register

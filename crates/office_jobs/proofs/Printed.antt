@@ -1,25 +1,14 @@
 -- The list and the reports of a database, as they are printed.
-use Rattle.std.proofs.Common.{◌≡◌, ◌≢◌, ℕ, List, Option, Result, Ok, Err, sym, subst}
-use Rattle.std.specs.Prelude.{IfErr, IsTrue, OnOk}
-use Rattle.std.specs.Io.KnownBytes.{Appends}
-use Rattle.sqlite.specs.State.{State}
-use Rattle.office.specs.declared.opening.Opening.{Opening}
-use Rattle.office.specs.declared.arrival.Arrival.{Arrival}
-use Rattle.office.specs.declared.store_fault.StoreFault.{StoreFault}
+use Rattle.office_jobs.proofs.Words.{Appends, Arrival, Err, IfErr, IsAsBefore, IsOfARegister, IsOpened, IsReport}
+use Rattle.office_jobs.proofs.Words.{IsTrue, IsUnopened, IsUnprinted, JobFault, KeepsTelling, List, ListingEnds}
+use Rattle.office_jobs.proofs.Words.{NoMemory, Ok, OnOk, Opening, Option, Report, Reports, Result, State, StoreFault}
+use Rattle.office_jobs.proofs.Words.{Stores, Tells, Write, of_store, subst, sym, ℕ, ◌≡◌, ◌≢◌}
 use Rattle.office.specs.declared.store_fault.StoreFault.TheVariants as store
-use Rattle.office.specs.Faults.{IsOfARegister}
-use Rattle.store.specs.Transactions.{IsAsBefore}
-use Rattle.store.specs.Meaning.{KeepsTelling, Stores, Tells}
 use Rattle.headline.specs.declared.publish_fault.PublishFault.{PublishFault}
 use Rattle.headline.specs.declared.publish_fault.PublishFault.TheVariants as publish
 use Rattle.headline.specs.Headline.{IfFound, IsList, OfStore}
-use Rattle.office_jobs.specs.declared.job_fault.JobFault.{JobFault}
-use Rattle.office_jobs.specs.declared.job_fault.JobFault.TheVariants.{NoMemory, Store, Write}
-use Rattle.office_jobs.specs.declared.reporting.Report.{Report}
-use Rattle.office_jobs.specs.Faults.{of_store, publish_result}
-use Rattle.office_jobs.specs.Opening.{IsUnprinted, IsOpened, IsUnopened}
-use Rattle.office_jobs.specs.Listing.{ListingEnds}
-use Rattle.office_jobs.specs.Reporting.{IsReport, Reports}
+use Rattle.office_jobs.specs.declared.job_fault.JobFault.TheVariants.{Store}
+use Rattle.office_jobs.specs.Faults.{publish_result}
 use Rattle.office_jobs.proofs.Carried.{before_again, before_open, left_from, unopened_left}
 
 -- ---- the list

@@ -1,24 +1,16 @@
 -- The body of the response to a request for a report.
-use Rattle.std.proofs.Common.{◌≡◌, ◌<◌, ◌+◌, ◌^◌, ℕ, List, length, Option, Some, None, Result, Ok, Err, arith, refl, sym, ap, subst, ◌∙◌, length-append}
-use Rattle.std.specs.Prelude.{IfErr, OnOk}
-use Rattle.std.specs.Io.KnownBytes.{Appends}
-use Rattle.sqlite.specs.State.{State}
-use Rattle.http_requests.specs.Asks.{Ask, Asks, get}
-use Rattle.http_requests.specs.declared.response.MediaType.TheVariants.{PlainText}
-use Rattle.http_requests.specs.Responses.{response_head, response_text}
-use Rattle.office.specs.declared.opening.Opening.{Opening}
-use Rattle.office.specs.declared.arrival.Arrival.{Arrival}
+use Rattle.office_jobs.proofs.Words.{Appends, Arrival, Asks, Err, IfErr, IsReport, IsUnprinted, JobFault, List, None}
+use Rattle.office_jobs.proofs.Words.{Ok, OnOk, Opening, Option, PlainText, Report, Result, Some, State, Stores, Tells}
+use Rattle.office_jobs.proofs.Words.{Write, ap, arith, get, length, length-append, refl, resource_of, response_text}
+use Rattle.office_jobs.proofs.Words.{subst, sym, ℕ, ◌+◌, ◌<◌, ◌^◌, ◌∙◌, ◌≡◌}
+use Rattle.http_requests.specs.Asks.{Ask}
+use Rattle.http_requests.specs.Responses.{response_head}
 use Rattle.office.specs.declared.store_fault.StoreFault.TheVariants as store
 use Rattle.office.specs.History.{state}
-use Rattle.store.specs.Meaning.{Stores, Tells}
 use Rattle.web.specs.Answers.{AnswersAsk, IsOfTheRegister, answer_text, with_ask}
 use Rattle.headline.specs.Headline.{OfficeAnswers}
-use Rattle.office_jobs.specs.declared.job_fault.JobFault.{JobFault}
-use Rattle.office_jobs.specs.declared.job_fault.JobFault.TheVariants.{Write}
-use Rattle.office_jobs.specs.declared.reporting.Report.{Report}
 use Rattle.office_jobs.specs.declared.reporting.Report.TheVariants.{Signers, Table}
-use Rattle.office_jobs.specs.Opening.{IsUnprinted}
-use Rattle.office_jobs.specs.Reporting.{IsReport, report_text, resource_of}
+use Rattle.office_jobs.specs.Reporting.{report_text}
 use Rattle.office_jobs.proofs.Bodies.{found_is, not_found}
 
 -- a request has at most one reading

@@ -1,16 +1,15 @@
 -- The bytes read from a file determine how the file is read.
-use Rattle.std.proofs.Common.{◌≡◌, ◌<◌, ◌∙◌, ℕ, ◌+◌, List, length, take, Option, Some, None, Result, Ok, Err, ap, arith, sym}
-use Rattle.std.proofs.Common.{subst}
-use Rattle.std.specs.Prelude.{IfOk, IfSome, min}
+use Rattle.office_jobs.proofs.Words.{Err, File, IfOk, IfSome, IsOfExchanges, JobFault, List, NoMemory, None, Ok, Option}
+use Rattle.office_jobs.proofs.Words.{Result, Some, ap, arith, length, subst, sym, ℕ, ◌+◌, ◌<◌, ◌∙◌, ◌≡◌}
+use Rattle.std.proofs.Common.{take}
+use Rattle.std.specs.Prelude.{min}
 use Rattle.std.proofs.lemmas.List.{length-take}
 use Rattle.exchanges.specs.declared.exchange_reader.TheConstants.{MAX_FILE}
 use Rattle.exchanges.specs.Exchanges.{TellsOf}
 use Rattle.exchanges.specs.declared.exchange_reader.ExchangesFault.{ExchangesFault}
 use Rattle.exchanges.specs.declared.exchange_reader.ExchangesFault.TheVariants as exchanges
 use Rattle.exchanges.proofs.LongFiles.{first_tells}
-use Rattle.office_jobs.specs.declared.job_fault.JobFault.{JobFault}
-use Rattle.office_jobs.specs.declared.job_fault.JobFault.TheVariants.{File, NoMemory}
-use Rattle.office_jobs.specs.Faults.{IsOfAFile, IsOfExchanges, of_exchanges}
+use Rattle.office_jobs.specs.Faults.{IsOfAFile, of_exchanges}
 
 -- the first `MAX_FILE + 1` bytes were read
 pub tells : {T E : Type 0} (items : T → List ℕ) (r : Result T E) (left : Option (List ℕ))

@@ -1,10 +1,9 @@
 -- Text that is printed in parts.
-use Rattle.std.proofs.Common.{◌≡◌, ℕ, List, ◌∷◌, ◌++◌, false, codes, decimal, Option, Result, Ok, Err, ap, subst, ◌∙◌, append_assoc}
-use Rattle.std.specs.Prelude.{OnOk, is_err}
-use Rattle.std.specs.Io.KnownBytes.{Appends}
+use Rattle.office_jobs.proofs.Words.{Appends, Err, List, Ok, OnOk, Opening, Option, Result, ap, append_assoc, codes}
+use Rattle.office_jobs.proofs.Words.{decimal, false, subst, ℕ, ◌++◌, ◌∙◌, ◌∷◌, ◌≡◌}
+use Rattle.std.specs.Prelude.{is_err}
 use Rattle.std.proofs.KnownBytes.{Appends-trans}
 use Rattle.lines.specs.Digests.{fingerprint_text}
-use Rattle.office.specs.declared.opening.Opening.{Opening}
 use Rattle.office_jobs.specs.Making.{ready_text}
 
 -- if there is no fault, what holds of a success holds

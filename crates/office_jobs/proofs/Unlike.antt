@@ -1,10 +1,8 @@
 -- A database in which an office was made or migrated had no office of this schema.
-use Rattle.std.proofs.Common.{◌≡◌, ◌≢◌, true, Ok, Err, Result, drop}
-use Rattle.std.specs.List.{list_any}
-use Rattle.sqlite.specs.State.{State}
-use Rattle.store_sql.specs.Look.{first_is_office, is_ca_name, is_office_name, is_office_table}
+use Rattle.office_jobs.proofs.Words.{Err, Ok, Result, State, is_office_table, list_any, true, whole, ◌≡◌, ◌≢◌}
+use Rattle.std.proofs.Common.{drop}
+use Rattle.store_sql.specs.Look.{first_is_office, is_ca_name, is_office_name}
 use Rattle.store_sql.specs.Look.{whole_has_ca, whole_has_tables}
-use Rattle.store_sql.specs.Schema.{whole}
 
 -- if a call that refuses tables with an office's names succeeded, the schema wasn't an office's
 pub had_no_office : {X E : Type 0} (old : State) (r : Result X E) (x : X) (e : E) → r ≡ Ok x

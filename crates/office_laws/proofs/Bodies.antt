@@ -1,23 +1,18 @@
 -- Bodies (unsigned certificates) never change, and name the CA that signs them.
-use Rattle.std.proofs.Common.{◌≡◌, ℕ, zero, suc, ◌+◌, ◌-◌, ◌<◌, List, [], ◌∷◌, ◌++◌, ◌⊎◌, length, map, fold}
-use Rattle.std.proofs.Common.{cond, ltb, Bool, true, false, Option, Some, None}
-use Rattle.std.proofs.Common.{refl, sym, ap, subst, ◌∙◌, inl, inr, arith}
-use Rattle.std.specs.Prelude.{slice_get, option_map}
-use Rattle.std.proofs.lemmas.Bool.{le-leb, lt-leb}
-use Rattle.std.proofs.lemmas.List.{map-append, length-map}
+use Rattle.office_laws.proofs.Words.{Arrival, Bool, Ca, Certificate, IsKeptByEach, List, None, Opening, Option}
+use Rattle.office_laws.proofs.Words.{Signature, Some, State, [], always, always_more, ap, arith, ca_from_now}
+use Rattle.office_laws.proofs.Words.{certificate_of, cond, false, fold, inl, inr, key_at, le-leb, length, length-map}
+use Rattle.office_laws.proofs.Words.{lt-leb, ltb, map, map-append, newest_key, next_serial, refl, slice_get, state}
+use Rattle.office_laws.proofs.Words.{subst, suc, sym, true, with_ca, zero, ℕ, ◌++◌, ◌+◌, ◌-◌, ◌<◌, ◌∙◌, ◌∷◌, ◌≡◌}
+use Rattle.std.proofs.Common.{◌⊎◌}
+use Rattle.std.specs.Prelude.{option_map}
 use Rattle.std.proofs.lemmas.List.Sums.{fold_push}
 use Rattle.std.proofs.lemmas.Option.{slice_get-map, slice_get_within}
-use Rattle.lines.specs.declared.signature.Signature.{Signature}
-use Rattle.office.specs.declared.opening.Opening.{Opening}
-use Rattle.office.specs.declared.arrival.Arrival.{Arrival}
-use Rattle.office.specs.declared.ca.Ca.{Ca}
-use Rattle.office.specs.declared.certificate.Certificate.{Certificate}
-use Rattle.office.specs.State.{State, next_serial, certificate_of, body_of, key_or, newest_key}
-use Rattle.office.specs.Machine.{signed_at, with_ca, ca_from_now}
-use Rattle.office.specs.History.{state}
+use Rattle.office.specs.State.{body_of, key_or}
+use Rattle.office.specs.Machine.{signed_at}
 use Rattle.office.proofs.Decisions.{certificate_at}
-use Rattle.office.proofs.Changes.{IsKeptByEach, IsNext, always, always_more}
-use Rattle.office_laws.specs.Signers.{key_at, signer_of}
+use Rattle.office.proofs.Changes.{IsNext}
+use Rattle.office_laws.specs.Signers.{signer_of}
 use Rattle.office_laws.specs.Bodies.{IsBodyFor}
 use Rattle.office_laws.proofs.Shape.{AreCas, Rise, cas_each, opened_cas}
 

@@ -1,9 +1,7 @@
 -- The message in an arrival's bytes.
-use Rattle.std.proofs.Common.{◌≡◌, ◌↔◌, ℕ, List, Some, ap, subst, ◌∙◌}
-use Rattle.std.proofs.lemmas.Bool.{and_parts}
+use Rattle.office_laws.proofs.Words.{List, Message, Some, and_parts, ap, bytes_eq-Decides, subst, ℕ, ◌∙◌, ◌≡◌}
+use Rattle.std.proofs.Common.{◌↔◌}
 use Rattle.std.proofs.lemmas.Option.{cond_some, option_and_then_some}
-use Rattle.std.proofs.lemmas.Slice.Eq.{bytes_eq-Decides}
-use Rattle.message.specs.declared.kinds.Message.{Message}
 use Rattle.message.specs.Belonging.{BelongsTo}
 use Rattle.message.specs.Reading.{message_at, message_of}
 use Rattle.message.specs.Texts.{message_text}

@@ -1,25 +1,19 @@
 -- Serials are consecutive.
-use Rattle.std.proofs.Common.{◌≡◌, ℕ, ◌-◌, List, [], ◌∷◌, ◌++◌, length, map, Bool, true, false, cond}
-use Rattle.std.proofs.Common.{Option, Some, None, refl, sym, ap, subst, ◌∙◌, length-append, add-one}
+use Rattle.office_laws.proofs.Words.{Arrival, Bool, Certificate, First, IsKeptByEach, List, Message, None, Opening}
+use Rattle.office_laws.proofs.Words.{Option, Some, State, [], add-one, after, after_all, always, ap, certificate_of}
+use Rattle.office_laws.proofs.Words.{cond, false, has_any, is_key_id_revoked, is_range_revoked, length, length-append}
+use Rattle.office_laws.proofs.Words.{length-signed_at, map, map-append, newest_key, next_serial, opening_stays, refl}
+use Rattle.office_laws.proofs.Words.{state, subst, sym, true, with_one_more, ℕ, ◌++◌, ◌-◌, ◌∙◌, ◌∷◌, ◌≡◌}
 use Rattle.std.specs.Prelude.{is_none, filter}
 use Rattle.std.specs.Option.{option_map}
-use Rattle.std.proofs.lemmas.List.{append-nil, map-append}
+use Rattle.std.proofs.lemmas.List.{append-nil}
 use Rattle.std.proofs.lemmas.List.Elements.{filter-append}
-use Rattle.message.specs.declared.kinds.Message.{Message}
 use Rattle.message.specs.declared.kinds.Message.TheVariants as message
-use Rattle.office.specs.declared.opening.Opening.{Opening}
-use Rattle.office.specs.declared.certificate.Certificate.{Certificate}
-use Rattle.office.specs.declared.arrival.Arrival.{Arrival}
 use Rattle.office.specs.Certificates.{renewed_certificate}
-use Rattle.office.specs.State.{State, next_serial, certificate_of, newest_key}
-use Rattle.office.specs.State.{is_range_revoked, is_key_id_revoked, has_any}
 use Rattle.office.specs.Refusals.{refusals, first_holding}
-use Rattle.office.specs.Machine.{after, reply_to, issued, with_one_more, reply_to_made}
-use Rattle.office.specs.History.{First, state}
+use Rattle.office.specs.Machine.{reply_to, issued, reply_to_made}
 use Rattle.office.proofs.Judged.{none_holds}
-use Rattle.office.proofs.Growth.{opening_stays, length-signed_at}
-use Rattle.office.proofs.Histories.{IsKeptBy, after_all}
-use Rattle.office.proofs.Changes.{IsKeptByEach, always}
+use Rattle.office.proofs.Histories.{IsKeptBy}
 use Rattle.office_laws.specs.Counting.{CountsUp, counted_from, is_issuing, issue_replies, reply_of}
 use Rattle.office_laws.proofs.Bodies.{map-signed_at}
 

@@ -1,22 +1,11 @@
 -- A later list revokes everything that an earlier one does.
-use Rattle.std.proofs.Common.{◌≡◌, ℕ, ◌-◌, ◌<◌, List, [], ◌∷◌, ◌++◌, true, ◌&&◌, Some}
-use Rattle.std.proofs.Common.{sym, ap, ◌∙◌, inl, inr, arith, length-append}
-use Rattle.std.specs.Prelude.{slice_get}
-use Rattle.std.specs.Str.{bytes_eq}
-use Rattle.std.proofs.lemmas.Bool.{and_parts, and_from, or_cases, or_left, or_right}
-use Rattle.lines.specs.Keys.{key_blob}
+use Rattle.office_laws.proofs.Words.{Arrival, Ca, IsExact, IsKeptByEach, List, Opening, Some, State, [], always_more}
+use Rattle.office_laws.proofs.Words.{and_parts, ap, arith, bytes_eq, inl, inr, is_key_id_named, is_serial_named}
+use Rattle.office_laws.proofs.Words.{is_signer, key_blob, length-append, length-signed_at, next_serial}
+use Rattle.office_laws.proofs.Words.{revoked_is_issued, slice_get, state, sym, true, ℕ, ◌&&◌, ◌++◌, ◌-◌, ◌<◌, ◌∙◌, ◌∷◌}
+use Rattle.office_laws.proofs.Words.{◌≡◌}
+use Rattle.std.proofs.lemmas.Bool.{and_from, or_cases, or_left, or_right}
 use Rattle.krl.specs.Format.{RevocationList, revokes}
-use Rattle.office.specs.declared.opening.Opening.{Opening}
-use Rattle.office.specs.declared.arrival.Arrival.{Arrival}
-use Rattle.office.specs.declared.ca.Ca.{Ca}
-use Rattle.office.specs.State.{State, next_serial}
-use Rattle.office.specs.History.{state}
-use Rattle.office.proofs.Growth.{length-signed_at}
-use Rattle.office.proofs.Ranges.{revoked_is_issued}
-use Rattle.office_laws.specs.Named.{is_serial_named, is_key_id_named}
-use Rattle.office_laws.specs.Signers.{is_signer}
-use Rattle.office_laws.specs.Lists.{IsExact}
-use Rattle.office.proofs.Changes.{IsKeptByEach, always_more}
 use Rattle.office_laws.proofs.Named.{serials_are_named, key_ids_are_named, serials_stay, key_ids_stay}
 use Rattle.office_laws.proofs.Bodies.{there_push, later_signs_not}
 

@@ -1,3 +1,4 @@
+pub mod Words
 pub mod Brought
 pub mod Named
 pub mod Shape

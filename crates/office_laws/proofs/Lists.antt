@@ -1,30 +1,21 @@
 -- The published list revokes exactly the serials and key IDs that accepted messages named.
-use Rattle.std.proofs.Common.{◌≡◌, ◌≢◌, ℕ, zero, suc, ◌+◌, ◌≤◌, ◌^◌, List, [], ◌∷◌, length, map, fold, Bool}
-use Rattle.std.proofs.Common.{true, false, ◌&&◌, ◌||◌, leb, Some, refl, sym, ap, ap₂, subst, ◌∙◌, inl, inr, arith}
-use Rattle.std.specs.Prelude.{slice_get}
-use Rattle.std.specs.List.{AllByRecursion}
-use Rattle.std.specs.Str.{bytes_eq}
-use Rattle.std.proofs.lemmas.Bool.{le-leb}
-use Rattle.lines.specs.Keys.{key_blob}
-use Rattle.krl.specs.declared.ca_part.CaPart.{CaPart}
-use Rattle.krl.specs.Sets.{AreRuns, contains, is_counted, is_last_reached}
+use Rattle.office_laws.proofs.Words.{AllByRecursion, Arrival, Bool, Ca, CaPart, IsExact, List, Opening, Some, State, []}
+use Rattle.office_laws.proofs.Words.{ap, ap₂, arith, bytes_eq, false, fold, head_of, inl, inr, is_last_reached}
+use Rattle.office_laws.proofs.Words.{is_revoked_under, is_serial_named, is_signer, key_at, key_blob, le-leb, leb}
+use Rattle.office_laws.proofs.Words.{length, map, next_serial, opening_stays, part_of, parts_from, published_list, refl}
+use Rattle.office_laws.proofs.Words.{revoked_is_issued, slice_get, state, subst, suc, sym, true, zero, ℕ, ◌&&◌, ◌+◌}
+use Rattle.office_laws.proofs.Words.{◌||◌, ◌∙◌, ◌∷◌, ◌≡◌, ◌≢◌, ◌≤◌}
+use Rattle.std.proofs.Common.{◌^◌}
+use Rattle.krl.specs.Sets.{AreRuns, contains, is_counted}
 use Rattle.krl.specs.Published.{composed_list as krl_list, IsMemberOf, AreDistinctCas, fits}
 use Rattle.krl.proofs.Publishing.{only_cut, revokes_exactly}
 use Rattle.krl.proofs.Counting.{runs_in_runs, contains_runs_in, are_counted}
-use Rattle.office.specs.declared.opening.Opening.{Opening}
-use Rattle.office.specs.declared.arrival.Arrival.{Arrival}
-use Rattle.office.specs.declared.ca.Ca.{Ca}
 use Rattle.office.specs.Openings.{IsOpening}
-use Rattle.office.specs.State.{State, next_serial}
-use Rattle.office.specs.Publication.{head_of, is_revoked_under, part_of, parts_from, published_parts, published_list}
-use Rattle.office.specs.History.{state}
+use Rattle.office.specs.Publication.{published_parts}
 use Rattle.office.specs.Shows.{IsOffice}
-use Rattle.office.proofs.Growth.{opening_stays, holds_in_range}
+use Rattle.office.proofs.Growth.{holds_in_range}
 use Rattle.office.proofs.Sizes.{last_of}
-use Rattle.office.proofs.Ranges.{revoked_is_issued}
-use Rattle.office_laws.specs.Named.{is_serial_named}
-use Rattle.office_laws.specs.Signers.{key_at, is_signer}
-use Rattle.office_laws.specs.Lists.{IsExact, AreExactList}
+use Rattle.office_laws.specs.Lists.{AreExactList}
 use Rattle.office_laws.proofs.Named.{serials_are_named, key_ids_are_named}
 use Rattle.office.proofs.Dates.{date_after}
 use Rattle.office_laws.proofs.Shape.{AreDistinct, cas_stand}

@@ -1,26 +1,23 @@
 -- Exactly the serials and key IDs that accepted messages named are revoked.
-use Rattle.std.proofs.Common.{◌≡◌, ℕ, ◌+◌, ◌-◌, List, [], ◌∷◌, ◌++◌, Bool, true, false, cond, ◌&&◌, ◌||◌, leb}
-use Rattle.std.proofs.Common.{eqb, Ordering, Less, Equal, Greater, Option, Some, None, refl, sym, ap, ◌∙◌, arith}
+use Rattle.office_laws.proofs.Words.{Arrival, Bool, Certificate, First, List, Message, None, Opening, Option, Some}
+use Rattle.office_laws.proofs.Words.{State, [], after, after_all, ap, arith, bytes_eq, bytes_eq-Decides, cond, false}
+use Rattle.office_laws.proofs.Words.{has_any, is_key_id_named, is_key_id_revoked, is_range_revoked, is_serial_named}
+use Rattle.office_laws.proofs.Words.{leb, refl, state, sym, true, with_one_more, ℕ, ◌&&◌, ◌++◌, ◌+◌, ◌-◌, ◌||◌, ◌∙◌}
+use Rattle.office_laws.proofs.Words.{◌∷◌, ◌≡◌}
+use Rattle.std.proofs.Common.{eqb, Ordering, Less, Equal, Greater}
 use Rattle.std.specs.List.{list_any}
-use Rattle.std.specs.Str.{bytes_eq}
 use Rattle.std.specs.Ordering.{nat_cmp, is_eq}
 use Rattle.std.specs.Cmp.Lexicographic.{slice_cmp}
 use Rattle.std.specs.FinMap.Entries.{by_order}
 use Rattle.std.proofs.lemmas.Bool.{eqb-true}
 use Rattle.std.proofs.lemmas.List.Folds.{list_any-append}
 use Rattle.std.proofs.lemmas.Map.Text.{is_eq-slice_cmp}
-use Rattle.std.proofs.lemmas.Slice.Eq.{bytes_eq-Decides}
 use Rattle.krl.proofs.Booleans.{ends, or_group}
-use Rattle.message.specs.declared.kinds.Message.{Message}
 use Rattle.message.specs.declared.kinds.Message.TheVariants as message
-use Rattle.office.specs.declared.opening.Opening.{Opening}
-use Rattle.office.specs.declared.arrival.Arrival.{Arrival}
-use Rattle.office.specs.declared.certificate.Certificate.{Certificate}
-use Rattle.office.specs.State.{State, is_range_revoked, is_key_id_revoked, has_any}
-use Rattle.office.specs.Machine.{opened, after, renewed, with_one_more, put_text}
-use Rattle.office.specs.History.{First, first_accepted, state}
-use Rattle.office_laws.specs.Named.{revokes_serial, names_key_id, is_serial_named, is_key_id_named}
-use Rattle.office.proofs.Histories.{after_all, after_more}
+use Rattle.office.specs.Machine.{opened, renewed, put_text}
+use Rattle.office.specs.History.{first_accepted}
+use Rattle.office_laws.specs.Named.{revokes_serial, names_key_id}
+use Rattle.office.proofs.Histories.{after_more}
 use Rattle.office.proofs.Ranges.{has_all-each}
 use Rattle.krl.proofs.Gathering.{within_one}
 

@@ -1,20 +1,14 @@
 -- The sections of the published list, while more serials are handed out and CAs are added.
-use Rattle.std.proofs.Common.{◌≡◌, ℕ, zero, suc, ◌+◌, ◌<◌, ◌≤◌, List, [], ◌∷◌, ◌++◌, length, map, Bool, true}
-use Rattle.std.proofs.Common.{false, cond, ◌&&◌, leb, ltb, refl, sym, ap, ap₂, ◌∙◌, arith, length-append, add-one}
-use Rattle.std.specs.List.{list_all}
-use Rattle.std.proofs.lemmas.Bool.{and_left, and_right, lt-leb, lt-ltb}
-use Rattle.std.proofs.lemmas.List.{map-append, length-map}
-use Rattle.lines.specs.declared.signature.Signature.{Signature}
+use Rattle.office_laws.proofs.Words.{Bool, Ca, CaPart, Certificate, List, Signature, State, [], add-one, ap, ap₂, arith}
+use Rattle.office_laws.proofs.Words.{ca_from_now, cond, false, is_last_reached, is_revoked_under, leb, length}
+use Rattle.office_laws.proofs.Words.{length-append, length-map, length-signed_at, list_all, lt-leb, ltb, map}
+use Rattle.office_laws.proofs.Words.{map-append, next_serial, part_of, parts_from, refl, suc, sym, true, with_ca}
+use Rattle.office_laws.proofs.Words.{with_certificate, with_signature, zero, ℕ, ◌&&◌, ◌++◌, ◌+◌, ◌<◌, ◌∙◌, ◌∷◌, ◌≡◌}
+use Rattle.office_laws.proofs.Words.{◌≤◌}
+use Rattle.std.proofs.lemmas.Bool.{and_left, and_right, lt-ltb}
 use Rattle.krl.specs.declared.run.Run.{Run}
-use Rattle.krl.specs.declared.ca_part.CaPart.{CaPart}
-use Rattle.krl.specs.Sets.{is_last_reached, with_first, runs_in}
+use Rattle.krl.specs.Sets.{with_first, runs_in}
 use Rattle.krl.specs.Published.{sections_of, published_sections}
-use Rattle.office.specs.declared.ca.Ca.{Ca}
-use Rattle.office.specs.declared.certificate.Certificate.{Certificate}
-use Rattle.office.specs.State.{State, next_serial}
-use Rattle.office.specs.Machine.{with_certificate, with_signature, with_ca, ca_from_now}
-use Rattle.office.specs.Publication.{is_revoked_under, part_of, parts_from}
-use Rattle.office.proofs.Growth.{length-signed_at}
 use Rattle.office_laws.proofs.Signers.{last_behind}
 
 -- ---- ranges

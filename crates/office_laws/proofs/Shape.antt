@@ -1,19 +1,11 @@
 -- An invariant of the CAs of an office after every history.
-use Rattle.std.proofs.Common.{◌≡◌, ◌≢◌, ℕ, ◌+◌, ◌-◌, ◌≤◌, List, [], ◌∷◌, ◌++◌, length}
-use Rattle.std.proofs.Common.{false, refl, sym, ap, ◌∙◌, arith, length-append}
-use Rattle.std.specs.List.{AllByRecursion}
-use Rattle.std.specs.Str.{bytes_eq}
+use Rattle.office_laws.proofs.Words.{AllByRecursion, Arrival, Ca, IsKeptByEach, List, Opening, State, [], always, ap}
+use Rattle.office_laws.proofs.Words.{arith, bytes_eq, bytes_eq-Decides, ca_from_now, false, length, length-append}
+use Rattle.office_laws.proofs.Words.{length-signed_at, next_serial, refl, state, sym, with_ca, ℕ, ◌++◌, ◌+◌, ◌-◌, ◌∙◌}
+use Rattle.office_laws.proofs.Words.{◌∷◌, ◌≡◌, ◌≢◌, ◌≤◌}
 use Rattle.std.proofs.lemmas.Bool.{or_parts}
 use Rattle.std.proofs.lemmas.Bool.Decides.{not_from_Decides}
-use Rattle.std.proofs.lemmas.Slice.Eq.{bytes_eq-Decides}
-use Rattle.office.specs.declared.opening.Opening.{Opening}
-use Rattle.office.specs.declared.arrival.Arrival.{Arrival}
-use Rattle.office.specs.declared.ca.Ca.{Ca}
-use Rattle.office.specs.State.{State, opened, next_serial, is_ca}
-use Rattle.office.specs.Machine.{with_ca, ca_from_now}
-use Rattle.office.specs.History.{state}
-use Rattle.office.proofs.Growth.{length-signed_at}
-use Rattle.office.proofs.Changes.{IsKeptByEach, always}
+use Rattle.office.specs.State.{opened, is_ca}
 
 -- no two CAs have the same key
 abbrev pub AreDistinct : List Ca → Type 0

@@ -1,14 +1,11 @@
 -- The signer of a serial is the CA under which the published list has it.
-use Rattle.std.proofs.Common.{◌≡◌, ◌≢◌, ℕ, zero, suc, List, [], ◌∷◌, map, Bool, true, false}
-use Rattle.std.proofs.Common.{◌&&◌, leb, ltb, Some, refl, sym, ap, subst, ◌∙◌, inl, inr, add-one}
-use Rattle.std.specs.Prelude.{slice_get, slice_index, drop}
-use Rattle.std.specs.List.{fold, list_all, AllByRecursion}
-use Rattle.std.specs.Str.{bytes_eq}
-use Rattle.std.proofs.lemmas.Bool.{and_parts, cases_Bool, cond_both, le-leb, lt-leb, ltb-true, ltb-false}
-use Rattle.std.proofs.lemmas.Slice.Eq.{bytes_eq-Decides}
-use Rattle.krl.specs.Sets.{is_last_reached}
-use Rattle.office.specs.declared.ca.Ca.{Ca}
-use Rattle.office_laws.specs.Signers.{key_at}
+use Rattle.office_laws.proofs.Words.{AllByRecursion, Bool, Ca, List, Some, [], add-one, and_parts, ap, bytes_eq}
+use Rattle.office_laws.proofs.Words.{bytes_eq-Decides, false, inl, inr, is_last_reached, key_at, le-leb, leb, list_all}
+use Rattle.office_laws.proofs.Words.{lt-leb, ltb, map, refl, slice_get, subst, suc, sym, true, zero, ℕ, ◌&&◌, ◌∙◌, ◌∷◌}
+use Rattle.office_laws.proofs.Words.{◌≡◌, ◌≢◌}
+use Rattle.std.specs.Prelude.{slice_index, drop}
+use Rattle.std.specs.List.{fold}
+use Rattle.std.proofs.lemmas.Bool.{cases_Bool, cond_both, ltb-true, ltb-false}
 use Rattle.office_laws.proofs.Shape.{AreDistinct}
 use Rattle.krl.proofs.Publishing.{bytes_other}
 

@@ -1,19 +1,13 @@
 -- Two lists with the same version are equal.
-use Rattle.std.proofs.Common.{◌≡◌, ℕ, ◌+◌, ◌≤◌, List, [], ◌∷◌, ◌++◌, false, refl, sym, ap, ◌∙◌, arith}
+use Rattle.office_laws.proofs.Words.{Arrival, Certificate, IsKeptByEach, List, Opening, Signature, State, []}
+use Rattle.office_laws.proofs.Words.{always_more, ap, arith, ca_from_now, false, has_any, head_of, next_serial}
+use Rattle.office_laws.proofs.Words.{parts_from, published_list, refl, revoked_is_issued, state, sym, with_ca}
+use Rattle.office_laws.proofs.Words.{with_certificate, with_signature, ℕ, ◌++◌, ◌+◌, ◌∙◌, ◌∷◌, ◌≡◌, ◌≤◌}
 use Rattle.std.proofs.lemmas.Bool.{false_from_ne_true}
-use Rattle.lines.specs.declared.signature.Signature.{Signature}
 use Rattle.krl.specs.Format.{krl_text}
 use Rattle.krl.specs.Published.{published_header, published_text}
-use Rattle.office.specs.declared.opening.Opening.{Opening}
-use Rattle.office.specs.declared.arrival.Arrival.{Arrival}
-use Rattle.office.specs.declared.certificate.Certificate.{Certificate}
-use Rattle.office.specs.State.{State, next_serial, has_any}
-use Rattle.office.specs.Machine.{with_certificate, with_signature, with_ca, ca_from_now}
-use Rattle.office.specs.Publication.{head_of, parts_from, published_list}
-use Rattle.office.specs.History.{state}
-use Rattle.office.proofs.Changes.{IsKeptByEach, always_more}
 use Rattle.office.proofs.Parts.{AreIssued}
-use Rattle.office.proofs.Ranges.{issued_each, revoked_is_issued}
+use Rattle.office.proofs.Ranges.{issued_each}
 use Rattle.office_laws.proofs.Parts.{parts_certificate, parts_signature, sections_ca}
 
 -- ---- changes that don't affect the list

@@ -1,19 +1,14 @@
 -- Histories that grow connection by connection.
-use Rattle.std.proofs.Common.{◌≡◌, ◌≤◌, ℕ, suc, List, [], ◌∷◌, ◌++◌, ◌∙◌, length, Option, Result, refl, sym, subst, ap, arith, append_assoc, length-append}
-use Rattle.std.specs.Prelude.{All, map}
-use Rattle.std.proofs.lemmas.List.{append-nil}
+use Rattle.server.proofs.Words.{AllDue, AreServed, Arrival, Ask, Book, Extends, Fault, Ghosts, LATEST_MOMENT, List}
+use Rattle.server.proofs.Words.{Opening, Option, Result, Talk, Visit, Visited, Visits, [], answered, ap, append-nil}
+use Rattle.server.proofs.Words.{arith, closed, cut, exchange_of, given_of, length, length-append, map, refl, subst, sym}
+use Rattle.server.proofs.Words.{with_ask, ℕ, ◌++◌, ◌∙◌, ◌∷◌, ◌≡◌, ◌≤◌}
+use Rattle.std.proofs.Common.{suc, append_assoc}
+use Rattle.std.specs.Prelude.{All}
 use Rattle.std.proofs.lemmas.List.Elements.{All-append, All-cons, All-nil}
-use Rattle.office.specs.declared.opening.Opening.{Opening}
-use Rattle.office.specs.declared.arrival.Arrival.{Arrival}
-use Rattle.office.specs.declared.registry.Registry.{Ghosts}
-use Rattle.http_requests.specs.Asks.{Ask, refused, get, post}
-use Rattle.values.specs.declared.limits.TheConstants.{LATEST_MOMENT}
-use Rattle.web.specs.Answers.{arrival_by, with_ask}
-use Rattle.web.specs.Runs.{AllDue}
-use Rattle.server.specs.declared.connection_fault.Fault.{Fault}
-use Rattle.server.specs.Books.{Book}
-use Rattle.server.specs.Connections.{Talk, Visit, answered, cut, closed, AreServed, Visits, Visited, Extends}
-use Rattle.server.specs.Connections.{IsExtended, IsTimely, exchange_of, given_of}
+use Rattle.http_requests.specs.Asks.{refused, get, post}
+use Rattle.web.specs.Answers.{arrival_by}
+use Rattle.server.specs.Connections.{IsExtended, IsTimely}
 
 -- a history with at most `most` more arrivals
 record Grows (most : ℕ) (old new : List Arrival) : Type 0 where

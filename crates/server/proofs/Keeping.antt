@@ -1,16 +1,11 @@
 -- What was served over a register that caches the pending certificates was served over the register below it.
-use Rattle.std.proofs.Common.{◌≡◌, ℕ, List, [], ◌++◌, Option, None, subst, sym}
-use Rattle.office.specs.declared.opening.Opening.{Opening}
-use Rattle.office.specs.declared.arrival.Arrival.{Arrival}
+use Rattle.server.proofs.Words.{Arrival, Book, Extends, Ghosts, List, MeansKnown, MeetsTold, None, Opening, Option}
+use Rattle.server.proofs.Words.{Visited, [], subst, sym, ℕ, ◌++◌, ◌≡◌}
 use Rattle.office.specs.declared.listing.Revocations.{Revocations}
 use Rattle.office.specs.declared.publication.Pending.{Pending}
-use Rattle.office.specs.declared.registry.Registry.{Ghosts}
 use Rattle.office.specs.History.{state}
-use Rattle.waiting.specs.Knowing.{MeansKnown}
 use Rattle.waiting.proofs.Covering.{knows_nothing}
 use Rattle.waiting.proofs.Kept.{none_kept}
-use Rattle.server.specs.Books.{Book}
-use Rattle.server.specs.Connections.{Extends, Visited, MeetsTold}
 
 -- `Extends` still holds for a stronger meaning before and for a weaker one after
 pub extends_as : (most : ℕ) (before before' after after' : Opening → List Arrival → Type 0)

@@ -1,3 +1,4 @@
+pub mod Words
 pub mod Extensions
 pub mod Runs
 pub mod Visits

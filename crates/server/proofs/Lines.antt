@@ -1,8 +1,5 @@
 -- A line that is printed in pieces.
-use Rattle.std.proofs.Common.{◌++◌, ℕ, List, Option, Result, Ok, Err}
-use Rattle.std.specs.Prelude.{OnOk}
-use Rattle.std.specs.Io.KnownBytes.{Appends}
-use Rattle.std.proofs.KnownBytes.{Appends-trans}
+use Rattle.server.proofs.Words.{Appends, Appends-trans, Err, List, Ok, OnOk, Option, Result, ℕ, ◌++◌}
 
 -- five pieces, of which the last may fail
 pub in_five : {X E : Type 0} (a b c d e f : Option (List ℕ)) (p q r s t : List ℕ) (result : Result X E)

@@ -1,20 +1,19 @@
 -- Connections in succession.
-use Rattle.std.proofs.Common.{◌≡◌, ◌≤◌, ◌+◌, ◌⊎◌, inl, inr, ℕ, List, [], ◌∷◌, ◌++◌, length, Option, Result, Ok, Err, refl, sym, subst, ap, ◌∙◌, arith, length-append}
-use Rattle.std.specs.Prelude.{map, flat_map}
-use Rattle.std.specs.Io.KnownBytes.{Appends, Consumes}
-use Rattle.std.proofs.KnownBytes.{Appends-nil, Appends-trans, Consumes-nil, Consumes-trans}
-use Rattle.std.proofs.lemmas.List.{append-nil, append_assoc}
+use Rattle.server.proofs.Words.{AllDue, Appends, Appends-trans, AreServed, Arrival, Book, Consumes, Consumes-nil, Err}
+use Rattle.server.proofs.Words.{Fault, Ghosts, List, MeetsTold, Ok, Opening, Option, Result, TellsVisit, Visit, Visited}
+use Rattle.server.proofs.Words.{Visits, WhereTold, [], answered, ap, append-nil, arith, closed, cut, exchange_of}
+use Rattle.server.proofs.Words.{given_of, inl, inr, length, length-append, map, refl, subst, sym, with_ask, ℕ, ◌++◌}
+use Rattle.server.proofs.Words.{◌+◌, ◌∙◌, ◌∷◌, ◌≡◌, ◌≤◌}
+use Rattle.std.proofs.Common.{◌⊎◌}
+use Rattle.std.specs.Prelude.{flat_map}
+use Rattle.std.proofs.KnownBytes.{Appends-nil, Consumes-trans}
+use Rattle.std.proofs.lemmas.List.{append_assoc}
 use Rattle.std.proofs.lemmas.List.Concat.{flat_map-append}
-use Rattle.office.specs.declared.opening.Opening.{Opening}
-use Rattle.office.specs.declared.arrival.Arrival.{Arrival}
-use Rattle.office.specs.declared.registry.Registry.{Ghosts}
-use Rattle.web.specs.Answers.{AsksTheRegister, with_ask}
-use Rattle.web.specs.Runs.{AllDue, HasAnswered}
-use Rattle.server.specs.declared.connection_fault.Fault.{Fault}
-use Rattle.server.specs.Books.{Book, WhereTold}
-use Rattle.server.specs.Connections.{Visit, answered, cut, closed, AreServed, EndsWith, IfGiven, Visited, TellsVisit}
-use Rattle.server.specs.Connections.{TellsAll, Visits, drawn_of, exchange_of, given_of}
-use Rattle.server.specs.Connections.{MeetsTold, fault_line, visit_line, visit_lines}
+use Rattle.web.specs.Answers.{AsksTheRegister}
+use Rattle.web.specs.Runs.{HasAnswered}
+use Rattle.server.specs.Connections.{EndsWith, IfGiven}
+use Rattle.server.specs.Connections.{TellsAll, drawn_of}
+use Rattle.server.specs.Connections.{fault_line, visit_line, visit_lines}
 use Rattle.server.specs.Names.{connection_line}
 
 -- one more visit in the book, at the end

@@ -1,17 +1,14 @@
 -- What one connection did, by the way it was served.
-use Rattle.std.proofs.Common.{◌≡◌, ◌≤◌, inl, inr, ℕ, List, [], ◌∷◌, ◌++◌, take, Option, None, Some, Result, Ok, Err, OnOk, refl, sym, subst, ap, ◌∙◌}
-use Rattle.std.specs.Io.KnownBytes.{Consumes, Appends}
-use Rattle.std.proofs.KnownBytes.{Consumes-nil}
-use Rattle.values.specs.declared.limits.TheConstants.{LATEST_MOMENT}
+use Rattle.server.proofs.Words.{Appends, AreServed, Arrival, Ask, Book, Consumes, Consumes-nil, Err, Fault, Ghosts}
+use Rattle.server.proofs.Words.{LATEST_MOMENT, List, None, Ok, OnOk, Opening, Option, Result, Talk, TellsVisit, Visits}
+use Rattle.server.proofs.Words.{WhereTold, [], answered, ap, closed, cut, inl, inr, refl, subst, sym, with_ask, ℕ, ◌++◌}
+use Rattle.server.proofs.Words.{◌∙◌, ◌∷◌, ◌≡◌, ◌≤◌}
+use Rattle.std.proofs.Common.{take, Some}
 use Rattle.wire.specs.Streams.{AppendsBeginning}
-use Rattle.http_requests.specs.Asks.{Ask}
 use Rattle.http_requests.proofs.OneAsk.{one_of}
-use Rattle.office.specs.declared.opening.Opening.{Opening}
-use Rattle.office.specs.declared.arrival.Arrival.{Arrival}
-use Rattle.office.specs.declared.registry.Registry.{Ghosts}
 use Rattle.web.specs.declared.exchange.Exchange.{Exchange}
 use Rattle.web.specs.declared.exchange.Given.TheVariants.{Answer}
-use Rattle.web.specs.Answers.{IsAnswered, IsOfTheRegister, Keeps, with_ask}
+use Rattle.web.specs.Answers.{IsAnswered, IsOfTheRegister, Keeps}
 use Rattle.web.specs.Runs.{Serves}
 use Rattle.web.specs.declared.serve_fault.ServeFault.{ServeFault}
 use Rattle.web.specs.declared.serve_fault.ServeFault.TheVariants.{Read, Nonces, Store, NoMemory, Write}
@@ -19,11 +16,10 @@ use Rattle.web.specs.Faults.{IfUnserved}
 use Rattle.web.specs.Nonces.{Draws}
 use Rattle.web.specs.Requests.{IsOneRequest}
 use Rattle.web.specs.Served.{Served}
-use Rattle.server.specs.declared.connection_fault.Fault.{Fault}
 use Rattle.server.specs.declared.connection_fault.Fault.TheVariants.{Socket, Clock, Serving}
-use Rattle.server.specs.Books.{Book, WhereTold, IsConnectionAccepted, IsEnded}
-use Rattle.server.specs.Connections.{Talk, answered, cut, closed, AreServed, IsHeld, IsOfAccepting, IsSilent}
-use Rattle.server.specs.Connections.{TellsVisit, TellsFault, Visits}
+use Rattle.server.specs.Books.{IsConnectionAccepted, IsEnded}
+use Rattle.server.specs.Connections.{IsHeld, IsOfAccepting, IsSilent}
+use Rattle.server.specs.Connections.{TellsFault}
 
 -- the bytes read from a connection are a prefix of what it sent
 split_request : (sent : List ℕ) (reader : Option (List ℕ)) (request : List ℕ) → Consumes (Some sent) reader request

@@ -1,38 +1,23 @@
 -- A received request that is accepted now.
-use Rattle.std.proofs.Common.{◌≡◌, ℕ, ◌+◌, ◌<◌, ◌≤◌, List, [], ◌∷◌, ◌++◌, length, Result, Ok, Err, refl, sym, ap}
-use Rattle.std.proofs.Common.{subst, ◌∙◌, arith}
-use Rattle.std.specs.Prelude.{IsOkAnd, ◌^◌}
-use Rattle.values.specs.declared.limits.TheConstants.{LATEST_MOMENT}
-use Rattle.sqlite.specs.Effect.{Database}
-use Rattle.sqlite.specs.State.{State as Connection, Survives}
-use Rattle.sqlite.proofs.StateLemmas.{survives_weaker}
-use Rattle.message.specs.declared.kinds.Message.{Message}
-use Rattle.store_sql.specs.Contents.{Contents}
-use Rattle.office.specs.declared.arrival.Arrival.{Arrival}
-use Rattle.office.specs.declared.arrival.Kept.{Kept}
+use Rattle.store.proofs.Words.{Arrival, Ca, Contents, Database, Decided, Decision, Err, Fault, Goes, HasRoom}
+use Rattle.store.proofs.Words.{IsAccepted, IsAfter, IsDue, IsHistory, IsNew, Kept, LATEST_MOMENT, List, Makes, Message}
+use Rattle.store.proofs.Words.{Ok, Opening, Past, Result, Settles, Shows, State, Survives, View, Waits, [], after, ap}
+use Rattle.store.proofs.Words.{arith, change, contents_after, due, first_holding, holds_in_range, judged, kept_at}
+use Rattle.store.proofs.Words.{kept_of, kept_row, last_of, length, next_serial, opening_stays, refl, refusals}
+use Rattle.store.proofs.Words.{revoked_is_issued, state_at, subst, survives_weaker, sym, written, ℕ, ◌++◌, ◌+◌, ◌<◌}
+use Rattle.store.proofs.Words.{◌^◌, ◌∙◌, ◌∷◌, ◌≡◌, ◌≤◌}
+use Rattle.std.specs.Prelude.{IsOkAnd}
+use Rattle.sqlite.specs.State.{State as Connection}
 use Rattle.office.specs.declared.arrival.Outcome.TheVariants as outcome
-use Rattle.office.specs.declared.ca.Ca.{Ca}
-use Rattle.office.specs.declared.opening.Opening.{Opening}
-use Rattle.office.specs.declared.view.Decision.{Decision}
-use Rattle.office.specs.declared.view.View.{View}
-use Rattle.office.specs.Decided.{Agrees, Decided, HasRoom, stepped_by, written}
-use Rattle.office.specs.Machine.{Stepped, after, first_holding, refusals, reply_to}
-use Rattle.office.specs.State.{State, next_serial}
-use Rattle.office.specs.History.{change, due, judged, kept_row, state}
-use Rattle.office.specs.Shows.{Shows}
-use Rattle.office.proofs.Growth.{holds_in_range, opening_stays}
-use Rattle.office.proofs.Ranges.{revoked_is_issued}
+use Rattle.office.specs.Decided.{Agrees, stepped_by}
+use Rattle.office.specs.Machine.{Stepped, reply_to}
+use Rattle.office.specs.History.{state}
 use Rattle.office.proofs.Steps.{shows_accepted}
-use Rattle.store.specs.Transactions.{Goes, Makes, Waits}
-use Rattle.store.specs.Due.{Fits, IsDue, contents_after, kept_of}
-use Rattle.store.specs.Meaning.{IsHistory}
-use Rattle.store_sql.specs.declared.table_fault.Fault.{Fault}
-use Rattle.store.specs.Arriving.{IsAccepted, IsAfter, IsNew, Past, Settles, kept_at, state_at}
+use Rattle.store.specs.Due.{Fits}
 use Rattle.office.proofs.Dates.{date_after}
 use Rattle.store.proofs.Lawful.{lawful_after}
 use Rattle.store.proofs.Settled.{goes_on, rows_with, shown_at}
 use Rattle.office.proofs.Judged.{step_gives}
-use Rattle.office.proofs.Sizes.{last_of}
 
 -- ---- the decision
 

@@ -1,46 +1,23 @@
 -- An accepted message adds only new rows: no row has their number or key, and the department of a certificate exists.
-use Rattle.std.proofs.Common.{◌≡◌, ◌⊎◌, inl, inr, ℕ, suc, ◌+◌, ◌≤◌, List, [], ◌∷◌, length, map, Bool, true, false, Some}
-use Rattle.std.proofs.Common.{refl, sym, ap, ◌∙◌, arith, ◌-◌, ◌++◌, length-append, not, Option, None, subst}
-use Rattle.std.specs.List.{AllByRecursion, list_any}
-use Rattle.std.specs.Ordering.{eq_by_cmp, nat_cmp}
-use Rattle.std.specs.Cmp.Lexicographic.{slice_cmp}
+use Rattle.store.proofs.Words.{AllByRecursion, AreCounted, Arrival, Bool, Ca, Certificate, Decision, Department, HasOne}
+use Rattle.store.proofs.Words.{IsAccepted, IsLawful, Kept, List, Message, None, Option, Past, Renewal, Some, State, []}
+use Rattle.store.proofs.Words.{after, ap, arith, bytes_eq, bytes_eq-Decides, ca_from_now, ca_rows, cert_row}
+use Rattle.store.proofs.Words.{certificate_of, department_named, department_row, eq_by_cmp, false, first_holding}
+use Rattle.store.proofs.Words.{has_any, has_key, inl, inr, is_eq-slice_cmp, is_message, is_one_that}
+use Rattle.store.proofs.Words.{is_renewal_permitted_by, issued, judged, judged_is_first, kept_at, key_blob}
+use Rattle.store.proofs.Words.{key_of_again, key_size, length, length-append, length-signed_at, list_any, map}
+use Rattle.store.proofs.Words.{message_with_text, nat_cmp, newest_key, none_holds, not, option_map, or_parts, refl}
+use Rattle.store.proofs.Words.{refusals, renewed, renewed_certificate, request_row, slice_cmp, state_at, subst, suc}
+use Rattle.store.proofs.Words.{sym, true, with_one_more, written, ℕ, ◌++◌, ◌+◌, ◌-◌, ◌∙◌, ◌∷◌, ◌≡◌, ◌≤◌}
+use Rattle.std.proofs.Common.{◌⊎◌}
 use Rattle.std.specs.FinMap.Entries.{find}
-use Rattle.std.specs.Str.{bytes_eq}
-use Rattle.std.proofs.lemmas.Bool.{or_parts}
-use Rattle.std.proofs.lemmas.Map.Text.{is_eq-slice_cmp}
-use Rattle.std.proofs.lemmas.Slice.Eq.{bytes_eq-Decides}
-use Rattle.std.specs.Option.{option_map}
 use Rattle.std.proofs.lemmas.List.{same_from_push}
-use Rattle.lines.specs.Keys.{key_blob, key_of}
-use Rattle.lines.proofs.Blobs.{key_of_again}
-use Rattle.lines.proofs.KeyLineLaws.{key_size}
-use Rattle.message.specs.declared.department.Department.{Department}
-use Rattle.message.specs.declared.renewal.Renewal.{Renewal}
-use Rattle.message.specs.declared.kinds.Message.{Message}
-use Rattle.message.specs.Values.{is_message}
+use Rattle.lines.specs.Keys.{key_of}
 use Rattle.message.specs.declared.kinds.Message.TheVariants as message
-use Rattle.office.specs.State.{is_ca, State, certificate_of, department_named, department_of_serial, has_any}
-use Rattle.office.specs.declared.arrival.Arrival.{Arrival}
-use Rattle.office.specs.declared.arrival.Kept.{Kept}
-use Rattle.office.specs.declared.certificate.Certificate.{Certificate}
-use Rattle.office.specs.declared.ca.Ca.{Ca}
-use Rattle.office.specs.History.{has_key, judged}
-use Rattle.office.specs.declared.view.Decision.{Decision}
-use Rattle.office.specs.Certificates.{renewed_certificate}
-use Rattle.office.specs.Decided.{written}
-use Rattle.office.specs.Machine.{after, ca_from_now, first_holding, issued, newest_key, next_serial, refusals, renewed}
-use Rattle.office.specs.Machine.{with_one_more}
-use Rattle.office.specs.Messages.{message_with_text}
-use Rattle.office.specs.Permissions.{is_renewal_permitted_by}
-use Rattle.office.specs.Refusals.{is_missing, is_one_that}
-use Rattle.office.proofs.Growth.{length-signed_at}
-use Rattle.office.proofs.Judged.{judged_is_first, none_holds}
-use Rattle.store_sql.specs.Refusals.{HasOne}
-use Rattle.store.specs.Rows.{ca_rows, cert_row, department_row, request_row}
-use Rattle.store.specs.Certificates.{AreCounted}
-use Rattle.store.specs.Lawful.{IsLawful}
+use Rattle.office.specs.State.{is_ca, department_of_serial}
+use Rattle.office.specs.Machine.{next_serial}
+use Rattle.office.specs.Refusals.{is_missing}
 use Rattle.store.proofs.Ascending.{IsEntry}
-use Rattle.store.specs.Arriving.{IsAccepted, Past, kept_at, state_at}
 use Rattle.store.proofs.Accepted.{ok_from_is_ok_and}
 use Rattle.store.proofs.Lawful.{of_either}
 

@@ -1,22 +1,11 @@
 -- The answer of a register's reading call, if the tables represent a history.
-use Rattle.std.proofs.Common.{◌≡◌, inl, inr, Bool, true, false, List, Ok, Err, Result, IsTrue, refl, subst, sym}
-use Rattle.std.proofs.Common.{arith}
-use Rattle.std.specs.Prelude.{IfOk, IfErr, OnOk}
-use Rattle.sqlite.specs.State.{State as Connection, HasCleanDisk}
-use Rattle.store_sql.specs.Calls.{OnlyReads}
-use Rattle.store_sql.specs.declared.table_fault.Fault.{Fault}
-use Rattle.store_sql.specs.declared.table_fault.Fault.TheVariants.{Damaged, Device, NoMemory}
-use Rattle.office.specs.declared.opening.Opening.{Opening}
-use Rattle.office.specs.declared.arrival.Arrival.{Arrival}
-use Rattle.office.specs.declared.arrival.Kept.{Kept}
-use Rattle.office.specs.declared.store_fault.StoreFault.{StoreFault}
-use Rattle.office.specs.Faults.{HasRegisterCause, IsOfARegister}
-use Rattle.office.specs.State.{State}
-use Rattle.store.specs.Faults.{store_fault_of, told}
-use Rattle.store.specs.Transactions.{IsAsBefore}
+use Rattle.store.proofs.Words.{Arrival, Bool, Damaged, Device, DiskFailed, Err, Fault, HasCleanDisk, HasRegisterCause}
+use Rattle.store.proofs.Words.{IfErr, IfOk, IsAsBefore, IsOfARegister, IsTrue, Kept, List, NoMemory, Ok, OnOk}
+use Rattle.store.proofs.Words.{OnlyReads, Opening, Reading, Result, ShowsOffice, State, StoreFault, Tells, arith, false}
+use Rattle.store.proofs.Words.{inl, inr, refl, store_fault_of, subst, sym, told, true, ◌≡◌}
+use Rattle.sqlite.specs.State.{State as Connection}
 use Rattle.store.proofs.Before.{fails_before}
-use Rattle.store.specs.Meaning.{DiskFailed, RegisterHasFailed, Tells}
-use Rattle.store.specs.Showing.{Reading, ShowsOffice}
+use Rattle.store.specs.Meaning.{RegisterHasFailed}
 use Rattle.store.proofs.Reading.{At}
 use Rattle.store.proofs.Telling.{disk_failed, tells_still}
 

@@ -1,18 +1,10 @@
 -- Ascending lists, with one more element inserted in order.
-use Rattle.std.proofs.Common.{◌≡◌, ℕ, List, [], ◌∷◌, Less, Equal, Greater, Ordering, true, refl, sym, ap, subst, ◌∙◌}
-use Rattle.std.specs.List.{AllByRecursion}
-use Rattle.std.specs.Ordering.{is_eq, nat_cmp, ordering_reverse}
-use Rattle.std.specs.Str.{bytes_eq}
-use Rattle.std.specs.Cmp.Lexicographic.{slice_cmp}
-use Rattle.std.specs.FinMap.Entries.{put, by_order}
-use Rattle.std.proofs.lemmas.Cmp.{nat_list_cmp_total}
-use Rattle.std.proofs.lemmas.Map.Text.{is_eq-slice_cmp}
-use Rattle.std.proofs.lemmas.Slice.Eq.{bytes_eq-Decides}
-use Rattle.sqlite.specs.Tree.{IsAscending}
-use Rattle.sqlite_trees.proofs.ListLemmas.{all_weaker}
-use Rattle.message.specs.declared.department.Department.{Department}
-use Rattle.message.specs.Values.{is_department}
-use Rattle.office.specs.Machine.{put_text}
+use Rattle.store.proofs.Words.{AllByRecursion, Department, IsAscending, Less, List, Ordering, [], all_weaker, ap}
+use Rattle.store.proofs.Words.{bytes_eq, bytes_eq-Decides, is_department, is_eq, is_eq-slice_cmp, nat_cmp}
+use Rattle.store.proofs.Words.{nat_list_cmp_total, put, put_text, refl, slice_cmp, subst, sym, true, ℕ, ◌∙◌, ◌∷◌, ◌≡◌}
+use Rattle.std.proofs.Common.{Equal, Greater}
+use Rattle.std.specs.Ordering.{ordering_reverse}
+use Rattle.std.specs.FinMap.Entries.{by_order}
 
 abbrev cmp : List ℕ → List ℕ → Ordering
 cmp xs ys = slice_cmp nat_cmp xs ys

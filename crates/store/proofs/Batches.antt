@@ -1,20 +1,12 @@
 -- The certificates between the two serials of a batch are that batch.
-use Rattle.std.proofs.Common.{◌≡◌, ℕ, zero, suc, ◌+◌, ◌-◌, ◌<◌, ◌≤◌, List, [], ◌∷◌, length, filter, take, drop, true}
-use Rattle.std.proofs.Common.{false, leb, refl, sym, ap, ◌∙◌, arith, inl, inr}
-use Rattle.std.specs.Prelude.{◌&&◌}
-use Rattle.std.proofs.lemmas.Bool.{and_parts, cases_lt, le-leb, lt-leb, leb-true}
-use Rattle.std.proofs.lemmas.List.{take_all, length-drop}
+use Rattle.store.proofs.Words.{AreCounted, Arrival, Certificate, IsHistory, LAST_SERIAL, List, Opening, [], and_parts}
+use Rattle.store.proofs.Words.{ap, arith, batch_of, cases_lt, drop, false, filter, inl, inr, le-leb, leb-true, length}
+use Rattle.store.proofs.Words.{length-drop, lies_within, next_serial, numbered, refl, suc, sym, take, take_all, true}
+use Rattle.store.proofs.Words.{zero, ℕ, ◌&&◌, ◌+◌, ◌-◌, ◌<◌, ◌∙◌, ◌∷◌, ◌≡◌, ◌≤◌}
+use Rattle.std.proofs.Common.{leb}
+use Rattle.std.proofs.lemmas.Bool.{lt-leb}
 use Rattle.std.proofs.Math.ListN.{drop_of_length-le}
-use Rattle.values.specs.declared.limits.TheConstants.{LAST_SERIAL}
-use Rattle.office.specs.declared.certificate.Certificate.{Certificate}
-use Rattle.office.specs.declared.opening.Opening.{Opening}
-use Rattle.office.specs.declared.arrival.Arrival.{Arrival}
-use Rattle.office.specs.Listing.{batch_of}
-use Rattle.office.specs.State.{next_serial}
 use Rattle.office.specs.History.{state}
-use Rattle.store.specs.Certificates.{AreCounted, lies_within}
-use Rattle.store.specs.Batches.{numbered}
-use Rattle.store.specs.Meaning.{IsHistory}
 use Rattle.store.proofs.Lawful.{lawful_after}
 use Rattle.store.proofs.OfHistory.{of_history}
 

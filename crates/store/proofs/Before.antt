@@ -1,13 +1,9 @@
 -- Calls that leave a database as it was, whatever its tables represent.
-use Rattle.std.proofs.Common.{◌≡◌, inl, inr, IsTrue, false, refl, subst, sym, ◌∙◌}
-use Rattle.std.specs.Prelude.{Result, Ok, Err, OnErr}
+use Rattle.store.proofs.Words.{Begins, Concludes, Err, Fails, Fault, HasEnded, IsAsBefore, IsTrue, KeepsUnaccepted, Ok}
+use Rattle.store.proofs.Words.{OnErr, Outcome, Result, Stays, false, inl, inr, refl, subst, sym, ◌∙◌, ◌≡◌}
 use Rattle.sqlite.specs.State.{Shows, State}
-use Rattle.office.specs.declared.arrival.Outcome.{Outcome}
 use Rattle.office.specs.declared.arrival.Outcome.TheVariants as outcome
-use Rattle.store_sql.specs.Calls.{Begins, Fails, Stays}
-use Rattle.store_sql.specs.declared.table_fault.Fault.{Fault}
-use Rattle.store.specs.Arriving.{KeepsUnaccepted, KeepsUnlessAccepted}
-use Rattle.store.specs.Transactions.{Concludes, HasEnded, IsAsBefore}
+use Rattle.store.specs.Arriving.{KeepsUnlessAccepted}
 
 pub fails_before : (a b : State) → Fails a b → IsAsBefore a b
 fails_before a b (inl same) = record {

@@ -1,12 +1,7 @@
 -- The rows of CAs ascend by number, and reading them gives the CAs back.
-use Rattle.std.proofs.Common.{◌≡◌, ℕ, suc, ◌<◌, List, [], ◌∷◌, length, Some, refl, sym, arith, Less, nat_cmp}
-use Rattle.std.specs.List.{AllByRecursion}
-use Rattle.std.specs.Cmp.{nat_cmp_is}
-use Rattle.sqlite.specs.Tree.{IsAscending}
-use Rattle.lines.proofs.Blobs.{key_of_again}
-use Rattle.office.specs.declared.ca.Ca.{Ca}
-use Rattle.store.specs.Reading.{ca_in, each}
-use Rattle.store.specs.Rows.{ca_rows}
+use Rattle.store.proofs.Words.{AllByRecursion, Ca, IsAscending, Less, List, Some, [], arith, ca_in, ca_rows, each}
+use Rattle.store.proofs.Words.{key_of_again, length, nat_cmp_is, refl, suc, sym, ℕ, ◌<◌, ◌∷◌, ◌≡◌}
+use Rattle.std.proofs.Common.{nat_cmp}
 
 above : (m n : ℕ) (cas : List Ca) → m < n → AllByRecursion (λ r. nat_cmp m r.number ≡ Less) (ca_rows n cas)
 above m n [] lt = tt

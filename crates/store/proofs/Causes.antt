@@ -1,17 +1,9 @@
 -- The causes of a part's failure are causes for the whole transaction.
-use Rattle.std.proofs.Common.{◌≡◌, inl, inr, ◌≤◌, true, Ok, Err, Result, sym, subst, ◌∙◌, arith}
-use Rattle.std.specs.Prelude.{IfErr, IsSome}
-use Rattle.std.proofs.lemmas.Bool.{both_ways, cases_Bool}
-use Rattle.sqlite.specs.Tree.{Trees}
-use Rattle.sqlite.specs.Effect.{Database}
-use Rattle.sqlite.specs.State.{State, HasCleanDisk, Survives}
-use Rattle.store_sql.specs.Faults.{HasCause, HasFailed}
-use Rattle.store_sql.specs.Refusals.{HasCauseOr}
-use Rattle.store_sql.specs.declared.table_fault.Fault.{Fault}
-use Rattle.store_sql.specs.declared.table_fault.Fault.TheVariants.{Damaged, Device, NoMemory}
-use Rattle.store_sql.specs.Calls.{Begins}
-use Rattle.store_sql.specs.Contents.{Contents}
-use Rattle.store.specs.Transactions.{Answers, Concludes, EndsFor, FailsFor, StopsFor}
+use Rattle.store.proofs.Words.{Answers, Begins, Concludes, Contents, Damaged, Database, Device, Err, FailsFor, Fault}
+use Rattle.store.proofs.Words.{HasCause, HasCauseOr, HasCleanDisk, HasFailed, IfErr, IsSome, NoMemory, Ok, Result}
+use Rattle.store.proofs.Words.{Survives, Trees, arith, both_ways, cases_Bool, inl, inr, subst, sym, true, ◌∙◌, ◌≡◌, ◌≤◌}
+use Rattle.sqlite.specs.State.{State}
+use Rattle.store.specs.Transactions.{EndsFor, StopsFor}
 use Rattle.store.proofs.Steps.{Leads}
 
 -- ---- failures of the database

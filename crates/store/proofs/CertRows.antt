@@ -1,30 +1,18 @@
 -- The row of a certificate is that of no other, and reading it gives the certificate back.
-use Rattle.std.proofs.Common.{◌≡◌, ℕ, suc, ◌<◌, true, List, [], ◌∷◌, length, map, filter, arith}
-use Rattle.std.proofs.Common.{Less, nat_cmp, refl, sym, ap, subst, ◌∙◌, eqb, eq-eqb, inl, inr, Option, Some, None}
-use Rattle.std.specs.Prelude.{IfOk, IfSome, Result, Ok, Err}
-use Rattle.std.specs.Cmp.{nat_cmp_is}
-use Rattle.std.specs.List.{AllByRecursion}
-use Rattle.std.specs.Option.{option_map}
-use Rattle.sqlite.specs.Tree.{IsAscending}
-use Rattle.sqlite_trees.proofs.ListLemmas.{all-filter, ascending-filter, filter-map}
-use Rattle.std.proofs.lemmas.Bool.{and_parts, cases_Bool, eqb-true}
-use Rattle.std.proofs.lemmas.Option.{none-some, same_Some}
-use Rattle.std.proofs.lemmas.Slice.Eq.{bytes_eq-Decides}
-use Rattle.lines.specs.declared.signature.Signature.{Signature}
+use Rattle.store.proofs.Words.{AllByRecursion, AreCounted, CertRow, Certificate, Err, Fault, IfOk, IfSome, IsAscending}
+use Rattle.store.proofs.Words.{IsCertificate, IsRead, IsSigned, Less, List, None, Ok, Option, Result, Signature, Some}
+use Rattle.store.proofs.Words.{[], and_parts, ap, arith, bytes_eq-Decides, cases_Bool, cert_row, certificate_in, each}
+use Rattle.store.proofs.Words.{eqb, eqb-true, filter, filter-map, inl, inr, length, lies_within, map, nat_cmp_is}
+use Rattle.store.proofs.Words.{none-some, option_map, refl, same_Some, subst, suc, sym, true, ℕ, ◌<◌, ◌∙◌, ◌∷◌, ◌≡◌}
+use Rattle.std.proofs.Common.{nat_cmp, eq-eqb}
+use Rattle.sqlite_trees.proofs.ListLemmas.{all-filter, ascending-filter}
 use Rattle.cert.specs.declared.fields.CertFields.{CertFields}
 use Rattle.cert.specs.Bodies.{IsCertFields, body_text}
 use Rattle.cert.specs.Reading.{body_at}
 use Rattle.cert.proofs.BodyAgain.{body_at-again}
-use Rattle.office.specs.declared.certificate.Certificate.{Certificate}
-use Rattle.office.specs.Certificates.{IsCertificate}
-use Rattle.store_sql.specs.declared.certs.CertRow.{CertRow}
-use Rattle.store_sql.specs.declared.table_fault.Fault.{Fault}
-use Rattle.store.specs.Certificates.{AreCounted, IsSigned, certificate_in, certificate_with_row, row_matches}
-use Rattle.store.specs.Certificates.{lies_within}
+use Rattle.store.specs.Certificates.{certificate_with_row, row_matches}
 use Rattle.store.specs.Certificates.{signature_in}
 use Rattle.store_sql.specs.Changes.{is_cert_within as rows_within}
-use Rattle.store.specs.Reading.{IsRead, each}
-use Rattle.store.specs.Rows.{cert_row}
 
 signature_again : (o : Option Signature) → IfSome o (λ s. length s.bytes ≡ 64)
     → signature_in (option_map (λ s. s.bytes) o) ≡ Some o

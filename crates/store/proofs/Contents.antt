@@ -1,16 +1,10 @@
 -- Migration from the contents of schema 1 to those of schema 2.
-use Rattle.std.proofs.Common.{◌≡◌, Bool, true, false, List, [], ◌∷◌, map, Ok, Err, refl, sym, ap, ◌∙◌, arith}
-use Rattle.std.specs.Prelude.{◌==◌, if◌then◌else◌, IsPermutation, All}
-use Rattle.std.proofs.lemmas.List.Sorted.{length_permutation, All-permutation}
-use Rattle.std.proofs.lemmas.List.Elements.{All-cons, All-nil}
-use Rattle.sqlite.specs.Effect.{Database}
-use Rattle.office.specs.declared.store_fault.StoreFault.TheVariants.{Damaged, WrongSchema}
-use Rattle.store_sql.specs.declared.offices.OfficeRow.{OfficeRow}
-use Rattle.store_sql.specs.declared.cas.CaRow.{CaRow}
-use Rattle.store_sql.specs.Cells.{ca_cells}
-use Rattle.store_sql.specs.Contents.{Contents, MeansWithoutCa}
-use Rattle.store_sql.specs.Changes.{with_ca_row, with_schema}
-use Rattle.store.specs.Former.{ca_of, first_ca_row, migrated}
+use Rattle.store.proofs.Words.{All, All-cons, All-nil, All-permutation, Bool, CaRow, Contents, Database, Err, List}
+use Rattle.store.proofs.Words.{MeansWithoutCa, OfficeRow, Ok, WrongSchema, [], ap, arith, ca_cells, ca_of, false}
+use Rattle.store.proofs.Words.{first_ca_row, if◌then◌else◌, length_permutation, map, migrated, refl, sym, true}
+use Rattle.store.proofs.Words.{with_ca_row, with_schema, ◌==◌, ◌∙◌, ◌∷◌, ◌≡◌}
+use Rattle.std.specs.Prelude.{IsPermutation}
+use Rattle.office.specs.declared.store_fault.StoreFault.TheVariants.{Damaged}
 
 -- without a table of CAs there is no CA
 none_of : (cas : List CaRow) → IsPermutation (map ca_cells cas) [] → cas ≡ []

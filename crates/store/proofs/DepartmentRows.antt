@@ -1,30 +1,23 @@
 -- The row of a department is that of no other, and reading it gives the department back.
-use Rattle.std.proofs.Common.{◌≡◌, ℕ, Bool, true, false, inl, inr, List, [], ◌∷◌, ◌++◌, eqb, refl, sym, ap, ap₂, subst}
-use Rattle.std.proofs.Common.{◌∙◌, Option, Some, None, append-nil, append_assoc, map, ◌+◌, ◌<◌, ◌≤◌, length, drop, get_or}
-use Rattle.std.specs.Prelude.{Result, Ok, Err, IfOk, IsTrue}
-use Rattle.std.specs.List.{AllByRecursion, list_all, slice_split}
-use Rattle.std.specs.Option.{option_and_then, option_map}
-use Rattle.std.proofs.lemmas.Bool.{and_parts, cases_Bool, cond-true}
-use Rattle.std.proofs.lemmas.Option.{none-some, same_Some}
-use Rattle.std.proofs.lemmas.List.{drop_all, drop_more}
+use Rattle.store.proofs.Words.{AllByRecursion, Bool, Department, DepartmentRow, Err, Fault, IfOk, IsRead, IsTrue, List}
+use Rattle.store.proofs.Words.{None, Ok, Option, Result, Some, [], and_parts, ap, append-nil, append_assoc, ap₂}
+use Rattle.store.proofs.Words.{are_extension_names, are_namespaces, are_option_names, cases_Bool, department_of_row}
+use Rattle.store.proofs.Words.{department_row, drop, drop_all, drop_more, each, eqb, false, get_or, inl, inr}
+use Rattle.store.proofs.Words.{is_department, is_name, length, list_all, list_text, map, none-some, option_and_then}
+use Rattle.store.proofs.Words.{option_map, refl, same_Some, subst, sym, true, ℕ, ◌++◌, ◌+◌, ◌<◌, ◌∙◌, ◌∷◌, ◌≡◌, ◌≤◌}
+use Rattle.std.specs.List.{slice_split}
+use Rattle.std.proofs.lemmas.Bool.{cond-true}
 use Rattle.std.proofs.lemmas.List.Splits.{join_with_byte-slice_split}
 use Rattle.values.specs.declared.kind.Kind.{Kind}
 use Rattle.values.specs.declared.option_field.OptionField.TheVariants.{CriticalOptions, Extensions}
-use Rattle.values.specs.Names.{is_name, is_rule, is_namespace}
+use Rattle.values.specs.Names.{is_rule, is_namespace}
 use Rattle.values.specs.Options.{is_known}
-use Rattle.message.specs.declared.department.Department.{Department}
-use Rattle.message.specs.Values.{is_department, are_option_names, are_extension_names, are_namespaces}
 use Rattle.message.proofs.Fields.{AllLack, split_joined}
 use Rattle.message.proofs.Elements.{administrators_lack, rules_lack, option_names_lack, extension_names_lack}
 use Rattle.message.proofs.Elements.{namespaces_lack}
-use Rattle.lines.specs.Signers.{list_text}
-use Rattle.store_sql.specs.declared.departments.DepartmentRow.{DepartmentRow}
-use Rattle.store_sql.specs.declared.table_fault.Fault.{Fault}
 use Rattle.cert.specs.Bodies.{kind_number}
-use Rattle.store.specs.Rows.{department_row}
-use Rattle.store.specs.Reading.{IsRead, each}
 use Rattle.cert.specs.Reading.{kind_of}
-use Rattle.store.specs.Departments.{department_of_row, if_lawful, parted, parts_of}
+use Rattle.store.specs.Departments.{if_lawful, parted, parts_of}
 use Rattle.cert.proofs.BodyParts.{kind_again, kind_found}
 
 -- ---- texts joined by commas

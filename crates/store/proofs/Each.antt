@@ -1,12 +1,7 @@
 -- The values of rows, read one after the other.
-use Rattle.std.proofs.Common.{◌≡◌, ℕ, ◌+◌, ◌<◌, ◌≤◌, List, [], ◌∷◌, ◌++◌, length, drop, get_or, Option, Some, None}
-use Rattle.std.proofs.Common.{append-nil, append_assoc, refl, sym, ap, ◌∙◌}
-use Rattle.std.specs.Prelude.{Err}
-use Rattle.std.specs.Option.{option_map}
-use Rattle.std.proofs.lemmas.List.{drop_all, drop_more}
-use Rattle.store_sql.specs.declared.table_fault.Fault.{Fault}
-use Rattle.store_sql.specs.declared.table_fault.Fault.TheVariants.{Damaged, Device, NoMemory}
-use Rattle.store.specs.Reading.{IsRead, each}
+use Rattle.store.proofs.Words.{Damaged, Device, Err, Fault, IsRead, List, NoMemory, None, Option, Some, [], ap}
+use Rattle.store.proofs.Words.{append-nil, append_assoc, drop, drop_all, drop_more, each, get_or, length, option_map}
+use Rattle.store.proofs.Words.{refl, sym, ℕ, ◌++◌, ◌+◌, ◌<◌, ◌∙◌, ◌∷◌, ◌≡◌, ◌≤◌}
 
 module _ {R X : Type 0} (value : R → Option X) (rows : List R) where
   -- these are the values of the first rows; those of the other rows follow

@@ -1,15 +1,10 @@
 -- An interval merged with the runs that touch or overlap it, found from the last runs that begin before its ends.
-use Rattle.std.proofs.Common.{◌≡◌, ℕ, ◌+◌, ◌-◌, ◌<◌, ◌≤◌, List, [], ◌∷◌, Bool, true, false}
-use Rattle.std.proofs.Common.{◌&&◌, Option, Some, None, sym, ap, ◌∙◌, arith, inl, inr}
-use Rattle.std.specs.Prelude.{min, max, nat_le, filter}
-use Rattle.std.specs.List.{AllByRecursion}
-use Rattle.std.proofs.lemmas.Bool.{both_ways, cases_Bool, cases_lt}
-use Rattle.std.proofs.lemmas.Bool.Decides.{nat_tests}
-use Rattle.store_sql.specs.declared.runs.RunRow.{RunRow}
-use Rattle.store_sql.specs.Runs.{begins_between}
-use Rattle.store_sql.proofs.LastRun.{Has, IsLast, all_from, all_has, has_filtered, has_kept}
+use Rattle.store.proofs.Words.{AllByRecursion, Bool, IsLast, List, None, Option, RunRow, Some, [], all_has, ap, arith}
+use Rattle.store.proofs.Words.{begins_between, both_ways, cases_Bool, cases_lt, false, filter, inl, inr, joined_high}
+use Rattle.store.proofs.Words.{joined_low, max, min, nat_le, nat_tests, sym, true, ℕ, ◌&&◌, ◌+◌, ◌-◌, ◌<◌, ◌∙◌, ◌∷◌}
+use Rattle.store.proofs.Words.{◌≡◌, ◌≤◌}
+use Rattle.store_sql.proofs.LastRun.{Has, all_from, has_filtered, has_kept}
 use Rattle.store.proofs.RunsApart.{AreApart}
-use Rattle.store.specs.Ranges.{joined_high, joined_low}
 
 -- from the least start of an interval and of runs up to the greatest end
 abbrev pub spanning : ℕ → ℕ → List RunRow → RunRow

@@ -1,10 +1,7 @@
 -- A part that was stopped stops the whole transaction.
-use Rattle.std.proofs.Common.{inl, inr, ◌≤◌}
-use Rattle.sqlite.specs.Tree.{Trees}
-use Rattle.sqlite.specs.State.{State, HasCleanDisk, Survives}
-use Rattle.store_sql.specs.Contents.{Contents}
+use Rattle.store.proofs.Words.{Contents, HasCleanDisk, HasStopped, Survives, Trees, inl, inr, ◌≤◌}
+use Rattle.sqlite.specs.State.{State}
 use Rattle.store.proofs.Causes.{failed_early, failed_late}
-use Rattle.store.specs.Migrating.{HasStopped}
 
 pub stopped_late : (P : Trees → Type 0) (a b d : State) (c : Contents) → Survives a b P → HasCleanDisk b
     → b.faults ≤ d.faults

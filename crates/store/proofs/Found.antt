@@ -1,11 +1,8 @@
 -- The result of a search for rows that pass a test.
-use Rattle.std.proofs.Common.{◌≡◌, List, [], ◌∷◌, filter, Bool, false, Option, Some, None, sym, ◌∙◌, arith}
-use Rattle.std.specs.Prelude.{is_some}
-use Rattle.std.specs.List.{list_any}
-use Rattle.std.proofs.lemmas.Bool.{ne_eqb, not-false, not-true}
-use Rattle.std.proofs.lemmas.List.Sorted.{length_permutation}
+use Rattle.store.proofs.Words.{Bool, IsOneOf, List, None, Option, Some, [], arith, false, filter, is_some}
+use Rattle.store.proofs.Words.{length_permutation, list_any, ne_eqb, not-true, sym, ◌∙◌, ◌∷◌, ◌≡◌}
+use Rattle.std.proofs.lemmas.Bool.{not-false}
 use Rattle.sqlite_keyed.proofs.ListLemmas.{filter_none, none_counted, none_from_any}
-use Rattle.store_sql.specs.Calls.{IsOneOf}
 
 module _ {X : Type 0} (test : X → Bool) (xs : List X) where
   pub none_passes : list_any test xs ≡ false → filter test xs ≡ []

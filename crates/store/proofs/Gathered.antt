@@ -1,18 +1,12 @@
 -- Values found for the subject of a message.
-use Rattle.std.proofs.Common.{◌≡◌, ℕ, List, Bool, Option, Some, None, refl, sym, ap, ◌∙◌, IsTrue, true, false}
-use Rattle.std.specs.Prelude.{◌↔◌}
-use Rattle.std.specs.Option.{option_and_then}
-use Rattle.krl.specs.Sets.{HasAll}
+use Rattle.store.proofs.Words.{Bool, Certificate, HasAll, IsTrue, List, Message, None, Option, SaysRevoked, SerialRange}
+use Rattle.store.proofs.Words.{Some, State, ap, certificate_concerned, certificate_of, department_named, false}
+use Rattle.store.proofs.Words.{is_message, option_and_then, refl, sym, true, ℕ, ◌↔◌, ◌∙◌, ◌≡◌}
 use Rattle.lines.specs.declared.key_line.KeyLine.{KeyLine}
-use Rattle.message.specs.declared.serial_range.SerialRange.{SerialRange}
-use Rattle.message.specs.declared.kinds.Message.{Message}
 use Rattle.message.specs.declared.kinds.Message.TheVariants as message
-use Rattle.message.specs.Values.{is_message}
-use Rattle.office.specs.declared.certificate.Certificate.{Certificate}
 use Rattle.office.specs.Concerns.{named_department, named_range, named_serial}
-use Rattle.office.specs.Decided.{SaysAnyKeyIdRevoked, SaysRevoked, certificate_concerned}
+use Rattle.office.specs.Decided.{SaysAnyKeyIdRevoked}
 use Rattle.office.specs.Decided.{department_concerned}
-use Rattle.office.specs.State.{State, certificate_of, department_named}
 use Rattle.office.proofs.Agreeing.{department_of_named, range_order, range_says, says_of_one, serial_says}
 use Rattle.office.proofs.Ranges.{range_flag}
 

@@ -1,29 +1,17 @@
 -- The rows of runs (maximal ranges of revoked serials) after a range is added.
-use Rattle.std.proofs.Common.{◌≡◌, ℕ, ◌+◌, ◌<◌, ◌≤◌, ◌^◌, List, [], ◌∷◌, ◌++◌, length, length-append, map, Bool}
-use Rattle.std.proofs.Common.{true, false, ◌&&◌, ◌||◌, refl, sym, ap, ap₂, subst, ◌∙◌, arith, IsPermutation}
-use Rattle.std.specs.Prelude.{not, min, max, filter}
-use Rattle.std.proofs.lemmas.Bool.Decides.{nat_tests}
-use Rattle.std.proofs.lemmas.List.Sorted.{IsPermutation-map}
-use Rattle.sqlite_trees.proofs.ListLemmas.{filter-map}
-use Rattle.krl.specs.declared.run.Run.{Run}
-use Rattle.krl.specs.Sets.{is_within, is_counted, runs_in, AreRuns}
-use Rattle.krl.proofs.Joining.{joined, joined_runs, contains_joined}
-use Rattle.krl.proofs.Counting.{runs_in_runs, contains_runs_in, runs_in_only}
-use Rattle.message.specs.declared.serial_range.SerialRange.{SerialRange}
-use Rattle.message.specs.Values.{is_range}
-use Rattle.office.specs.declared.certificate.Certificate.{Certificate}
-use Rattle.office.specs.State.{State, next_serial}
-use Rattle.office.specs.Machine.{with_certificate, with_range}
-use Rattle.store_sql.specs.declared.runs.RunRow.{RunRow}
-use Rattle.store_sql.specs.Runs.{begins_between, last_at}
+use Rattle.store.proofs.Words.{AreRuns, Bool, Certificate, IsPermutation, IsPermutation-map, List, Run, RunRow}
+use Rattle.store.proofs.Words.{SerialRange, State, [], and-false, ap, ap₂, arith, begins_between, contains_runs_in}
+use Rattle.store.proofs.Words.{false, filter, filter-map, is_counted, is_last, is_range, is_within, joined, joined_high}
+use Rattle.store.proofs.Words.{joined_low, last_at, length, length-append, map, max, min, nat_tests, next_serial, not}
+use Rattle.store.proofs.Words.{refl, revoked_runs, run_row, runs_in, runs_in_runs, subst, sym, true, with_certificate}
+use Rattle.store.proofs.Words.{with_range, ℕ, ◌&&◌, ◌++◌, ◌+◌, ◌<◌, ◌^◌, ◌∙◌, ◌∷◌, ◌≡◌, ◌≤◌}
+use Rattle.std.proofs.Common.{◌||◌}
+use Rattle.krl.proofs.Joining.{joined_runs, contains_joined}
+use Rattle.krl.proofs.Counting.{runs_in_only}
 use Rattle.store_sql.proofs.Edits.{filter_alike}
-use Rattle.store_sql.proofs.LastRun.{is_last}
 use Rattle.store.proofs.RunsApart.{AreApart, rows_apart}
-use Rattle.store.specs.Rows.{revoked_runs, run_row}
-use Rattle.store.specs.Ranges.{joined_high, joined_low}
 use Rattle.store.proofs.Ends.{begin_within, spanning, touches, whole_is}
 use Rattle.store.proofs.Spans.{is_near, is_far, span, spanned}
-use Rattle.std.proofs.Math.Bool.{and-false}
 
 -- ---- the set
 

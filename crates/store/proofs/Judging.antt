@@ -1,27 +1,17 @@
 -- Answers of a migration, and the causes of its faults.
-use Rattle.std.proofs.Common.{◌≡◌, inl, inr, Bool, true, false, List, [], ◌∷◌, Ok}
-use Rattle.std.proofs.Common.{Err, Result, IfErr, refl, sym, subst, ◌∙◌, arith}
-use Rattle.std.specs.Prelude.{◌==◌, ◌≤◌, if◌then◌else◌, IsOk, IsPermutation}
-use Rattle.sqlite.specs.Tree.{Trees}
-use Rattle.sqlite.specs.State.{State, HasCleanDisk, IsUnchanged, Survives}
-use Rattle.office.specs.declared.opening.Opening.{Opening}
-use Rattle.office.specs.declared.arrival.Arrival.{Arrival}
-use Rattle.office.specs.declared.store_fault.StoreFault.{StoreFault}
+use Rattle.store.proofs.Words.{Arrival, Begins, Bool, CaRow, Contents, Err, Fault, Had, HasCause, HasCauseOr}
+use Rattle.store.proofs.Words.{HasCleanDisk, HasFailed, HasStopped, IfErr, IsCaDue, IsExcused, IsRefused, IsUnchanged}
+use Rattle.store.proofs.Words.{Judges, List, Makes, Means, OfficeRow, Ok, Opening, Rests, Result, StoreFault, Survives}
+use Rattle.store.proofs.Words.{Trees, WrongSchema, [], arith, ca_of, false, first_ca_row, former_contents}
+use Rattle.store.proofs.Words.{if◌then◌else◌, inl, inr, migrated, refl, store_fault_of, subst, sym, told, true, ◌==◌}
+use Rattle.store.proofs.Words.{◌∙◌, ◌∷◌, ◌≡◌, ◌≤◌}
+use Rattle.std.specs.Prelude.{IsOk, IsPermutation}
+use Rattle.sqlite.specs.State.{State}
 use Rattle.office.specs.declared.store_fault.StoreFault.TheVariants.{Damaged, Device}
-use Rattle.office.specs.declared.store_fault.StoreFault.TheVariants.{NoMemory, WrongSchema}
-use Rattle.store_sql.specs.declared.offices.OfficeRow.{OfficeRow}
-use Rattle.store_sql.specs.declared.cas.CaRow.{CaRow}
-use Rattle.store_sql.specs.declared.table_fault.Fault.{Fault}
+use Rattle.office.specs.declared.store_fault.StoreFault.TheVariants.{NoMemory}
 use Rattle.store_sql.specs.declared.table_fault.Fault.TheVariants as table
-use Rattle.store_sql.specs.Contents.{Contents, Means}
-use Rattle.store_sql.specs.Calls.{Begins}
-use Rattle.store_sql.specs.Faults.{HasCause, HasFailed}
-use Rattle.store.specs.Faults.{store_fault_of, told}
-use Rattle.store.specs.Transactions.{Makes, Rests}
 use Rattle.store.proofs.Steps.{goes_still}
-use Rattle.store.specs.Former.{Had, ca_of, first_ca_row, former_contents, migrated}
-use Rattle.store_sql.specs.Refusals.{HasCauseOr}
-use Rattle.store.specs.Migrating.{HasStopped, IsCaDue, IsExcused, IsRefused, Judges, TellsEnd}
+use Rattle.store.specs.Migrating.{TellsEnd}
 use Rattle.store.proofs.Contents.{ca_same}
 use Rattle.store.proofs.Causes.{failed_late}
 use Rattle.store.proofs.Failing.{stopped_early, stopped_late}

@@ -1,24 +1,11 @@
 -- The stored request with a given caller and request ID.
-use Rattle.std.proofs.Common.{◌≡◌, ℕ, List, [], ◌∷◌, map, filter, true, false, cond, inl, inr, Option, Some, None, refl}
-use Rattle.std.proofs.Common.{ap, subst, ◌∙◌}
-use Rattle.std.specs.Prelude.{find, is_some}
-use Rattle.std.specs.List.{list_any}
-use Rattle.std.specs.Option.{option_map}
-use Rattle.std.specs.Str.{bytes_eq}
-use Rattle.std.proofs.lemmas.Bool.{and_parts, cases_Bool, or_parts}
-use Rattle.std.proofs.lemmas.Slice.Eq.{bytes_eq-Decides}
-use Rattle.office.specs.declared.arrival.Arrival.{Arrival}
-use Rattle.office.specs.declared.arrival.Kept.{Kept}
-use Rattle.office.specs.State.{State}
-use Rattle.office.specs.History.{has_key, reply_kept}
-use Rattle.store_sql.specs.declared.requests.RequestRow.{RequestRow}
-use Rattle.store_sql.specs.Calls.{IsOneOf}
+use Rattle.store.proofs.Words.{AreApart, Arrival, IsOneOf, Kept, List, None, Option, RequestRow, Some, State, []}
+use Rattle.store.proofs.Words.{and_parts, ap, bytes_eq, bytes_eq-Decides, cases_Bool, cond, contents_of, false, filter}
+use Rattle.store.proofs.Words.{filter-map, find, has_key, inl, inr, is_kept_for, is_some, list_any, map, option_map}
+use Rattle.store.proofs.Words.{or_parts, refl, reply_kept, request_row, subst, true, ℕ, ◌∙◌, ◌∷◌, ◌≡◌}
 use Rattle.store_sql.specs.Changes.{requests_for, is_request_for as row_for}
-use Rattle.store.specs.Rows.{contents_of, request_row}
-use Rattle.sqlite_trees.proofs.ListLemmas.{filter-map}
 use Rattle.store.proofs.Found.{none_passes}
 use Rattle.store.specs.Finding.{kept_in}
-use Rattle.store.specs.Histories.{AreApart, is_kept_for}
 use Rattle.store.proofs.OneRow.{found_row, rows_of}
 
 -- ---- at most one request has this caller and this request ID

@@ -1,47 +1,31 @@
 -- The state of an office is valid after every history.
-use Rattle.std.proofs.Common.{◌≡◌, ℕ, zero, suc, ◌-◌, List, [], ◌∷◌, length, Bool, true, false, cond, Option, Some}
-use Rattle.std.proofs.Common.{None, ◌+◌, ◌++◌, not, refl, sym, subst, arith, Result, Ok, Err}
-use Rattle.std.specs.Prelude.{IfSome, slice_get, nat_lt}
-use Rattle.std.specs.List.{AllByRecursion, fold}
-use Rattle.std.specs.Ordering.{eq_by_cmp, nat_cmp}
-use Rattle.std.specs.Cmp.Lexicographic.{slice_cmp}
+use Rattle.store.proofs.Words.{AllByRecursion, AreCounted, Arrival, Bool, Ca, Certificate, Department, Err, First}
+use Rattle.store.proofs.Words.{IfSome, IsCertificate, IsHistory, IsLawful, IsSigned, List, Message, None, Ok, Opening}
+use Rattle.store.proofs.Words.{Option, Refusal, Renewal, Result, Signature, Some, View, [], add_accepted, after}
+use Rattle.store.proofs.Words.{all_more, and_parts, arith, ca_from_now, change, cond, eq_by_cmp, eqb-true, false}
+use Rattle.store.proofs.Words.{first_holding, fold, fold_push, is_department, is_key_id_revoked, is_message}
+use Rattle.store.proofs.Words.{is_one_that, is_range_revoked, is_renewal_permitted_by, issued, judged, judged_is_first}
+use Rattle.store.proofs.Words.{kept_by, key_size, length, message_lawful, nat_cmp, nat_lt, newest_key, none_holds, not}
+use Rattle.store.proofs.Words.{refl, refusals, renewed, renewed_certificate, signed_at, slice_cmp, slice_get}
+use Rattle.store.proofs.Words.{state_after, subst, suc, sym, true, with_arrival, with_certificate, with_one_more, zero}
+use Rattle.store.proofs.Words.{ℕ, ◌++◌, ◌+◌, ◌-◌, ◌∷◌, ◌≡◌}
 use Rattle.std.specs.FinMap.Entries.{find}
-use Rattle.std.proofs.lemmas.Bool.{and_parts, ltb-false, ltb-true, eqb-true}
-use Rattle.std.proofs.lemmas.List.Sums.{fold_push}
-use Rattle.values.specs.declared.refusal.Refusal.{Refusal}
-use Rattle.lines.specs.declared.signature.Signature.{Signature}
-use Rattle.lines.proofs.KeyLineLaws.{key_size}
-use Rattle.krl.proofs.Items.{all_more}
-use Rattle.message.specs.declared.department.Department.{Department}
-use Rattle.message.specs.Values.{is_department, is_issue, is_renewal, is_delivery, is_message, is_signature}
+use Rattle.std.proofs.lemmas.Bool.{ltb-false, ltb-true}
+use Rattle.message.specs.Values.{is_issue, is_renewal, is_delivery, is_signature}
 use Rattle.message.specs.declared.issue.Issue.{Issue}
-use Rattle.message.specs.declared.renewal.Renewal.{Renewal}
 use Rattle.message.specs.declared.delivery.Delivery.{Delivery}
-use Rattle.message.specs.declared.kinds.Message.{Message}
 use Rattle.message.specs.declared.kinds.Message.TheVariants as message
-use Rattle.office.specs.declared.opening.Opening.{Opening}
-use Rattle.office.specs.declared.ca.Ca.{Ca}
-use Rattle.office.specs.declared.certificate.Certificate.{Certificate}
-use Rattle.office.specs.Certificates.{IsCertificate, certificate_for, kind_or_user, renewed_certificate}
+use Rattle.office.specs.Certificates.{certificate_for, kind_or_user}
 use Rattle.office.specs.State.{key_or}
-use Rattle.office.specs.Machine.{State, certificate_of, department_named, newest_key, next_serial, renewed}
-use Rattle.office.specs.Machine.{with_certificate, with_one_more, after, ca_from_now, department_of_serial}
-use Rattle.office.specs.Machine.{first_holding, has_any, is_key_id_revoked, is_range_revoked, issued, opened, refusals}
-use Rattle.office.specs.Machine.{signed_at}
-use Rattle.office.specs.declared.view.View.{View}
+use Rattle.office.specs.Machine.{State, certificate_of, department_named, next_serial}
+use Rattle.office.specs.Machine.{department_of_serial}
+use Rattle.office.specs.Machine.{has_any, opened}
 use Rattle.office.specs.Views.{HasSerial}
-use Rattle.office.specs.Permissions.{are_listed, is_permitted_by, is_renewal_permitted_by, is_life_permitted}
+use Rattle.office.specs.Permissions.{are_listed, is_permitted_by, is_life_permitted}
 use Rattle.office.specs.Permissions.{meet_rules}
-use Rattle.office.specs.Refusals.{is_one_that}
 use Rattle.office.proofs.Issuable.{issuable_certificate, renewable_certificate}
-use Rattle.office.specs.declared.arrival.Arrival.{Arrival}
-use Rattle.office.specs.History.{First, add_accepted, change, judged, kept_by, state, state_after, with_arrival}
-use Rattle.office.proofs.Histories.{message_lawful}
-use Rattle.office.proofs.Judged.{judged_is_first, none_holds}
-use Rattle.store.specs.Certificates.{IsSigned, AreCounted}
-use Rattle.store.specs.Lawful.{IsLawful}
+use Rattle.office.specs.History.{state}
 use Rattle.store.proofs.Ascending.{IsEntry, entries_put, names_put, texts_put}
-use Rattle.store.specs.Meaning.{IsHistory}
 
 -- ---- parts of a valid state
 

@@ -1,45 +1,23 @@
 -- Why the rows of an accepted request are refused: one is too long, or there is no room for one more.
-use Rattle.std.proofs.Common.{◌≡◌, inl, inr, ℕ, suc, ◌+◌, ◌<◌, ◌≤◌, List, [], ◌∷◌, length, map, Bool, true, refl, sym}
-use Rattle.std.proofs.Common.{ap, ◌∙◌, arith, ◌++◌, not, subst}
-use Rattle.std.specs.Prelude.{◌==◌, filter, ◌^◌}
+use Rattle.store.proofs.Words.{AreRuns, AreRunsFrom, Arrival, Bool, Ca, Certificate, Change, Contents, Decision, HasOne}
+use Rattle.store.proofs.Words.{HasRoom, IsAccepted, IsHistory, IsLawful, IsLawfulChange, IsTooLong, List, Opening, Past}
+use Rattle.store.proofs.Words.{RefusesChange, RefusesDecision, Run, RunRow, SerialRange, State, [], after, ap, arith}
+use Rattle.store.proofs.Words.{ca_row, cases_Bool, cert_cells, cert_row, changed, counters_of, eqb-true, filter}
+use Rattle.store.proofs.Words.{holds_in_range, inl, inr, is_range, kept_at, kept_of, last_of, length, length-key_blob}
+use Rattle.store.proofs.Words.{length_permutation, map, message_lawful, nat_tests, not, office_contents, opening_stays}
+use Rattle.store.proofs.Words.{refl, request_row, revoked_runs, run_row, runs_in_runs, state_at, subst, suc, sym, true}
+use Rattle.store.proofs.Words.{with_counters, with_range, with_request, ℕ, ◌++◌, ◌+◌, ◌<◌, ◌==◌, ◌^◌, ◌∙◌, ◌∷◌, ◌≡◌}
+use Rattle.store.proofs.Words.{◌≤◌}
 use Rattle.std.specs.List.Sorted.{IsPermutation}
-use Rattle.std.proofs.lemmas.Bool.Decides.{nat_tests}
-use Rattle.std.proofs.lemmas.List.Sorted.{length_permutation}
-use Rattle.std.proofs.lemmas.Bool.{cases_Bool, eqb-true}
 use Rattle.sqlite_trees.proofs.ListLemmas.{IsPermutation-filter}
-use Rattle.lines.proofs.Blobs.{length-key_blob}
-use Rattle.krl.specs.declared.run.Run.{Run}
-use Rattle.krl.specs.Sets.{AreRuns, AreRunsFrom}
-use Rattle.krl.proofs.Counting.{runs_in_runs}
-use Rattle.message.specs.Values.{is_range}
-use Rattle.message.specs.declared.serial_range.SerialRange.{SerialRange}
-use Rattle.office.specs.declared.opening.Opening.{Opening}
-use Rattle.office.specs.declared.view.Change.{Change}
-use Rattle.office.specs.Decided.{HasRoom, IsLawfulChange, changed}
-use Rattle.office.proofs.Growth.{holds_in_range, opening_stays}
-use Rattle.office.proofs.Histories.{message_lawful}
-use Rattle.office.proofs.Sizes.{last_of}
-use Rattle.office.specs.declared.arrival.Arrival.{Arrival}
-use Rattle.office.specs.declared.certificate.Certificate.{Certificate}
-use Rattle.office.specs.declared.ca.Ca.{Ca}
-use Rattle.office.specs.declared.view.Decision.{Decision}
-use Rattle.office.specs.Machine.{after, next_serial, with_range}
-use Rattle.office.specs.State.{State}
+use Rattle.office.specs.Machine.{next_serial}
 use Rattle.office.specs.declared.view.Change.TheVariants as change
-use Rattle.store_sql.specs.declared.runs.RunRow.{RunRow}
-use Rattle.store_sql.specs.Refusals.{HasOne, RefusesCa, RefusesCert, IsTooLong}
-use Rattle.store_sql.specs.Cells.{cert_cells}
-use Rattle.store_sql.specs.Changes.{with_counters, with_request}
-use Rattle.store_sql.specs.Contents.{Contents}
+use Rattle.store_sql.specs.Refusals.{RefusesCa, RefusesCert}
 use Rattle.store_sql.specs.Runs as runs
-use Rattle.store.specs.Rows.{ca_row, run_row, office_contents, revoked_runs, cert_row, request_row}
-use Rattle.store.specs.Lawful.{IsLawful}
-use Rattle.store.specs.Due.{counters_of, kept_of}
 use Rattle.store.specs.Ranges.{joined_run}
-use Rattle.store.specs.Refused.{RefusesChange, RefusesDecision, RefusesRange}
+use Rattle.store.specs.Refused.{RefusesRange}
 use Rattle.store.proofs.Joined.{rows_joined}
-use Rattle.store.specs.Arriving.{IsTooMuch, IsTooMuchToChange, IsAccepted, Past, kept_at, state_at}
-use Rattle.store.specs.Meaning.{IsHistory}
+use Rattle.store.specs.Arriving.{IsTooMuch, IsTooMuchToChange}
 use Rattle.store.proofs.Lawful.{lawful_after}
 use Rattle.store.proofs.ShortRows.{counters_fit, key_id_short}
 use Rattle.store.proofs.Additions.{IsStep, ca_free, new_ca, own_department, request_new, serial_new, step_of}

@@ -1,16 +1,9 @@
 -- The flags for revoked serials and key IDs, read one after the other.
-use Rattle.std.proofs.Common.{List, Bool, Option, Ok, Result, IsTrue}
+use Rattle.store.proofs.Words.{Asking, Bool, Certificate, Fault, IsOfHistory, IsTrue, Kept, List, Message, Ok, Option}
+use Rattle.store.proofs.Words.{Result, SaysRevoked, State}
 use Rattle.sqlite.specs.State.{State as Connection}
-use Rattle.message.specs.declared.kinds.Message.{Message}
-use Rattle.office.specs.declared.arrival.Kept.{Kept}
-use Rattle.office.specs.declared.certificate.Certificate.{Certificate}
-use Rattle.office.specs.Decided.{SaysRevoked}
-use Rattle.office.specs.State.{State}
-use Rattle.store_sql.specs.declared.table_fault.Fault.{Fault}
 use Rattle.store.specs.declared.reads.marks.Marks.{Marks}
 use Rattle.store.specs.Concerning.{AreMarksBeside, AreMarksOf, AreMarksWith, SaysKeyIdBeside}
-use Rattle.store.specs.Histories.{IsOfHistory}
-use Rattle.store.specs.ShowingRows.{Asking}
 use Rattle.store.proofs.Showing.{asks_both}
 
 -- after a history, the first flag is the state's

@@ -1,17 +1,11 @@
 -- From the whole transaction to the contract of a migration.
-use Rattle.std.proofs.Common.{◌≡◌, true, false, List, Ok, Err, Result, sym, ap, subst, ◌∙◌}
-use Rattle.std.specs.List.{list_any}
+use Rattle.store.proofs.Words.{Arrival, Contents, Database, Ends, Err, Had, Has, HasStopped, Judges, List, Ok, Opening}
+use Rattle.store.proofs.Words.{Rests, Result, Schema, StoreFault, ap, false, former_contents, is_ca_name}
+use Rattle.store.proofs.Words.{is_office_table, list_any, migrated, subst, sym, true, ◌∙◌, ◌≡◌}
 use Rattle.sqlite.specs.State.{State}
-use Rattle.office.specs.declared.opening.Opening.{Opening}
-use Rattle.office.specs.declared.arrival.Arrival.{Arrival}
-use Rattle.office.specs.declared.store_fault.StoreFault.{StoreFault}
-use Rattle.sqlite.specs.Effect.{Database}
-use Rattle.sqlite.specs.Schema.{Schema}
-use Rattle.store_sql.specs.Look.{former_has_no_ca, former_is_office, is_ca_name, is_office_table}
-use Rattle.store_sql.specs.Contents.{Contents}
-use Rattle.store.specs.Transactions.{Ends, Has, Rests}
-use Rattle.store.specs.Former.{Had, TellsBefore, former_contents, migrated}
-use Rattle.store.specs.Migrating.{Carries, HasStopped, Judges, Migrates}
+use Rattle.store_sql.specs.Look.{former_has_no_ca, former_is_office}
+use Rattle.store.specs.Former.{TellsBefore}
+use Rattle.store.specs.Migrating.{Carries, Migrates}
 use Rattle.store.proofs.OneCa.{former_migrated}
 use Rattle.store.proofs.Judging.{excused}
 

@@ -1,20 +1,10 @@
 -- The tables between the parts of the transaction.
-use Rattle.std.proofs.Common.{◌≡◌, List, subst, ◌∙◌, Ok, Err, Result}
+use Rattle.store.proofs.Words.{CaRow, Contents, Err, Fault, Goes, Had, Has, HasNoCa, IsUnchanged, List, Makes, Means}
+use Rattle.store.proofs.Words.{MeansWithoutCa, OfficeRow, Ok, Result, Stays, Steps, Survives, Waits, WaitsAt, ca_of}
+use Rattle.store.proofs.Words.{migrated, subst, survives_weaker, told, with_ca_row, with_schema, without_ca, ◌∙◌, ◌≡◌}
 use Rattle.std.specs.Prelude.{IsPermutation}
-use Rattle.sqlite.specs.State.{State, IsUnchanged, Survives}
-use Rattle.sqlite.proofs.StateLemmas.{survives_weaker}
-use Rattle.store_sql.specs.declared.table_fault.Fault.{Fault}
-use Rattle.store_sql.specs.declared.offices.OfficeRow.{OfficeRow}
-use Rattle.store_sql.specs.declared.cas.CaRow.{CaRow}
-use Rattle.store_sql.specs.Schema.{without_ca}
-use Rattle.store_sql.specs.Contents.{Contents, Means, MeansWithoutCa}
-use Rattle.store_sql.specs.Calls.{Stays, Steps, WaitsAt}
-use Rattle.store_sql.specs.Changes.{with_ca_row, with_schema}
-use Rattle.store.specs.Transactions.{Goes, Has, Makes, Waits}
+use Rattle.sqlite.specs.State.{State}
 use Rattle.store.proofs.Steps.{Leads, goes, goes_still, goes_then, stops_then}
-use Rattle.store.specs.Former.{Had, ca_of, migrated}
-use Rattle.store.specs.Faults.{told}
-use Rattle.store.specs.Migrating.{HasNoCa}
 use Rattle.store.proofs.Contents.{ca_same, no_cas, put_in}
 
 -- the rows were read, and then CA 1 and the schema number are written

@@ -1,25 +1,10 @@
 -- The department with a given name among the rows.
-use Rattle.std.proofs.Common.{◌≡◌, ℕ, List, [], ◌∷◌, map, filter, true, false, Less, Some, refl, sym, ap, subst, ◌∙◌}
-use Rattle.std.proofs.Common.{inl, inr}
-use Rattle.std.specs.List.{AllByRecursion}
-use Rattle.std.specs.Str.{bytes_eq}
+use Rattle.store.proofs.Words.{AllByRecursion, Department, IsAscending, IsLawful, Kept, Less, List, Some, State, [], ap}
+use Rattle.store.proofs.Words.{bytes_eq, bytes_eq-Decides, cases_Bool, contents_of, department_named, department_of_row}
+use Rattle.store.proofs.Words.{department_row, departments_named, false, filter, has_name, inl, inr, is_department}
+use Rattle.store.proofs.Words.{is_eq, is_eq-slice_cmp, map, nat_cmp, nat_list_eq_equiv, refl, same_Some, slice_cmp}
+use Rattle.store.proofs.Words.{subst, sym, true, ℕ, ◌∙◌, ◌∷◌, ◌≡◌}
 use Rattle.std.specs.FinMap.Entries.{find}
-use Rattle.std.specs.Cmp.Lexicographic.{slice_cmp}
-use Rattle.std.specs.Ordering.{is_eq, nat_cmp}
-use Rattle.std.proofs.lemmas.Bool.{cases_Bool}
-use Rattle.std.proofs.lemmas.Cmp.{nat_list_eq_equiv}
-use Rattle.std.proofs.lemmas.Option.{same_Some}
-use Rattle.std.proofs.lemmas.Map.Text.{is_eq-slice_cmp}
-use Rattle.std.proofs.lemmas.Slice.Eq.{bytes_eq-Decides}
-use Rattle.sqlite.specs.Tree.{IsAscending}
-use Rattle.message.specs.declared.department.Department.{Department}
-use Rattle.message.specs.Values.{is_department}
-use Rattle.office.specs.declared.arrival.Kept.{Kept}
-use Rattle.office.specs.State.{State, department_named}
-use Rattle.store_sql.specs.Changes.{departments_named, has_name}
-use Rattle.store.specs.Departments.{department_of_row}
-use Rattle.store.specs.Lawful.{IsLawful}
-use Rattle.store.specs.Rows.{contents_of, department_row}
 use Rattle.store.proofs.DepartmentRows.{row_again}
 use Rattle.store.proofs.OneRow.{rows_of}
 

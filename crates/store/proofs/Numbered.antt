@@ -1,25 +1,15 @@
 -- The certificate with a given serial among the rows.
-use Rattle.std.proofs.Common.{◌≡◌, ℕ, zero, suc, ◌+◌, ◌-◌, ◌<◌, ◌≤◌, ◌^◌, List, [], ◌∷◌, map, filter, true, ltb}
-use Rattle.std.proofs.Common.{Option, Some, None, slice_get, refl, sym, ap, ◌∙◌, arith, inl, inr}
-use Rattle.std.specs.Prelude.{IsSome}
-use Rattle.std.proofs.lemmas.Bool.{cases_Bool, cases_lt, eq-eqb, ne_eqb, le-ltb, lt-ltb}
-use Rattle.std.proofs.lemmas.Bool.Decides.{nat_tests}
-use Rattle.std.proofs.lemmas.Option.{none-some}
+use Rattle.store.proofs.Words.{AreCounted, Certificate, IsCertificate, IsLawful, IsOfHistory, IsSigned, IsSome, Kept}
+use Rattle.store.proofs.Words.{LAST_SERIAL, List, None, Option, Some, State, [], ap, arith, cases_Bool, cases_lt}
+use Rattle.store.proofs.Words.{cert_row, certificate_in, certificate_of, certs_numbered, contents_of, eq-eqb, filter}
+use Rattle.store.proofs.Words.{has_serial, inl, inr, le-ltb, lt-ltb, map, nat_tests, ne_eqb, next_serial, none-some}
+use Rattle.store.proofs.Words.{refl, serial_of_one, slice_get, suc, sym, true, zero, ℕ, ◌+◌, ◌-◌, ◌<◌, ◌^◌, ◌∙◌, ◌∷◌}
+use Rattle.store.proofs.Words.{◌≡◌, ◌≤◌}
+use Rattle.std.proofs.Common.{ltb}
 use Rattle.sqlite_trees.proofs.ListLemmas.{all-slice_get}
-use Rattle.office.specs.declared.certificate.Certificate.{Certificate}
-use Rattle.office.specs.declared.arrival.Kept.{Kept}
-use Rattle.office.specs.Certificates.{IsCertificate}
 use Rattle.office.specs.Openings.{are_serials}
-use Rattle.office.specs.State.{State, certificate_of, next_serial}
-use Rattle.store_sql.specs.Changes.{certs_numbered, has_serial}
-use Rattle.store.specs.Certificates.{AreCounted, IsSigned, certificate_in}
-use Rattle.store.specs.Lawful.{IsLawful}
-use Rattle.store.specs.Rows.{cert_row, contents_of}
 use Rattle.store.proofs.CertRows.{certificate_again as again}
-use Rattle.office.proofs.Decisions.{serial_of_one}
-use Rattle.values.specs.declared.limits.TheConstants.{LAST_SERIAL}
 use Rattle.store.specs.Finding.{asked_serial}
-use Rattle.store.specs.Histories.{IsOfHistory}
 use Rattle.store.proofs.OneRow.{rows_of}
 
 -- no certificate has a serial below the first

@@ -1,21 +1,11 @@
 -- Properties of the state and the stored requests after every history.
-use Rattle.std.proofs.Common.{◌≡◌, List, [], ◌∷◌, ◌++◌, false, Ok, Err, Result, refl, sym, subst, ◌∙◌}
-use Rattle.std.specs.List.{fold, list_any}
-use Rattle.std.proofs.lemmas.Bool.{or_parts}
-use Rattle.std.proofs.lemmas.Cmp.{nat_list_eq_equiv}
-use Rattle.std.proofs.lemmas.List.{map-append}
+use Rattle.store.proofs.Words.{AreApart, Arrival, Err, First, IsOfHistory, IsOpening, Kept, List, Ok, Opening, Refusal}
+use Rattle.store.proofs.Words.{Result, [], add_accepted, false, first_accepted, fold, has_key, holds_in_range}
+use Rattle.store.proofs.Words.{is_kept_for, judged, judged_is_first, kept_by, kept_row, list_any, map-append}
+use Rattle.store.proofs.Words.{nat_list_eq_equiv, or_parts, refl, revoked_is_issued, state_after, subst, sym}
+use Rattle.store.proofs.Words.{with_arrival, ◌++◌, ◌∙◌, ◌∷◌, ◌≡◌}
 use Rattle.std.proofs.lemmas.List.Folds.{list_any-append}
-use Rattle.values.specs.declared.refusal.Refusal.{Refusal}
-use Rattle.office.specs.declared.opening.Opening.{Opening}
-use Rattle.office.specs.declared.arrival.Arrival.{Arrival}
-use Rattle.office.specs.declared.arrival.Kept.{Kept}
-use Rattle.office.specs.Openings.{IsOpening}
-use Rattle.office.specs.History.{First, add_accepted, first_accepted, has_key, judged, kept_by, kept_row, state}
-use Rattle.office.specs.History.{state_after, with_arrival}
-use Rattle.office.proofs.Growth.{holds_in_range}
-use Rattle.office.proofs.Judged.{judged_is_first}
-use Rattle.office.proofs.Ranges.{revoked_is_issued}
-use Rattle.store.specs.Histories.{AreApart, IsOfHistory, is_kept_for}
+use Rattle.office.specs.History.{state}
 
 turned : (j k : Kept) → is_kept_for j.caller j.key k ≡ is_kept_for k.caller k.key j
 turned j k = rw (nat_list_eq_equiv.symm k.caller j.caller, nat_list_eq_equiv.symm k.key j.key) refl

@@ -1,24 +1,16 @@
 -- Looking at the tables of an office.
-use Rattle.std.proofs.Common.{inl, inr, ◌≡◌, Bool, true, false, List, [], ◌∷◌, refl, sym, subst, ◌∙◌, arith}
-use Rattle.std.specs.Prelude.{◌==◌, None, Result, Ok, Err, IsPermutation, All}
-use Rattle.std.specs.List.{list_any}
-use Rattle.std.proofs.lemmas.Bool.{cases_Bool}
-use Rattle.std.proofs.lemmas.List.Sorted.{length_permutation, All-permutation}
-use Rattle.std.proofs.lemmas.List.Elements.{All-cons, All-nil}
-use Rattle.sqlite.specs.Effect.{Database}
-use Rattle.store_sql.specs.Look.{is_office_table}
+use Rattle.store.proofs.Words.{All, All-cons, All-nil, All-permutation, Bool, Contents, Database, DiskFailed, Err}
+use Rattle.store.proofs.Words.{Fault, HasCauseOr, HasStopped, IsExcused, List, None, OfficeRow, Ok, RefusesFirstCa}
+use Rattle.store.proofs.Words.{Result, StoreFault, [], arith, cases_Bool, false, inl, inr, is_office_table}
+use Rattle.store.proofs.Words.{length_permutation, list_any, refl, store_fault_of, subst, sym, true, ◌==◌, ◌∙◌, ◌∷◌}
+use Rattle.store.proofs.Words.{◌≡◌}
+use Rattle.std.specs.Prelude.{IsPermutation}
 use Rattle.store_sql.proofs.FirstTable.{first_seen}
-use Rattle.store_sql.specs.Contents.{Contents, HasOffices}
-use Rattle.store_sql.specs.declared.offices.OfficeRow.{OfficeRow}
-use Rattle.office.specs.declared.store_fault.StoreFault.{StoreFault}
+use Rattle.store_sql.specs.Contents.{HasOffices}
 use Rattle.office.specs.declared.store_fault.StoreFault.TheVariants.{Device, NoMemory}
 use Rattle.sqlite.specs.State.{State}
-use Rattle.store_sql.specs.Refusals.{HasCauseOr}
-use Rattle.store_sql.specs.declared.table_fault.Fault.{Fault}
 use Rattle.store_sql.specs.declared.table_fault.Fault.TheVariants as table_fault
-use Rattle.store.specs.Faults.{store_fault_of}
-use Rattle.store.specs.Migrating.{HasStopped, IsExcused, RefusesFirstCa}
-use Rattle.store.specs.Meaning.{DiskFailed, Looks, opened_by}
+use Rattle.store.specs.Meaning.{Looks, opened_by}
 use Rattle.store.proofs.Telling.{disk_failed}
 
 -- the `office` table is found

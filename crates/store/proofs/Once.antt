@@ -1,21 +1,10 @@
 -- Inserting a key ID at most once.
-use Rattle.std.proofs.Common.{◌≡◌, ℕ, List, [], ◌∷◌, true, false, refl}
-use Rattle.std.proofs.Common.{ap, ◌∙◌, IsPermutation, Ordering, Less}
-use Rattle.std.specs.List.{list_any}
-use Rattle.std.specs.declared.cmp.Ordering.TheVariants.{Equal, Greater}
-use Rattle.std.specs.Cmp.Lexicographic.{slice_cmp}
-use Rattle.std.specs.Ordering.{nat_cmp}
-use Rattle.std.specs.Str.{bytes_eq}
-use Rattle.std.proofs.lemmas.Bool.{both_ways, or_from, or_parts}
-use Rattle.std.proofs.lemmas.Cmp.{nat_list_cmp_total, nat_list_eq_equiv}
-use Rattle.std.proofs.lemmas.List.Sorted.{IsPermutation-refl}
+use Rattle.store.proofs.Words.{Equal, Greater, HasOne, IsAscending, IsPermutation, IsPermutation-refl, Less, List}
+use Rattle.store.proofs.Words.{Ordering, [], ap, both_ways, bytes_eq, bytes_eq-Decides, false, is_same_key_id, list_any}
+use Rattle.store.proofs.Words.{nat_cmp, nat_list_cmp_total, nat_list_eq_equiv, or_parts, put_text, refl, slice_cmp}
+use Rattle.store.proofs.Words.{some_from, true, ℕ, ◌∙◌, ◌∷◌, ◌≡◌}
+use Rattle.std.proofs.lemmas.Bool.{or_from}
 use Rattle.sqlite_keyed.proofs.ListLemmas.{all_weaker, any_from_none}
-use Rattle.store_sql.proofs.LastRun.{some_from}
-use Rattle.sqlite.specs.Tree.{IsAscending}
-use Rattle.office.specs.Machine.{put_text}
-use Rattle.std.proofs.lemmas.Slice.Eq.{bytes_eq-Decides}
-use Rattle.store_sql.specs.Changes.{is_same_key_id}
-use Rattle.store_sql.specs.Refusals.{HasOne}
 use Rattle.store.proofs.Spans.{moved}
 use Rattle.store.proofs.PutInPlace.{tied}
 

@@ -1,23 +1,14 @@
 -- After a history without rollovers, an office has only the CA that it began with.
-use Rattle.std.proofs.Common.{◌≡◌, ℕ, List, [], ◌∷◌, Bool, true, false, Option}
-use Rattle.std.proofs.Common.{Some, None, Result, Ok, Err, refl, sym, ap, subst}
-use Rattle.std.specs.Prelude.{if◌then◌else◌, IfSome}
-use Rattle.std.specs.List.{fold}
-use Rattle.std.proofs.lemmas.List.Sums.{fold_push}
-use Rattle.values.specs.declared.refusal.Refusal.{Refusal}
-use Rattle.message.specs.declared.kinds.Message.{Message}
+use Rattle.store.proofs.Words.{Arrival, Bool, Certificate, Err, First, IfSome, List, Message, None, Ok, Opening, Option}
+use Rattle.store.proofs.Words.{Refusal, Result, Some, State, [], add_accepted, after, ap, ca_rows, change, false, fold}
+use Rattle.store.proofs.Words.{fold_push, former_contents, if◌then◌else◌, is_key_id_revoked, is_range_revoked, judged}
+use Rattle.store.proofs.Words.{judged_is_first, kept_by, message_with_text, migrated, office_contents, refl, renewed}
+use Rattle.store.proofs.Words.{state_after, subst, sym, true, with_arrival, with_one_more, with_range, ℕ, ◌∷◌, ◌≡◌}
 use Rattle.message.specs.declared.kinds.Message.TheVariants as message
-use Rattle.office.specs.declared.opening.Opening.{Opening}
-use Rattle.office.specs.declared.arrival.Arrival.{Arrival}
-use Rattle.office.specs.declared.certificate.Certificate.{Certificate}
-use Rattle.office.specs.Messages.{message_with_text}
-use Rattle.office.specs.State.{State, first_ca, opened}
-use Rattle.office.specs.Machine.{after, is_key_id_revoked, is_range_revoked, renewed}
-use Rattle.office.specs.Machine.{republished, with_key_id, with_one_more, with_range}
-use Rattle.office.specs.History.{First, add_accepted, change, judged, kept_by, state, state_after, with_arrival}
-use Rattle.office.proofs.Judged.{judged_is_first}
-use Rattle.store.specs.Rows.{ca_rows, office_contents}
-use Rattle.store.specs.Former.{HasNoRollover, former_contents, is_rollover, migrated}
+use Rattle.office.specs.State.{first_ca, opened}
+use Rattle.office.specs.Machine.{republished, with_key_id}
+use Rattle.office.specs.History.{state}
+use Rattle.store.specs.Former.{HasNoRollover, is_rollover}
 
 abbrev HasOneCa : State → Type 0
 HasOneCa s = s.cas ≡ first_ca s.opening ∷ []

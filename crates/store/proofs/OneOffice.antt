@@ -1,24 +1,11 @@
 -- Reading the office's row gives the office back.
-use Rattle.std.proofs.Common.{◌≡◌, List, [], ◌∷◌, length, true, false, Some, Result, refl, sym, ap, subst, ◌∙◌, arith}
-use Rattle.std.proofs.Common.{IsPermutation, get_or, ◌≤◌, ◌<◌}
-use Rattle.std.specs.Prelude.{nat_lt}
-use Rattle.std.specs.Str.{bytes_eq}
-use Rattle.std.proofs.lemmas.Bool.{and_parts, le-ltb, not-true}
-use Rattle.sqlite.proofs.Callers.{one_permutation}
-use Rattle.sqlite.specs.State.{State as Connection, IsUnchanged}
-use Rattle.lines.proofs.Blobs.{key_of_again}
-use Rattle.office.specs.declared.opening.Opening.{Opening}
-use Rattle.office.specs.Openings.{IsOpening}
-use Rattle.office.specs.State.{State, next_serial}
-use Rattle.store_sql.specs.Contents.{Contents, Means}
-use Rattle.store_sql.specs.declared.offices.OfficeRow.{OfficeRow}
-use Rattle.store_sql.specs.declared.table_fault.Fault.{Fault}
+use Rattle.store.proofs.Words.{Contents, Fault, IsLawful, IsOpening, IsPermutation, IsRead, IsUnchanged, List, Means}
+use Rattle.store.proofs.Words.{OfficeRow, Opening, Result, ShowsFromRows, Some, State, [], and_parts, ap, arith}
+use Rattle.store.proofs.Words.{bytes_eq, contents_of, false, get_or, key_of_again, le-ltb, length, nat_lt, next_serial}
+use Rattle.store.proofs.Words.{not-true, office_row, one_permutation, refl, subst, sym, true, ◌<◌, ◌∙◌, ◌∷◌, ◌≡◌, ◌≤◌}
+use Rattle.sqlite.specs.State.{State as Connection}
 use Rattle.store.specs.declared.rows.office_rows.Office.{Office}
-use Rattle.store.specs.Lawful.{IsLawful}
 use Rattle.store.specs.Offices.{IsOfficeOf, if_office, is_opening, office_in, only_office}
-use Rattle.store.specs.Reading.{IsRead}
-use Rattle.store.specs.Rows.{contents_of, office_row}
-use Rattle.store.specs.ShowingRows.{ShowsFromRows}
 use Rattle.store.proofs.Sorting.{shows_read}
 
 abbrev office_of_state : State → Office

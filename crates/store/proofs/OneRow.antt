@@ -1,18 +1,8 @@
 -- A single row that was found, and its value.
-use Rattle.std.proofs.Common.{◌≡◌, List, [], ◌∷◌, Option, Some, None, Result, refl, ap, subst, ◌∙◌, arith}
-use Rattle.std.specs.Option.{option_map}
-use Rattle.std.proofs.lemmas.List.Sorted.{length_permutation}
-use Rattle.sqlite.proofs.Callers.{one_permutation}
-use Rattle.sqlite.specs.State.{State as Connection, IsUnchanged}
-use Rattle.store_sql.specs.Contents.{Contents, Means}
-use Rattle.store_sql.specs.Calls.{IsOneOf}
-use Rattle.store_sql.specs.declared.table_fault.Fault.{Fault}
-use Rattle.office.specs.declared.arrival.Kept.{Kept}
-use Rattle.office.specs.State.{State}
-use Rattle.store.specs.Lawful.{IsLawful}
-use Rattle.store.specs.Reading.{IsRead}
-use Rattle.store.specs.Rows.{contents_of}
-use Rattle.store.specs.ShowingRows.{ShowsFromRows}
+use Rattle.store.proofs.Words.{Contents, Fault, IsLawful, IsOneOf, IsRead, IsUnchanged, Kept, List, Means, None, Option}
+use Rattle.store.proofs.Words.{Result, ShowsFromRows, Some, State, [], ap, arith, contents_of, length_permutation}
+use Rattle.store.proofs.Words.{one_permutation, option_map, refl, subst, ◌∙◌, ◌∷◌, ◌≡◌}
+use Rattle.sqlite.specs.State.{State as Connection}
 use Rattle.store.proofs.Sorting.{shows_read}
 use Rattle.store.specs.Finding.{value_in}
 

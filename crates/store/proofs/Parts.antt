@@ -1,17 +1,13 @@
 -- The CAs in order, and the contents of the published KRL.
-use Rattle.std.proofs.Common.{◌≡◌, ℕ, zero, suc, ◌≤◌, ◌<◌, List, [], ◌∷◌, length, true, refl, subst, ◌∙◌, arith}
-use Rattle.std.specs.Prelude.{slice_index_or, nat_le}
-use Rattle.std.specs.List.Sorted.{IsNonDecreasing}
-use Rattle.std.proofs.lemmas.Bool.{and_from, and_parts, le-leb, leb-true}
+use Rattle.store.proofs.Words.{AreRevocations, AreShown, Ca, IsMadeOf, IsNonDecreasing, List, Revocations, State, []}
+use Rattle.store.proofs.Words.{and_parts, are_ordered, arith, le-leb, leb-true, length, nat_le, numbers, refl, subst}
+use Rattle.store.proofs.Words.{suc, true, zero, ℕ, ◌<◌, ◌∙◌, ◌∷◌, ◌≡◌, ◌≤◌}
+use Rattle.std.specs.Prelude.{slice_index_or}
+use Rattle.std.proofs.lemmas.Bool.{and_from}
 use Rattle.krl.specs.declared.krl_head.KrlHead.{KrlHead}
-use Rattle.office.specs.declared.ca.Ca.{Ca}
 use Rattle.office.specs.declared.publication.Revoked.{Revoked}
-use Rattle.office.specs.State.{State}
-use Rattle.office.specs.Parts.{AreParts, numbers}
+use Rattle.office.specs.Parts.{AreParts}
 use Rattle.office.proofs.Parts.{AreIssued, parts_are_published}
-use Rattle.office.specs.declared.listing.Revocations.{Revocations}
-use Rattle.store.specs.Parts.{AreShown, IsMadeOf, are_ordered}
-use Rattle.office.specs.Listing.{AreRevocations}
 
 -- ---- CAs in order
 

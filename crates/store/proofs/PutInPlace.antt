@@ -1,28 +1,13 @@
 -- Putting a department in place of the one with its name.
-use Rattle.std.proofs.Common.{◌≡◌, ℕ, List, [], ◌∷◌, map, Bool, true, false, refl, sym, ap}
-use Rattle.std.proofs.Common.{subst, ◌∙◌, ◌<◌, ◌^◌, arith, IsPermutation, Ordering, Less}
-use Rattle.std.specs.Prelude.{not, filter, ◌&&◌}
-use Rattle.std.specs.List.{AllByRecursion}
-use Rattle.std.specs.declared.cmp.Ordering.TheVariants.{Equal, Greater}
-use Rattle.std.specs.FinMap.Entries.{put}
-use Rattle.std.specs.Cmp.Lexicographic.{slice_cmp}
-use Rattle.std.specs.Ordering.{is_eq, nat_cmp}
-use Rattle.std.specs.Str.{bytes_eq}
-use Rattle.std.proofs.lemmas.Bool.{and_parts}
-use Rattle.std.proofs.lemmas.Bool.Decides.{nat_tests}
-use Rattle.std.proofs.lemmas.Cmp.{nat_list_cmp_total, nat_list_eq_equiv}
-use Rattle.std.proofs.lemmas.Map.Text.{is_eq-slice_cmp}
-use Rattle.std.proofs.lemmas.Slice.Eq.{bytes_eq-Decides}
-use Rattle.std.proofs.lemmas.List.Sorted.{IsPermutation-refl}
-use Rattle.sqlite_trees.proofs.ListLemmas.{all-map, all_weaker, filter_all}
-use Rattle.sqlite.specs.Tree.{IsAscending}
-use Rattle.message.specs.declared.department.Department.{Department}
-use Rattle.values.specs.Names.{is_name}
-use Rattle.message.specs.Values.{are_administrators, are_extension_names, are_namespaces}
-use Rattle.message.specs.Values.{are_option_names, are_rules, fits_kind, is_department, is_longest_life}
-use Rattle.store_sql.specs.declared.departments.DepartmentRow.{DepartmentRow}
-use Rattle.store_sql.specs.Changes.{has_name}
-use Rattle.store.specs.Rows.{department_row}
+use Rattle.store.proofs.Words.{AllByRecursion, Bool, Department, DepartmentRow, Equal, Greater, IsAscending}
+use Rattle.store.proofs.Words.{IsPermutation, IsPermutation-refl, Less, List, Ordering, [], all_weaker, and_parts, ap}
+use Rattle.store.proofs.Words.{are_extension_names, are_namespaces, are_option_names, arith, bytes_eq, bytes_eq-Decides}
+use Rattle.store.proofs.Words.{department_row, false, filter, has_name, is_department, is_eq, is_eq-slice_cmp, is_name}
+use Rattle.store.proofs.Words.{map, nat_cmp, nat_list_cmp_total, nat_list_eq_equiv, nat_tests, not, put, refl}
+use Rattle.store.proofs.Words.{slice_cmp, subst, sym, true, ℕ, ◌&&◌, ◌<◌, ◌^◌, ◌∙◌, ◌∷◌, ◌≡◌}
+use Rattle.sqlite_trees.proofs.ListLemmas.{all-map, filter_all}
+use Rattle.message.specs.Values.{are_administrators}
+use Rattle.message.specs.Values.{are_rules, fits_kind, is_longest_life}
 use Rattle.store.proofs.Spans.{moved}
 use Rattle.store.proofs.DepartmentRows.{department_rows}
 

@@ -1,17 +1,9 @@
 -- Whether a single run contains an interval.
-use Rattle.std.proofs.Common.{◌≡◌, arith, ℕ, ◌+◌, ◌<◌, ◌≤◌, inl, inr, List, map, true, false, Option, None}
-use Rattle.std.proofs.Common.{Some, refl, ap, IsTrue}
-use Rattle.std.specs.Prelude.{◌↔◌, nat_le, max}
-use Rattle.std.proofs.lemmas.Bool.{cases_Bool, cases_lt}
-use Rattle.std.proofs.lemmas.Bool.Decides.{nat_tests}
-use Rattle.sqlite_keyed.proofs.ListLemmas.{map_back}
-use Rattle.krl.specs.declared.run.Run.{Run}
-use Rattle.krl.specs.Sets.{HasAll, contains, is_within}
-use Rattle.store_sql.specs.declared.runs.RunRow.{RunRow}
-use Rattle.store_sql.proofs.LastRun.{Has, IsLast, all_has, some_has, some_from, mapped_has}
-use Rattle.store.specs.Rows.{run_row}
+use Rattle.store.proofs.Words.{HasAll, IsLast, IsTrue, List, None, Option, Run, RunRow, Some, all_has, ap, arith}
+use Rattle.store.proofs.Words.{cases_Bool, cases_lt, contains, false, inl, inr, is_within, map, map_back, max, nat_le}
+use Rattle.store.proofs.Words.{nat_tests, reaches, refl, run_of, run_row, some_from, true, ℕ, ◌+◌, ◌<◌, ◌↔◌, ◌≡◌, ◌≤◌}
+use Rattle.store_sql.proofs.LastRun.{Has, some_has, mapped_has}
 use Rattle.store.proofs.RunsApart.{AreApart}
-use Rattle.store.specs.RunRows.{reaches, run_of}
 
 is_in : (n : ℕ) (r : Run) → r.lo ≤ n → n ≤ r.hi → is_within n r ≡ true
 is_in n r p q = grind (arith, nat_tests)

@@ -1,29 +1,16 @@
 -- Reading calls over the tables of an office, one after the other.
-use Rattle.std.proofs.Common.{◌≡◌, inl, List, Ok, Err, Result, sym, subst, arith}
-use Rattle.std.specs.Prelude.{IfOk, IsErrAnd}
-use Rattle.std.proofs.lemmas.Result.{err_from_is_err_and}
-use Rattle.sqlite.specs.Effect.{Database}
-use Rattle.sqlite.specs.State.{State as Connection, HasCleanDisk, IsUnchanged}
-use Rattle.sqlite.proofs.Callers.{unchanged_then}
+use Rattle.store.proofs.Words.{Arrival, Asking, Database, Err, Fault, HasCleanDisk, IfOk, IsErrAnd, IsHistory}
+use Rattle.store.proofs.Words.{IsOfHistory, IsUnchanged, Kept, List, Means, Never, Ok, Opening, Reading, Result}
+use Rattle.store.proofs.Words.{ShowsFromRows, ShowsOffice, State, arith, cause_then, err_from_is_err_and}
+use Rattle.store.proofs.Words.{first_accepted, inl, kept_by, never_then, office_contents, reads_then, stops_then, subst}
+use Rattle.store.proofs.Words.{sym, unchanged_then, ◌≡◌}
+use Rattle.sqlite.specs.State.{State as Connection}
 use Rattle.text.specs.declared.memory.NoMemory.{NoMemory as Refusal}
-use Rattle.store_sql.specs.Calls.{Never}
-use Rattle.store_sql.specs.Contents.{Means}
-use Rattle.store_sql.specs.declared.table_fault.Fault.{Fault}
-use Rattle.store_sql.proofs.Later.{cause_then, stops_then}
-use Rattle.store_sql.proofs.Staying.{never_then, reads_then}
-use Rattle.office.specs.declared.opening.Opening.{Opening}
-use Rattle.office.specs.declared.arrival.Arrival.{Arrival}
-use Rattle.office.specs.declared.arrival.Kept.{Kept}
-use Rattle.office.specs.State.{State}
-use Rattle.office.specs.History.{first_accepted, kept_by, state}
-use Rattle.store.specs.Rows.{office_contents}
-use Rattle.store.specs.ShowingRows.{Asking, ShowsFromRows}
+use Rattle.office.specs.History.{state}
 use Rattle.store.proofs.Sorting.{asked}
-use Rattle.store.specs.Histories.{IsOfHistory}
 use Rattle.store.proofs.OfHistory.{of_history}
 use Rattle.store.proofs.Showing.{shows_weaker}
-use Rattle.store.specs.Meaning.{IsHistory, allocated}
-use Rattle.store.specs.Showing.{Reading, ShowsOffice}
+use Rattle.store.specs.Meaning.{allocated}
 use Rattle.store.proofs.Lawful.{lawful_after}
 
 -- `P` of the state after a history and its stored requests

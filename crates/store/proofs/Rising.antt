@@ -1,14 +1,9 @@
 -- The runs (maximal ranges) of a set ascend.
-use Rattle.std.proofs.Common.{◌≡◌, ℕ, zero, suc, ◌+◌, ◌<◌, ◌≤◌, ◌^◌, List, [], ◌∷◌, map, Bool, Less, nat_cmp, sym}
-use Rattle.std.proofs.Common.{arith, inl, inr}
-use Rattle.std.specs.List.{AllByRecursion}
-use Rattle.std.specs.Cmp.{nat_cmp_is}
-use Rattle.std.proofs.lemmas.Bool.{cases_Bool, cases_lt, eq-eqb, ne_eqb}
-use Rattle.sqlite.specs.Tree.{IsAscending}
-use Rattle.krl.specs.declared.run.Run.{Run}
-use Rattle.krl.specs.Sets.{AreRunsFrom, runs_in, with_first}
-use Rattle.store.specs.Rows.{run_row}
-use Rattle.store.specs.RunRows.{RiseFrom}
+use Rattle.store.proofs.Words.{AllByRecursion, AreRunsFrom, Bool, IsAscending, Less, List, RiseFrom, Run, [], arith}
+use Rattle.store.proofs.Words.{cases_Bool, cases_lt, eq-eqb, inl, inr, map, nat_cmp_is, ne_eqb, run_row, runs_in, suc}
+use Rattle.store.proofs.Words.{sym, zero, ℕ, ◌+◌, ◌<◌, ◌^◌, ◌∷◌, ◌≡◌, ◌≤◌}
+use Rattle.std.proofs.Common.{nat_cmp}
+use Rattle.krl.specs.Sets.{with_first}
 
 -- ---- the runs of a set
 

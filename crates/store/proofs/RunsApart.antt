@@ -1,10 +1,7 @@
 -- Rows of runs (maximal ranges) of which no two overlap or touch.
-use Rattle.std.proofs.Common.{◌≡◌, arith, ℕ, ◌+◌, ◌<◌, ◌≤◌, inl, inr, List, [], ◌∷◌, map, refl}
-use Rattle.krl.specs.declared.run.Run.{Run}
-use Rattle.krl.specs.Sets.{AreRunsFrom}
-use Rattle.store_sql.specs.declared.runs.RunRow.{RunRow}
+use Rattle.store.proofs.Words.{AreRunsFrom, List, Run, RunRow, [], arith, inl, inr, map, refl, run_row, ℕ, ◌+◌, ◌<◌}
+use Rattle.store.proofs.Words.{◌∷◌, ◌≡◌, ◌≤◌}
 use Rattle.store_sql.proofs.LastRun.{Has}
-use Rattle.store.specs.Rows.{run_row}
 
 -- each contains a serial, and no two different ones overlap or touch
 abbrev pub AreApart : List RunRow → Type 0

@@ -1,33 +1,18 @@
 -- The runs (maximal ranges) of the revoked serials, as the rows show them.
-use Rattle.std.proofs.Common.{◌≡◌, ℕ, ◌+◌, ◌<◌, ◌≤◌, inl, List, length, map, ◌^◌, Option, Bool, true, false, ◌&&◌}
-use Rattle.std.proofs.Common.{Ok, Err, Result, refl, sym, ap, ◌∙◌, arith, IsPermutation, IsTrue}
-use Rattle.std.specs.Prelude.{◌↔◌, IsSortedByKey}
-use Rattle.std.specs.Ordering.{nat_cmp}
-use Rattle.std.proofs.lemmas.Cmp.{nat_cmp_total, on_total}
-use Rattle.sqlite_keyed.proofs.ListLemmas.{map_back}
-use Rattle.sqlite_keyed.proofs.SortLemmas.{sorted_unique}
-use Rattle.sqlite.specs.State.{State as Connection, IsUnchanged}
-use Rattle.krl.specs.declared.run.Run.{Run}
-use Rattle.krl.specs.Sets.{HasAll, contains, is_counted}
-use Rattle.krl.proofs.Counting.{contains_runs_in, are_counted, runs_in_runs}
-use Rattle.office.specs.declared.arrival.Kept.{Kept}
-use Rattle.office.specs.State.{State}
-use Rattle.store_sql.specs.declared.runs.RunRow.{RunRow}
-use Rattle.store_sql.specs.Runs.{last_at, last_run}
-use Rattle.store_sql.proofs.LastRun.{is_last}
-use Rattle.store_sql.specs.Contents.{Contents, Means}
-use Rattle.store_sql.specs.declared.table_fault.Fault.{Fault}
-use Rattle.store_sql.specs.declared.table_fault.Fault.TheVariants.{Damaged, Device, NoMemory}
-use Rattle.store.specs.Lawful.{IsLawful}
-use Rattle.store.specs.Rows.{contents_of, revoked_runs, run_row}
-use Rattle.store.specs.ShowingRows.{ShowsFromRows}
-use Rattle.store.specs.Histories.{IsOfHistory}
-use Rattle.store.specs.RunRows.{AreRead, AreRevokedRuns, RiseFrom, reaches, run_of, runs_of}
+use Rattle.store.proofs.Words.{Bool, Contents, Damaged, Device, Err, Fault, HasAll, IsLawful, IsOfHistory}
+use Rattle.store.proofs.Words.{IsPermutation, IsSortedByKey, IsTrue, IsUnchanged, Kept, List, Means, NoMemory, Ok}
+use Rattle.store.proofs.Words.{Option, Result, RiseFrom, Run, RunRow, ShowsFromRows, State, and-false, ap, arith}
+use Rattle.store.proofs.Words.{contains, contains_runs_in, contents_of, false, inl, is_counted, is_last, last_at}
+use Rattle.store.proofs.Words.{last_run, length, map, map_back, nat_cmp, nat_cmp_total, on_total, reaches, refl}
+use Rattle.store.proofs.Words.{revoked_runs, run_of, run_row, runs_in_runs, runs_of, sorted_unique, sym, true, ℕ, ◌&&◌}
+use Rattle.store.proofs.Words.{◌+◌, ◌<◌, ◌^◌, ◌↔◌, ◌∙◌, ◌≡◌, ◌≤◌}
+use Rattle.sqlite.specs.State.{State as Connection}
+use Rattle.krl.proofs.Counting.{are_counted}
+use Rattle.store.specs.RunRows.{AreRead, AreRevokedRuns}
 use Rattle.store.proofs.Rising.{rise_lower, rows_rise, runs_rise}
 use Rattle.store.proofs.Numbered.{serials_within}
 use Rattle.store.proofs.Reaching.{all_in}
 use Rattle.store.proofs.RunsApart.{rows_apart}
-use Rattle.std.proofs.Math.Bool.{and-false}
 
 revoked_rise : (s : State) → RiseFrom 0 (revoked_runs s)
 revoked_rise s =

@@ -1,11 +1,10 @@
 -- The order of rows doesn't matter to the tables that hold them.
-use Rattle.std.proofs.Common.{ℕ, List, map, IsPermutation}
-use Rattle.std.proofs.lemmas.List.Sorted.{IsPermutation-map, IsPermutation-sym, IsPermutation-trans}
+use Rattle.store.proofs.Words.{Contents, Database, IsPermutation, IsPermutation-map, IsPermutation-sym}
+use Rattle.store.proofs.Words.{IsPermutation-trans, List, Means, ca_cells, cert_cells, key_id_cells, map, office_cells}
+use Rattle.store.proofs.Words.{ℕ}
 use Rattle.sqlite.specs.Order.{Row}
-use Rattle.sqlite.specs.Effect.{Database}
-use Rattle.store_sql.specs.Cells.{office_cells, department_cells, cert_cells, request_cells, run_cells, key_id_cells}
-use Rattle.store_sql.specs.Cells.{ca_cells}
-use Rattle.store_sql.specs.Contents.{Contents, Lists, Means, at_places, office_places, department_places, cert_places}
+use Rattle.store_sql.specs.Cells.{department_cells, request_cells, run_cells}
+use Rattle.store_sql.specs.Contents.{Lists, at_places, office_places, department_places, cert_places}
 use Rattle.store_sql.specs.Contents.{request_places, run_places, key_id_places, ca_places}
 
 -- the same rows in each table, in some order

@@ -1,18 +1,9 @@
 -- Rows of certificates and of CAs, by their numbers.
-use Rattle.std.proofs.Common.{◌≡◌, ℕ, zero, suc, ◌+◌, ◌<◌, List, [], ◌∷◌, ◌++◌, length, map}
-use Rattle.std.proofs.Common.{cond, refl, ap, ◌∙◌, arith, IsPermutation}
-use Rattle.std.proofs.lemmas.Bool.{eq-eqb, ne_eqb}
-use Rattle.std.proofs.lemmas.List.{map-append}
-use Rattle.std.proofs.lemmas.List.Sorted.{IsPermutation-sym, IsPermutation-to_front}
-use Rattle.lines.specs.declared.signature.Signature.{Signature}
-use Rattle.office.specs.declared.ca.Ca.{Ca}
-use Rattle.office.specs.declared.certificate.Certificate.{Certificate}
-use Rattle.office.specs.Machine.{signed_at}
-use Rattle.store_sql.specs.declared.certs.CertRow.{CertRow}
-use Rattle.store_sql.specs.declared.cas.CaRow.{CaRow}
-use Rattle.store_sql.specs.Changes.{has_serial, signed_row}
-use Rattle.store.specs.Certificates.{AreCounted}
-use Rattle.store.specs.Rows.{ca_row, ca_rows, cert_row}
+use Rattle.store.proofs.Words.{AreCounted, Ca, CaRow, CertRow, Certificate, IsPermutation, IsPermutation-sym, List}
+use Rattle.store.proofs.Words.{Signature, [], ap, arith, ca_row, ca_rows, cert_row, cond, eq-eqb, has_serial, length}
+use Rattle.store.proofs.Words.{map, map-append, ne_eqb, refl, signed_at, suc, zero, ℕ, ◌++◌, ◌+◌, ◌<◌, ◌∙◌, ◌∷◌, ◌≡◌}
+use Rattle.std.proofs.lemmas.List.Sorted.{IsPermutation-to_front}
+use Rattle.store_sql.specs.Changes.{signed_row}
 
 -- an element at the end, moved to the front
 pub to_front : {X Y : Type 0} (f : X → Y) (x : X) (xs : List X) → IsPermutation (f x ∷ map f xs) (map f (xs ++ x ∷ []))

@@ -1,28 +1,17 @@
 -- The CAs of an office serve from serials that don't descend.
-use Rattle.std.proofs.Common.{◌≡◌, ℕ, ◌-◌, ◌≤◌, List, [], ◌∷◌, ◌++◌, length, Option, Some, None, refl, sym, ap, subst}
-use Rattle.std.proofs.Common.{◌∙◌, arith, length-append}
-use Rattle.std.specs.Prelude.{All}
-use Rattle.std.specs.List.Sorted.{IsNonDecreasing}
-use Rattle.std.proofs.lemmas.List.{map-append}
+use Rattle.store.proofs.Words.{All, Arrival, Ca, Certificate, Damaged, Device, Err, Fault, Global, IsNonDecreasing}
+use Rattle.store.proofs.Words.{List, NoMemory, None, Ok, Opening, Option, Result, ShowsOffice, Some, Vec, [], ap, arith}
+use Rattle.store.proofs.Words.{ca_from_now, is_key_id_revoked, is_range_revoked, issued, length, length-append}
+use Rattle.store.proofs.Words.{length-signed_at, map-append, numbers, refl, renewed, subst, sym, with_one_more, ℕ, ◌++◌}
+use Rattle.store.proofs.Words.{◌-◌, ◌∙◌, ◌∷◌, ◌≡◌, ◌≤◌}
 use Rattle.std.proofs.lemmas.List.Elements.{All-push}
 use Rattle.std.proofs.lemmas.List.Sorted.{IsNonDecreasingBy-push}
 use Rattle.message.specs.declared.kinds.Message.TheVariants as message
-use Rattle.office.specs.declared.opening.Opening.{Opening}
-use Rattle.office.specs.declared.arrival.Arrival.{Arrival}
-use Rattle.office.specs.declared.ca.Ca.{Ca}
-use Rattle.office.specs.declared.certificate.Certificate.{Certificate}
-use Rattle.office.specs.Machine.{State, ca_from_now, has_any, is_key_id_revoked, is_range_revoked, issued, next_serial}
-use Rattle.office.specs.Machine.{renewed, with_ca, with_one_more, with_signature}
+use Rattle.office.specs.Machine.{State, has_any, next_serial}
+use Rattle.office.specs.Machine.{with_ca, with_signature}
 use Rattle.office.specs.History.{state}
-use Rattle.office.proofs.Growth.{length-signed_at}
-use Rattle.std.specs.Prelude.{Result, Ok, Err, Vec}
-use Rattle.std.specs.declared.alloc.Global.{Global}
 use Rattle.sqlite.specs.State.{State as Connection}
-use Rattle.store_sql.specs.declared.table_fault.Fault.{Fault}
-use Rattle.store_sql.specs.declared.table_fault.Fault.TheVariants.{Damaged, Device, NoMemory}
-use Rattle.office.specs.Parts.{numbers}
 use Rattle.store.specs.Parts.{AreOrdered}
-use Rattle.store.specs.Showing.{ShowsOffice}
 use Rattle.office.proofs.Histories.{IsKept, holds_after}
 use Rattle.store.proofs.Lawful.{of_either}
 

@@ -1,55 +1,31 @@
 -- Answers inside a transaction, part by part.
-use Rattle.std.proofs.Common.{◌≡◌, List, true, false, Some, None, refl, ap, ◌∙◌, ℕ, [], ◌∷◌, ◌++◌, length, Bool, Ok}
-use Rattle.std.proofs.Common.{Err, Result, IsTrue, sym, ap₂, subst, arith}
-use Rattle.std.specs.Prelude.{find, is_some, IsErrAnd}
-use Rattle.std.specs.List.{list_any}
-use Rattle.std.specs.Str.{bytes_eq}
-use Rattle.values.specs.declared.refusal.Refusal.{Refusal}
-use Rattle.sqlite.specs.Effect.{Database}
-use Rattle.sqlite.specs.State.{State as Connection, HasCleanDisk, Survives}
-use Rattle.sqlite.proofs.StateLemmas.{survives_weaker}
-use Rattle.krl.proofs.Items.{all_more}
-use Rattle.message.specs.declared.kinds.Message.{Message}
+use Rattle.store.proofs.Words.{Answers, AreApart, Arrival, Asking, Bool, Contents, Database, Decided, Err}
+use Rattle.store.proofs.Words.{ExceedsTables, Fault, HasCause, HasCleanDisk, IsAfter, IsAsked, IsDueAnswer, IsErrAnd}
+use Rattle.store.proofs.Words.{IsHistory, IsNew, IsTrue, KeepsUnaccepted, Kept, List, Means, Message, Never, NoMemory}
+use Rattle.store.proofs.Words.{None, Ok, Outcome, Past, Reading, Refusal, Result, Settles, Shows, Some, State, Survives}
+use Rattle.store.proofs.Words.{Waits, [], all_more, ap, ap₂, arith, bytes_eq, contents_of, contents_with, due, false}
+use Rattle.store.proofs.Words.{find, has_key, is_kept_for, is_some, judged, kept_at, length, list_any}
+use Rattle.store.proofs.Words.{message_with_text, office_contents, reads_stay, refl, reply_kept, state_at, stays_then}
+use Rattle.store.proofs.Words.{stops, subst, survives_weaker, sym, true, ℕ, ◌++◌, ◌∙◌, ◌∷◌, ◌≡◌}
+use Rattle.sqlite.specs.State.{State as Connection}
 use Rattle.message.specs.Reading.{Gives, message_at}
 use Rattle.message.specs.declared.message_fault.MessageFault.{MessageFault}
 use Rattle.message.specs.declared.message_fault.MessageFault.TheVariants.{BadLine}
-use Rattle.office.specs.declared.arrival.Arrival.{Arrival}
-use Rattle.office.specs.declared.arrival.Kept.{Kept}
-use Rattle.office.specs.History.{has_key, reply_kept, due, judged}
-use Rattle.office.specs.declared.arrival.Outcome.{Outcome}
 use Rattle.office.specs.declared.view.Stop.{Stop}
 use Rattle.office.specs.declared.view.Stop.TheVariants.{Refused}
-use Rattle.office.specs.Decided.{Decided}
-use Rattle.office.specs.Messages.{message_with_text}
-use Rattle.office.specs.State.{State}
 use Rattle.office.specs.Machine.{step}
-use Rattle.office.specs.Shows.{Shows}
 use Rattle.office.proofs.Steps.{shows_office, shows_refused, shows_repeated}
 use Rattle.office.proofs.Texts.{bad_is}
 use Rattle.office.specs.declared.arrival.Outcome.TheVariants as outcome
 use Rattle.office.specs.declared.view.Stop.TheVariants as stop
-use Rattle.store_sql.specs.Contents.{Contents, Means}
-use Rattle.store_sql.specs.Calls.{Never}
-use Rattle.store_sql.specs.Faults.{HasCause}
-use Rattle.store_sql.specs.declared.table_fault.Fault.{Fault}
-use Rattle.store_sql.specs.declared.table_fault.Fault.TheVariants.{NoMemory}
-use Rattle.store_sql.proofs.Later.{stops}
-use Rattle.store_sql.proofs.Staying.{reads_stay, stays_then}
-use Rattle.store.specs.Rows.{contents_of, office_contents}
-use Rattle.store.specs.Transactions.{Answers, Waits}
 use Rattle.store.proofs.Causes.{cause_of, fails_then, fails_weaker}
 use Rattle.store.proofs.Steps.{Leads, answers_then, goes_still, waits_then}
-use Rattle.store.specs.Histories.{AreApart, is_kept_for}
 use Rattle.store.proofs.Keeping.{known_by_kept, no_repeat, reply_by_kept, reply_of}
-use Rattle.store.specs.Meaning.{IsHistory}
-use Rattle.store.specs.Arriving.{ExceedsTables, IsAfter, IsDueAnswer, IsAsked, IsNew, KeepsUnaccepted, Past, Settles}
 use Rattle.store.specs.Arriving.{Settling}
-use Rattle.store.specs.Arriving.{contents_with, kept_at, state_at, stopped}
+use Rattle.store.specs.Arriving.{stopped}
 use Rattle.store.proofs.Lawful.{lawful_after}
 use Rattle.store.proofs.Reading.{still_means}
 use Rattle.store.proofs.Showing.{survives_still}
-use Rattle.store.specs.Showing.{Reading}
-use Rattle.store.specs.ShowingRows.{Asking}
 
 -- ---- one more received request
 

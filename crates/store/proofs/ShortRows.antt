@@ -1,31 +1,13 @@
 -- Rows that are never too long: those of an office, of its first CA, and of a key ID.
-use Rattle.std.proofs.Common.{◌≡◌, inl, inr, ℕ, ◌≤◌, List, length, drop, true, subst, arith}
-use Rattle.std.specs.Prelude.{nat_le}
-use Rattle.std.proofs.lemmas.List.{length-drop}
-use Rattle.values.specs.Names.{department_of, is_key_id, is_key_id_end, has_size, is_name, is_name_byte}
-use Rattle.office.specs.declared.opening.Opening.{Opening}
-use Rattle.store.specs.Former.{first_ca_row, former_contents}
-use Rattle.store.specs.Migrating.{RefusesFirstCa}
-use Rattle.store_sql.specs.declared.cas.CaRow.{CaRow}
-use Rattle.store_sql.specs.Cells.{ca_cells, key_id_cells, office_cells}
-use Rattle.office.specs.Openings.{IsOpening}
-use Rattle.store.specs.Creating.{RefusesOpening}
-use Rattle.store.specs.Meaning.{IsHistory}
+use Rattle.store.proofs.Words.{Arrival, CaRow, Counters, IsHistory, IsLawful, IsOpening, IsTooLong, Kept, List}
+use Rattle.store.proofs.Words.{OfficeRow, Opening, RefusesFirstCa, RefusesOpening, State, and_parts, arith, ca_cells}
+use Rattle.store.proofs.Words.{contents_of, drop, first_ca_row, former_contents, inl, inr, is_name, key_blob}
+use Rattle.store.proofs.Words.{key_id_cells, leb-true, length, length-drop, length-key_blob, list_all, nat_le}
+use Rattle.store.proofs.Words.{office_cells, office_row, state_at, subst, true, ℕ, ◌≡◌, ◌≤◌}
+use Rattle.values.specs.Names.{department_of, is_key_id, is_key_id_end, has_size, is_name_byte}
 use Rattle.store.proofs.Lawful.{lawful_after}
-use Rattle.std.specs.List.{list_all}
-use Rattle.std.proofs.lemmas.Bool.{and_parts, leb-true}
-use Rattle.lines.specs.Keys.{key_blob}
-use Rattle.lines.proofs.Blobs.{length-key_blob}
-use Rattle.office.specs.declared.arrival.Arrival.{Arrival}
-use Rattle.office.specs.declared.arrival.Kept.{Kept}
-use Rattle.office.specs.State.{State}
-use Rattle.store_sql.specs.declared.offices.Counters.{Counters}
-use Rattle.store_sql.specs.declared.offices.OfficeRow.{OfficeRow}
 use Rattle.store_sql.specs.Changes.{counted, renumbered}
-use Rattle.store_sql.specs.Refusals.{IsTooLong, RefusesCounters}
-use Rattle.store.specs.Lawful.{IsLawful}
-use Rattle.store.specs.Rows.{contents_of, office_row}
-use Rattle.store.specs.Arriving.{state_at}
+use Rattle.store_sql.specs.Refusals.{RefusesCounters}
 use Rattle.cert.proofs.Sizes.{key_id_end-le}
 
 -- ---- the office

@@ -1,22 +1,10 @@
 -- Reading calls, one after the other.
-use Rattle.std.proofs.Common.{◌≡◌, inl, List, Ok, Err, Result, IsTrue, refl, sym, subst, arith}
-use Rattle.std.specs.Prelude.{IsErrAnd}
-use Rattle.std.proofs.lemmas.Result.{err_from_is_err_and}
-use Rattle.sqlite.specs.Effect.{Database}
-use Rattle.sqlite.specs.Tree.{Trees}
-use Rattle.sqlite.specs.State.{State as Connection, HasCleanDisk, Survives, IsUnchanged}
-use Rattle.store_sql.specs.Contents.{Means}
-use Rattle.store_sql.specs.declared.table_fault.Fault.{Fault}
-use Rattle.store_sql.specs.Calls.{Never}
-use Rattle.sqlite.proofs.Callers.{unchanged_then}
+use Rattle.store.proofs.Words.{Asking, Database, Err, Fault, HasCleanDisk, IsErrAnd, IsLawful, IsTrue, IsUnchanged}
+use Rattle.store.proofs.Words.{Kept, List, Means, Never, Ok, Result, ShowsFromRows, State, Survives, Trees, arith}
+use Rattle.store.proofs.Words.{cause_then, contents_of, err_from_is_err_and, inl, never_then, reads_then, refl}
+use Rattle.store.proofs.Words.{stops_then, subst, sym, unchanged_then, ◌≡◌}
+use Rattle.sqlite.specs.State.{State as Connection}
 use Rattle.sqlite.proofs.StateLemmas.{unchanged}
-use Rattle.store_sql.proofs.Later.{cause_then, stops_then}
-use Rattle.store_sql.proofs.Staying.{never_then, reads_then}
-use Rattle.office.specs.declared.arrival.Kept.{Kept}
-use Rattle.office.specs.State.{State}
-use Rattle.store.specs.Lawful.{IsLawful}
-use Rattle.store.specs.Rows.{contents_of}
-use Rattle.store.specs.ShowingRows.{Asking, ShowsFromRows}
 
 -- a weaker claim about the answer
 pub shows_weaker : {X : Type 0} (P Q : State → List Kept → X → Type 0) (old new : Connection) (r : Result X Fault)

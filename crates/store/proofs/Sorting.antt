@@ -1,28 +1,14 @@
 -- Rows found in order are those of the state, and so are their values.
-use Rattle.std.proofs.Common.{◌≡◌, ℕ, inl, List, Option, Some, None, Ok, Err, Result, refl, sym, ap, subst, ◌∙◌}
-use Rattle.std.proofs.Common.{Ordering, Less, IsPermutation}
-use Rattle.std.specs.Prelude.{Vec, IsErrAnd, IsSortedByKey}
-use Rattle.std.specs.declared.alloc.Global.{Global}
+use Rattle.store.proofs.Words.{Asking, Contents, Damaged, Device, Err, Fault, Global, HasCause, HasCleanDisk}
+use Rattle.store.proofs.Words.{IsAscending, IsErrAnd, IsLawful, IsPermutation, IsRead, IsSortedByKey, IsUnchanged, Kept}
+use Rattle.store.proofs.Words.{Less, List, Means, Never, NoMemory, None, Ok, OnlyReads, Option, Ordering, Result}
+use Rattle.store.proofs.Words.{ShowsFromRows, Some, State, Survives, Vec, ap, contents_of, each, err_from_is_err_and}
+use Rattle.store.proofs.Words.{inl, nat_cmp, nat_list_cmp_total, on_total, refl, same_Some, slice_cmp, sorted_unique}
+use Rattle.store.proofs.Words.{subst, sym, ℕ, ◌∙◌, ◌≡◌}
 use Rattle.std.specs.Cmp.{IsTotalOrder}
-use Rattle.std.specs.Cmp.Lexicographic.{slice_cmp}
-use Rattle.std.specs.Ordering.{nat_cmp}
-use Rattle.std.proofs.lemmas.Cmp.{nat_list_cmp_total, on_total}
-use Rattle.std.proofs.lemmas.Option.{same_Some}
-use Rattle.std.proofs.lemmas.Result.{err_from_is_err_and}
-use Rattle.sqlite_keyed.proofs.SortLemmas.{sorted_unique}
-use Rattle.sqlite.specs.Tree.{IsAscending}
-use Rattle.sqlite.specs.State.{State as Connection, HasCleanDisk, IsUnchanged, Survives}
-use Rattle.store_sql.specs.Contents.{Contents, Means}
-use Rattle.store_sql.specs.Calls.{FailsBy, Finds, Never, Rises, OnlyReads}
-use Rattle.store_sql.specs.Faults.{HasCause}
-use Rattle.store_sql.specs.declared.table_fault.Fault.{Fault}
-use Rattle.store_sql.specs.declared.table_fault.Fault.TheVariants.{Damaged, Device, NoMemory}
-use Rattle.office.specs.declared.arrival.Kept.{Kept}
-use Rattle.office.specs.State.{State}
-use Rattle.store.specs.Lawful.{IsLawful}
-use Rattle.store.specs.Reading.{IsRead, each, vec_of}
-use Rattle.store.specs.Rows.{contents_of}
-use Rattle.store.specs.ShowingRows.{Asking, ShowsFromRows}
+use Rattle.sqlite.specs.State.{State as Connection}
+use Rattle.store_sql.specs.Calls.{FailsBy, Finds, Rises}
+use Rattle.store.specs.Reading.{vec_of}
 
 -- computing a value from an answer changes nothing either
 pub asked : {X : Type 0} (old new : Connection) → IsUnchanged old new → (r : Result X Fault) → OnlyReads old new r

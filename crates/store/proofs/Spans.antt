@@ -1,14 +1,9 @@
 -- The runs (maximal ranges) that touch or overlap an interval are merged with it.
-use Rattle.std.proofs.Common.{◌≡◌, ℕ, ◌+◌, ◌-◌, ◌<◌, ◌≤◌, List, [], ◌∷◌, Bool, true}
-use Rattle.std.proofs.Common.{false, ◌&&◌, refl, ap, arith, inl, inr, IsPermutation}
-use Rattle.std.specs.Prelude.{nat_le, not, min, max, filter}
-use Rattle.std.proofs.lemmas.Bool.{cases_lt, le-ltb, lt-ltb}
-use Rattle.std.proofs.lemmas.Bool.Decides.{nat_tests}
-use Rattle.std.proofs.lemmas.List.Sorted.{IsPermutation-refl, IsPermutation-cons}
-use Rattle.std.proofs.lemmas.List.Sorted.{IsPermutation-trans, IsPermutation-middle}
-use Rattle.krl.specs.declared.run.Run.{Run}
-use Rattle.krl.specs.Sets.{AreRunsFrom}
-use Rattle.krl.proofs.Joining.{joined}
+use Rattle.store.proofs.Words.{AreRunsFrom, Bool, IsPermutation, IsPermutation-refl, IsPermutation-trans, List, Run, []}
+use Rattle.store.proofs.Words.{ap, arith, cases_lt, false, filter, inl, inr, joined, le-ltb, lt-ltb, max, min, nat_le}
+use Rattle.store.proofs.Words.{nat_tests, not, refl, true, ℕ, ◌&&◌, ◌+◌, ◌-◌, ◌<◌, ◌∷◌, ◌≡◌, ◌≤◌}
+use Rattle.std.proofs.lemmas.List.Sorted.{IsPermutation-cons}
+use Rattle.std.proofs.lemmas.List.Sorted.{IsPermutation-middle}
 
 -- the run overlaps or touches the interval
 abbrev pub is_near : ℕ → ℕ → Run → Bool

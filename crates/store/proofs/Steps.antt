@@ -1,16 +1,14 @@
 -- Parts of one transaction, one after the other.
-use Rattle.std.proofs.Common.{◌≡◌, true, IsTrue, refl, sym, subst, ◌∙◌, arith}
-use Rattle.std.specs.Prelude.{Result, Ok, Err}
-use Rattle.sqlite.specs.Tree.{Trees}
-use Rattle.sqlite.specs.Effect.{Database}
-use Rattle.sqlite.specs.State.{State, HasCleanDisk, Survives, KeepsCommit, IsUnchanged, Shows}
-use Rattle.sqlite.proofs.StateLemmas.{survives_then, survives_weaker}
-use Rattle.store_sql.specs.Contents.{Contents, Kept, Means}
-use Rattle.store_sql.specs.Calls.{Steps, Changes, MayLeave, Begins}
-use Rattle.store_sql.specs.declared.table_fault.Fault.{Fault}
-use Rattle.store_sql.proofs.Later.{inside_is, stops}
-use Rattle.store.specs.Transactions.{Has, Goes, Answers, Makes, Waits, HasEnded, Concludes, LeavesAnswered, Ends}
-use Rattle.store.specs.Transactions.{Leaves as AfterAll, LeavesDue}
+use Rattle.store.proofs.Words.{Answers, Begins, Concludes, Contents, Database, Ends, Err, Fault, Goes, Has}
+use Rattle.store.proofs.Words.{HasCleanDisk, HasEnded, IsTrue, IsUnchanged, LeavesDue, Makes, Means, Ok, Result, Steps}
+use Rattle.store.proofs.Words.{Survives, Trees, Waits, arith, refl, stops, subst, survives_weaker, sym, true, ◌∙◌, ◌≡◌}
+use Rattle.sqlite.specs.State.{State, KeepsCommit, Shows}
+use Rattle.sqlite.proofs.StateLemmas.{survives_then}
+use Rattle.store_sql.specs.Contents.{Kept}
+use Rattle.store_sql.specs.Calls.{Changes, MayLeave}
+use Rattle.store_sql.proofs.Later.{inside_is}
+use Rattle.store.specs.Transactions.{LeavesAnswered}
+use Rattle.store.specs.Transactions.{Leaves as AfterAll}
 
 -- ---- one part
 

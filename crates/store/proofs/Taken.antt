@@ -1,21 +1,12 @@
 -- The histories that tables represent after a received request.
-use Rattle.std.proofs.Common.{◌≡◌, inl, inr, List, [], ◌∷◌, ◌++◌, Ok, Err, Result, IsTrue, sym}
-use Rattle.std.proofs.Common.{subst, ◌∙◌, arith}
-use Rattle.std.specs.Prelude.{IfErr, IfOk, OnErr, OnOk}
-use Rattle.sqlite.specs.Tree.{Trees}
-use Rattle.sqlite.specs.State.{State as Connection, HasCleanDisk, Survives}
-use Rattle.store_sql.specs.declared.table_fault.Fault.{Fault}
-use Rattle.store_sql.specs.declared.table_fault.Fault.TheVariants.{Damaged, Device, NoMemory}
-use Rattle.office.specs.declared.opening.Opening.{Opening}
-use Rattle.office.specs.declared.arrival.Arrival.{Arrival}
-use Rattle.office.specs.declared.arrival.Outcome.{Outcome}
-use Rattle.office.specs.declared.store_fault.StoreFault.{StoreFault}
-use Rattle.office.specs.Faults.{HasRegisterCause, IsOfARegister}
-use Rattle.office.specs.History.{due}
-use Rattle.store.specs.Transactions.{Ends, IsAsBefore, KeepsOnErr, LeavesDue, Rests}
-use Rattle.store.specs.Faults.{store_fault_of, told}
-use Rattle.store.specs.Meaning.{Tells}
-use Rattle.store.specs.Arriving.{IsAfter, IsDueAnswer, IsAny, IsCaused, IsStopped, contents_with}
+use Rattle.store.proofs.Words.{Arrival, Damaged, Device, Ends, Err, Fault, HasCleanDisk, HasRegisterCause, IfErr, IfOk}
+use Rattle.store.proofs.Words.{IsAfter, IsAny, IsAsBefore, IsDueAnswer, IsOfARegister, IsTrue, LeavesDue, List}
+use Rattle.store.proofs.Words.{NoMemory, Ok, OnErr, OnOk, Opening, Outcome, Rests, Result, StoreFault, Survives, Tells}
+use Rattle.store.proofs.Words.{Trees, [], arith, contents_with, due, inl, inr, store_fault_of, subst, sym, told, ◌++◌}
+use Rattle.store.proofs.Words.{◌∙◌, ◌∷◌, ◌≡◌}
+use Rattle.sqlite.specs.State.{State as Connection}
+use Rattle.store.specs.Transactions.{KeepsOnErr}
+use Rattle.store.specs.Arriving.{IsCaused, IsStopped}
 use Rattle.store.proofs.Telling.{disk_failed, left_committed}
 
 -- the contract of a call that processes a received request

@@ -1,16 +1,10 @@
 -- The histories that tables represent after a call.
-use Rattle.std.proofs.Common.{◌≡◌, inl, inr, ℕ, true, false, IsTrue, Option, None, sym, ap, subst, ◌∙◌}
-use Rattle.std.specs.Prelude.{List, is_some}
-use Rattle.sqlite.specs.Tree.{Trees}
-use Rattle.sqlite.specs.State.{State, HasCleanDisk, Survives}
-use Rattle.store_sql.specs.Contents.{Contents, Kept}
-use Rattle.store_sql.specs.Calls.{Fails, Never}
-use Rattle.store_sql.specs.Faults.{HasFailed}
-use Rattle.office.specs.declared.opening.Opening.{Opening}
-use Rattle.office.specs.declared.arrival.Arrival.{Arrival}
-use Rattle.store.specs.Transactions.{Has, Rests}
-use Rattle.store.specs.Rows.{office_contents}
-use Rattle.store.specs.Meaning.{DiskFailed, IsLeft, KeepsTelling, Tells}
+use Rattle.store.proofs.Words.{Arrival, Contents, DiskFailed, Fails, Has, HasCleanDisk, HasFailed, IsTrue, List, Never}
+use Rattle.store.proofs.Words.{None, Opening, Option, Rests, Survives, Tells, Trees, ap, false, inl, inr, is_some}
+use Rattle.store.proofs.Words.{office_contents, subst, sym, true, ℕ, ◌∙◌, ◌≡◌}
+use Rattle.sqlite.specs.State.{State}
+use Rattle.store_sql.specs.Contents.{Kept}
+use Rattle.store.specs.Meaning.{IsLeft, KeepsTelling}
 
 -- if no query has a limit on its steps, only a disk fails
 pub disk_failed : (old new : State) → old.step_limit ≡ None → HasFailed old new → DiskFailed old new

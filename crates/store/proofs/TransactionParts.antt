@@ -1,15 +1,11 @@
 -- Parts of a transaction, one after the other.
-use Rattle.std.proofs.Common.{◌≡◌, Ok, Err, Result, IsTrue, subst, refl, arith}
-use Rattle.sqlite.specs.State.{State, HasCleanDisk, Survives}
-use Rattle.sqlite.proofs.StateLemmas.{survives_weaker}
-use Rattle.store_sql.specs.Calls.{Never, Stays}
-use Rattle.store_sql.specs.Contents.{Contents, Means}
+use Rattle.store.proofs.Words.{Contents, Err, FailsFor, Fault, Goes, Has, HasCleanDisk, IsTrue, Makes, Means, Never, Ok}
+use Rattle.store.proofs.Words.{Result, Stays, Survives, Waits, arith, reads_stay, refl, stays_then, stops, subst}
+use Rattle.store.proofs.Words.{survives_weaker, ◌≡◌}
+use Rattle.sqlite.specs.State.{State}
 use Rattle.store_sql.specs.Refusals.{RefusedFor}
 use Rattle.store_sql.specs.Statements.{Found, Wrote}
-use Rattle.store_sql.specs.declared.table_fault.Fault.{Fault}
-use Rattle.store_sql.proofs.Later.{stops}
-use Rattle.store_sql.proofs.Staying.{reads_stay, stays_then}
-use Rattle.store.specs.Transactions.{FailsFor, Goes, Has, Makes, DoesPart, Waits}
+use Rattle.store.specs.Transactions.{DoesPart}
 use Rattle.store.proofs.Causes.{cause_of, fails_then, fails_weaker}
 use Rattle.store.proofs.Steps.{Leads, goes_still, goes_then, leads, makes, stops_then, waits, waits_then}
 

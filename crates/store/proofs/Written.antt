@@ -1,36 +1,17 @@
 -- The rows that are written are those of the state after the decision.
-use Rattle.std.proofs.Common.{◌≡◌, ℕ, suc, ◌+◌, ◌<◌, ◌^◌, List, [], ◌∷◌, ◌++◌, length, map, Bool}
-use Rattle.std.proofs.Common.{true, false, cond, refl, sym, ap, ap₂, subst, ◌∙◌, arith, IsPermutation}
-use Rattle.std.specs.Prelude.{◌-◌}
-use Rattle.std.specs.List.{list_any}
-use Rattle.std.proofs.lemmas.List.Sorted.{IsPermutation-refl}
+use Rattle.store.proofs.Words.{Arrival, Bool, Ca, Change, Contents, Counters, Database, Decision, HasRoom, IsDue}
+use Rattle.store.proofs.Words.{IsLawful, IsLawfulChange, IsPermutation, IsPermutation-refl, Kept, List, OfficeRow}
+use Rattle.store.proofs.Words.{Opening, RequestRow, State, [], ap, ap₂, arith, ca_row, cert_row, changed, cond}
+use Rattle.store.proofs.Words.{contents_after, contents_of, counters_of, false, is_same_key_id, kept_of, key_blob}
+use Rattle.store.proofs.Words.{length, length-signed_at, list_any, map, next_serial, office_row, refl, request_row}
+use Rattle.store.proofs.Words.{run_row, runs_in, serial_of_one, subst, suc, sym, true, with_change, with_counters}
+use Rattle.store.proofs.Words.{with_request, with_revoked, written, ℕ, ◌++◌, ◌+◌, ◌-◌, ◌<◌, ◌^◌, ◌∙◌, ◌∷◌, ◌≡◌}
 use Rattle.sqlite_trees.proofs.ListLemmas.{IsPermutation-same}
-use Rattle.sqlite.specs.Effect.{Database}
 use Rattle.sqlite.specs.State.{State as Connection}
-use Rattle.lines.specs.Keys.{key_blob}
-use Rattle.office.specs.declared.arrival.Arrival.{Arrival}
-use Rattle.office.specs.declared.arrival.Kept.{Kept}
-use Rattle.office.specs.declared.ca.Ca.{Ca}
-use Rattle.office.specs.declared.opening.Opening.{Opening}
-use Rattle.office.specs.declared.view.Change.{Change}
 use Rattle.office.specs.declared.view.Change.TheVariants as change
-use Rattle.office.specs.declared.view.Decision.{Decision}
-use Rattle.office.specs.State.{State, next_serial}
-use Rattle.office.specs.Decided.{HasRoom, IsLawfulChange, changed, written}
-use Rattle.krl.specs.Sets.{runs_in}
 use Rattle.office.specs.Machine as machine
-use Rattle.store_sql.specs.declared.offices.Counters.{Counters}
-use Rattle.store_sql.specs.declared.offices.OfficeRow.{OfficeRow}
-use Rattle.store_sql.specs.declared.requests.RequestRow.{RequestRow}
-use Rattle.store_sql.specs.Contents.{Contents}
-use Rattle.store_sql.specs.Changes.{is_same_key_id, with_counters, with_request, with_revoked}
-use Rattle.store.specs.Lawful.{IsLawful}
-use Rattle.store.specs.Rows.{ca_row, cert_row, contents_of, office_row, request_row, run_row}
 use Rattle.store.proofs.Same.{IsSame}
-use Rattle.store.specs.Changing.{with_change, with_key_id_row}
-use Rattle.store.specs.Due.{IsDue, contents_after, counters_of, kept_of}
-use Rattle.office.proofs.Decisions.{serial_of_one}
-use Rattle.office.proofs.Growth.{length-signed_at}
+use Rattle.store.specs.Changing.{with_key_id_row}
 use Rattle.store.proofs.Joined.{rows_joined, runs_still}
 use Rattle.store.proofs.PutInPlace.{put_named}
 use Rattle.store.proofs.Once.{absent, present}

@@ -1,11 +1,7 @@
 -- A part of the writes, for contents of which more is known.
-use Rattle.std.proofs.Common.{Result, Ok, Err}
-use Rattle.sqlite.specs.Effect.{Database}
-use Rattle.sqlite.specs.State.{State, Survives}
-use Rattle.sqlite.proofs.StateLemmas.{survives_weaker}
-use Rattle.store_sql.specs.Contents.{Contents, Means}
-use Rattle.store_sql.specs.declared.table_fault.Fault.{Fault}
-use Rattle.store.specs.Transactions.{Goes, Has, Makes, Waits}
+use Rattle.store.proofs.Words.{Contents, Database, Err, Fault, Goes, Has, Makes, Means, Ok, Result, Survives, Waits}
+use Rattle.store.proofs.Words.{survives_weaker}
+use Rattle.sqlite.specs.State.{State}
 use Rattle.store.proofs.Same.{IsSame, means_same}
 use Rattle.store.proofs.Steps.{Leads}
 

@@ -1,17 +1,13 @@
 -- The answer to each kind of ask.
-use Rattle.std.proofs.Common.{◌≡◌, ℕ, List, [], ◌∷◌, ◌++◌, ap, subst, ◌∙◌}
-use Rattle.std.specs.Prelude.{Result, Ok, Err, IfOk, OnOk, Vec}
-use Rattle.std.specs.declared.alloc.Global.{Global}
+use Rattle.web.proofs.Words.{Arrival, Asks, Err, Global, IfOk, IsAnswered, IsOffice, List, Ok, Opening, Result, Vec, []}
+use Rattle.web.proofs.Words.{ap, arrival_by, due, state, subst, ℕ, ◌++◌, ◌∙◌, ◌∷◌, ◌≡◌}
+use Rattle.std.specs.Prelude.{OnOk}
 use Rattle.values.specs.declared.refusal.Refusal.{Refusal}
 use Rattle.http_requests.specs.declared.resource.Resource.{Resource}
 use Rattle.http_requests.specs.declared.resource.Resource.TheVariants.{RevocationList}
-use Rattle.http_requests.specs.Asks.{Asks, refused, get, post}
+use Rattle.http_requests.specs.Asks.{refused, get, post}
 use Rattle.http_requests.specs.Responses.{refusal_response}
-use Rattle.office.specs.declared.opening.Opening.{Opening}
-use Rattle.office.specs.declared.arrival.Arrival.{Arrival}
-use Rattle.office.specs.History.{due, state}
-use Rattle.office.specs.Shows.{IsOffice}
-use Rattle.web.specs.Answers.{IsAnswered, ListFits, arrival_by, outcome_response, resource_response}
+use Rattle.web.specs.Answers.{ListFits, outcome_response, resource_response}
 
 -- a refusal is answered without the register
 pub of_refusal : {E : Type 0} (r : Result (Vec ℕ Global) E) (refusal : Refusal) (means keeps : Opening → List Arrival → Type 0)

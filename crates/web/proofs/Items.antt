@@ -1,6 +1,5 @@
 -- A text that grows item by item.
-use Rattle.std.proofs.Common.{◌≡◌, ℕ, ◌+◌, ◌<◌, List, [], ◌∷◌, ◌++◌, length, get_or, take, sym, ap, ◌∙◌}
-use Rattle.std.specs.List.{flat_map}
+use Rattle.web.proofs.Words.{List, [], ap, flat_map, get_or, length, sym, take, ℕ, ◌++◌, ◌+◌, ◌<◌, ◌∙◌, ◌∷◌, ◌≡◌}
 use Rattle.std.proofs.lemmas.List.{flat_map_more, take_more}
 
 -- one more item, for a list of items that can be copied

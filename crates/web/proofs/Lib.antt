@@ -1,3 +1,4 @@
+pub mod Words
 pub mod Underway
 pub mod Replies
 pub mod Lists

@@ -1,20 +1,16 @@
 -- No office has more CAs than the limit, and no published list has more parts.
-use Rattle.std.proofs.Common.{◌≡◌, ℕ, suc, ◌<◌, ◌≤◌, List, [], ◌∷◌, ◌++◌, length, Bool, true, false, cond, Option, Some, None, inl, inr, refl, sym, ap, ◌∙◌, subst, arith, lit≤, length-append}
-use Rattle.std.specs.Prelude.{Result, Ok, Err, IfErr}
+use Rattle.web.proofs.Words.{Arrival, Bool, Certificate, Err, HasRegisterCause, IfErr, IsOfARegister, List, None, Ok}
+use Rattle.web.proofs.Words.{Opening, Option, Result, Some, State, StoreFault, [], ap, arith, inl, inr, length}
+use Rattle.web.proofs.Words.{length-append, refl, state, subst, suc, sym, ℕ, ◌++◌, ◌<◌, ◌∙◌, ◌∷◌, ◌≡◌, ◌≤◌}
+use Rattle.std.proofs.Common.{true, false, cond, lit≤}
 use Rattle.std.proofs.lemmas.Bool.{leb-false}
 use Rattle.message.specs.declared.kinds.Message.TheVariants as message
 use Rattle.krl.specs.declared.ca_part.CaPart.{CaPart}
-use Rattle.office.specs.declared.opening.Opening.{Opening}
-use Rattle.office.specs.declared.arrival.Arrival.{Arrival}
 use Rattle.office.specs.declared.ca.Ca.{Ca}
-use Rattle.office.specs.declared.store_fault.StoreFault.{StoreFault}
 use Rattle.office.specs.declared.publication.Revoked.{Revoked}
-use Rattle.office.specs.Faults.{HasRegisterCause, IsOfARegister}
-use Rattle.office.specs.declared.certificate.Certificate.{Certificate}
-use Rattle.office.specs.State.{State, has_any, is_range_revoked, is_key_id_revoked}
+use Rattle.office.specs.State.{has_any, is_range_revoked, is_key_id_revoked}
 use Rattle.office.specs.Refusals.{refusals}
 use Rattle.office.specs.Machine.{renewed, republished, with_ca, with_one_more, ca_from_now}
-use Rattle.office.specs.History.{state}
 use Rattle.office.specs.Publication.{AreRevoked, parts_from}
 use Rattle.web.specs.Causes.{IsOfAList}
 use Rattle.office.proofs.Judged.{none_holds}

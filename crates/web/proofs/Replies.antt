@@ -1,12 +1,7 @@
 -- No specified reply is too long for the reserved room.
-use Rattle.std.proofs.Common.{◌≡◌, subst, sym}
-use Rattle.std.specs.Prelude.{List, Result, Ok, Err, IfErr}
-use Rattle.office.specs.declared.opening.Opening.{Opening}
-use Rattle.office.specs.declared.arrival.Arrival.{Arrival}
+use Rattle.web.proofs.Words.{Arrival, Err, IfErr, IsOffice, List, Ok, Opening, Result, due, subst, sym, ◌≡◌}
 use Rattle.office.specs.declared.arrival.Outcome.{Outcome}
-use Rattle.office.specs.History.{due}
 use Rattle.office.specs.Laws.{ReplyFits}
-use Rattle.office.specs.Shows.{IsOffice}
 use Rattle.office.proofs.Sizes.{due_short}
 
 pub reply_fits : (o : Opening) (l : List Arrival) (a : Arrival) (outcome : Outcome) → IsOffice o l → outcome ≡ due o l a

@@ -1,24 +1,19 @@
 -- A report that is written batch by batch covers all certificates.
-use Rattle.std.proofs.Common.{◌≡◌, ℕ, ◌+◌, ◌≤◌, List, [], ◌∷◌, ◌++◌, length, map, take, drop, Bool, refl, sym, ap, ap₂, ◌∙◌, arith, append_assoc}
-use Rattle.std.specs.List.{flat_map}
-use Rattle.std.specs.Prelude.{Result, Ok, Err, Vec, IfOk}
-use Rattle.std.specs.declared.alloc.Global.{Global}
+use Rattle.web.proofs.Words.{Arrival, Bool, Certificate, Err, Global, IfOk, List, Ok, Opening, Result, State, Vec, []}
+use Rattle.web.proofs.Words.{ap, append_assoc, arith, drop, flat_map, length, line_among, line_as, map, refl, state}
+use Rattle.web.proofs.Words.{sym, table_report, take, ℕ, ◌++◌, ◌+◌, ◌∙◌, ◌∷◌, ◌≡◌, ◌≤◌}
+use Rattle.std.proofs.Common.{ap₂}
 use Rattle.std.proofs.lemmas.List.{length-drop, length-map, length-take, take_all}
 use Rattle.std.proofs.lemmas.List.Concat.{flat_map-append}
-use Rattle.office.specs.declared.certificate.Certificate.{Certificate}
 use Rattle.office.specs.declared.listing.Revocations.{Revocations}
-use Rattle.office.specs.declared.opening.Opening.{Opening}
-use Rattle.office.specs.declared.arrival.Arrival.{Arrival}
-use Rattle.office.specs.State.{State}
-use Rattle.office.specs.History.{state}
 use Rattle.office.specs.Listing.{AreRevocations, batch_of}
 use Rattle.office.specs.Publication.{entry_of}
 use Rattle.office.proofs.Listed.{among_is}
 use Rattle.office.proofs.Waiting.{split}
-use Rattle.web.specs.Batches.{Says, line_among, line_as, table_among}
+use Rattle.web.specs.Batches.{Says, table_among}
 use Rattle.http_requests.specs.declared.response.MediaType.TheVariants.{PlainText}
 use Rattle.http_requests.specs.Responses.{response_text}
-use Rattle.web.specs.Reports.{entry_line, table_report, total_line}
+use Rattle.web.specs.Reports.{entry_line, total_line}
 
 -- ---- batches
 

@@ -1,17 +1,9 @@
 -- The data that a register returns, and faults for lack of memory.
-use Rattle.std.proofs.Common.{◌≡◌, ℕ, List, ap, sym, subst, ◌∙◌}
-use Rattle.std.specs.Prelude.{Result, Ok, Err, Vec, IfOk, IfErr}
-use Rattle.std.specs.declared.alloc.Global.{Global}
-use Rattle.http_requests.specs.Asks.{Ask, Asks}
-use Rattle.http_requests.proofs.OneAsk.{one_of}
-use Rattle.office.specs.declared.opening.Opening.{Opening}
-use Rattle.office.specs.declared.arrival.Arrival.{Arrival}
-use Rattle.office.specs.declared.store_fault.StoreFault.{StoreFault}
-use Rattle.office.specs.declared.store_fault.StoreFault.TheVariants.{AlreadyAnOffice, NotAnOffice, WrongSchema, Damaged}
-use Rattle.office.specs.declared.store_fault.StoreFault.TheVariants.{Device, NoMemory}
-use Rattle.office.specs.Faults.{HasRegisterCause, IsOfARegister}
+use Rattle.web.proofs.Words.{AlreadyAnOffice, Arrival, Ask, Asks, AsksNoChange, Damaged, Device, Err, Global}
+use Rattle.web.proofs.Words.{HasRegisterCause, IfErr, IfOk, IsOfARegister, List, NoMemory, NotAnOffice, Ok, Opening}
+use Rattle.web.proofs.Words.{Result, StoreFault, Vec, WrongSchema, ap, one_of, subst, sym, ℕ, ◌∙◌, ◌≡◌}
 use Rattle.office.specs.Registers.{FailsWithin}
-use Rattle.web.specs.Answers.{AsksNoChange, IsNoMessage}
+use Rattle.web.specs.Answers.{IsNoMessage}
 
 -- a response with the data found is one with the data of each history
 pub shows : {X E : Type 0} (r : Result (Vec ℕ Global) E) (text : X → List ℕ) (found : X) (shown : Opening → List Arrival → X)

@@ -1,9 +1,7 @@
 -- When a fault of the register is reported as `Store`.
-use Rattle.std.proofs.Common.{◌≡◌, sym, ◌∙◌}
-use Rattle.std.specs.Prelude.{Result, Ok, Err, IsErrAnd}
-use Rattle.office.specs.declared.store_fault.StoreFault.{StoreFault}
-use Rattle.office.specs.declared.store_fault.StoreFault.TheVariants.{AlreadyAnOffice, NotAnOffice, WrongSchema, Damaged, Device, NoMemory}
-use Rattle.office.specs.Faults.{HasRegisterCause, IsOfARegister}
+use Rattle.web.proofs.Words.{AlreadyAnOffice, Damaged, Device, Err, HasRegisterCause, IsOfARegister, NoMemory}
+use Rattle.web.proofs.Words.{NotAnOffice, Ok, Result, StoreFault, WrongSchema, sym, ◌∙◌, ◌≡◌}
+use Rattle.std.specs.Prelude.{IsErrAnd}
 use Rattle.web.specs.declared.serve_fault.ServeFault.{ServeFault}
 use Rattle.web.specs.declared.serve_fault.ServeFault.TheVariants.{Store}
 use Rattle.web.specs.Faults.{serving_fault}

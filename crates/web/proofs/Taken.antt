@@ -1,19 +1,16 @@
 -- Bytes that are taken one after another.
-use Rattle.std.proofs.Common.{◌≡◌, ℕ, ◌≤◌, List, ◌∷◌, [], ◌++◌, length, take, ap, refl, sym, ◌∙◌, arith, subst, Option}
-use Rattle.std.proofs.Common.{get_or, inl, inr}
-use Rattle.std.specs.Prelude.{Result, Ok, Err, IfOk}
-use Rattle.std.specs.Io.KnownBytes.{Consumes}
+use Rattle.web.proofs.Words.{Ask, Consumes, Err, IfOk, List, Ok, Option, Plans, Refused, Result, [], ap, arith, get_or}
+use Rattle.web.proofs.Words.{inl, inr, length, refl, request_ask, subst, sym, take, ℕ, ◌++◌, ◌∙◌, ◌∷◌, ◌≡◌, ◌≤◌}
 use Rattle.std.proofs.KnownBytes.{Consumes-trans}
 use Rattle.values.specs.declared.refusal.Refusal.TheVariants.{BadHead}
 use Rattle.http_requests.proofs.Reading.{good_with_body, no_more_of_waits}
 use Rattle.http_requests.specs.declared.plan.Plan.{Plan}
-use Rattle.http_requests.specs.declared.plan.Plan.TheVariants.{Refused}
-use Rattle.http_requests.specs.Asks.{Ask, HeadAsks}
+use Rattle.http_requests.specs.Asks.{HeadAsks}
 use Rattle.http_requests.specs.BodySizes.{WantsBody}
 use Rattle.http_requests.specs.Heads.{IsGood}
-use Rattle.http_requests.specs.Plans.{Plans, plan_ask, plan_size}
+use Rattle.http_requests.specs.Plans.{plan_ask, plan_size}
 use Rattle.web.specs.declared.request.Request.{Request}
-use Rattle.web.specs.Requests.{IsFront, IsTaken, TakesBody, request_ask}
+use Rattle.web.specs.Requests.{IsFront, IsTaken, TakesBody}
 
 -- one byte that was read
 one_byte : (buf : List ℕ) (n : ℕ) → length buf ≡ 1 → n ≤ 1 → (n ≡ 0 → ⊥) → take n buf ≡ get_or buf 0 0 ∷ []

@@ -1,14 +1,10 @@
 -- A batch of exchanges over a register, some of which are done.
-use Rattle.std.proofs.Common.{◌≡◌, ◌⊎◌, inl, inr, ℕ, List, [], ◌∷◌, ◌++◌, refl, sym, subst, append_assoc}
+use Rattle.web.proofs.Words.{Answer, Arrival, Ask, Exchange, Given, IsAnswered, List, Opening, [], append_assoc, inl}
+use Rattle.web.proofs.Words.{inr, one_of, refl, subst, sym, ℕ, ◌++◌, ◌∷◌, ◌≡◌}
+use Rattle.std.proofs.Common.{◌⊎◌}
 use Rattle.std.proofs.lemmas.List.{append-nil}
-use Rattle.http_requests.proofs.OneAsk.{one_of}
-use Rattle.http_requests.specs.Asks.{Ask}
-use Rattle.office.specs.declared.opening.Opening.{Opening}
-use Rattle.office.specs.declared.arrival.Arrival.{Arrival}
-use Rattle.web.specs.declared.exchange.Exchange.{Exchange}
-use Rattle.web.specs.declared.exchange.Given.{Given}
-use Rattle.web.specs.declared.exchange.Given.TheVariants.{Answer, Fault}
-use Rattle.web.specs.Answers.{AsksTheRegister, IsAnswered, IsOfTheRegister, with_ask}
+use Rattle.web.specs.declared.exchange.Given.TheVariants.{Fault}
+use Rattle.web.specs.Answers.{AsksTheRegister, IsOfTheRegister, with_ask}
 use Rattle.web.specs.Runs.{AllDue, HasAnswered, Serves}
 
 -- `HasAnswered` is monotone in its first argument

@@ -1,8 +1,6 @@
-use Rattle.std.proofs.Common.{ℕ, List, length, sym, ap, ◌∙◌, subst, arith, codes}
-use Rattle.std.specs.Prelude.{nat_lt}
-use Rattle.std.proofs.lemmas.List.{length-take}
-use Rattle.httparse.proofs.GrammarLemmas.{request_unique}
-use Rattle.http_requests.specs.Heads.{AreLawfulLengths, values, lengths, States}
+use Rattle.http_requests.proofs.Words.{List, ap, arith, codes, length, length-take, lengths, nat_lt, request_unique}
+use Rattle.http_requests.proofs.Words.{subst, sym, ℕ, ◌∙◌}
+use Rattle.http_requests.specs.Heads.{AreLawfulLengths, values, States}
 use Rattle.http_requests.proofs.Heads.{head_of_front, head_in_front, fields_fit}
 use Rattle.http_requests.proofs.head.read_head.Goals as goal
 

@@ -1,5 +1,4 @@
-use Rattle.std.proofs.Common.{◌≡◌, ◌++◌, ◌∙◌, List, [], ℕ, append_assoc, codes, decimal}
-use Rattle.std.proofs.lemmas.List.{append-nil}
+use Rattle.http_requests.proofs.Words.{List, [], append-nil, append_assoc, codes, decimal, ℕ, ◌++◌, ◌∙◌, ◌≡◌}
 use Rattle.http.specs.StatusCode.{code_digits}
 use Rattle.http_requests.specs.Responses.{phrase, media_type_text}
 use Rattle.http_requests.proofs.response.put_head.Goals as goal

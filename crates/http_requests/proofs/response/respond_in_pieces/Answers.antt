@@ -1,5 +1,4 @@
-use Rattle.std.proofs.Common.{◌++◌, ◌∙◌, List, ℕ, Bor, ap, sym, arith}
-use Rattle.std.specs.List.{flat_map}
+use Rattle.http_requests.proofs.Words.{Bor, List, ap, arith, flat_map, sym, ℕ, ◌++◌, ◌∙◌}
 use Rattle.std.proofs.lemmas.List.Concat.{length-flat_map}
 use Rattle.http_requests.specs.Responses.{response_head}
 use Rattle.http_requests.proofs.response.respond_in_pieces.Goals as goal

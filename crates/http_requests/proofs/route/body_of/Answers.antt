@@ -1,7 +1,6 @@
-use Rattle.std.proofs.Common.{◌++◌, ◌∙◌, ap, codes, Some}
+use Rattle.http_requests.proofs.Words.{Decides-eqb, Some, ap, codes, strip_prefix_is, ◌++◌, ◌∙◌}
 use Rattle.std.proofs.lemmas.Option.{IfSome_then}
-use Rattle.std.proofs.lemmas.Slice.Eq.{strip_prefix_is, strip_suffix_is}
-use Rattle.std.proofs.lemmas.Bool.Decides.{Decides-eqb}
+use Rattle.std.proofs.lemmas.Slice.Eq.{strip_suffix_is}
 use Rattle.http_requests.proofs.route.body_of.Goals as goal
 
 pub returns-clause-text : goal.returns-clause-text

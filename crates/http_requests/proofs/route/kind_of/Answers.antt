@@ -1,5 +1,4 @@
-use Rattle.std.proofs.Common.{sym, ap, ◌∙◌, refl}
-use Rattle.matchit.specs.Seek.{first}
+use Rattle.http_requests.proofs.Words.{ap, first, refl, sym, ◌∙◌}
 use Rattle.http_requests.proofs.route.kind_of.Goals as goal
 
 pub returns-in-Ok-clause-some : goal.returns-in-Ok-clause-some

@@ -1,9 +1,5 @@
-use Rattle.std.proofs.Common.{◌≡◌, ap, sym, ◌∙◌, codes, Some, ◌++◌, drop, take, nat_eq}
-use Rattle.std.specs.Cmp.Lexicographic.{pointwise}
-use Rattle.std.proofs.lemmas.Slice.Eq.{strip_prefix_is}
-use Rattle.std.proofs.lemmas.Bool.Decides.{Decides-eqb}
-use Rattle.std.proofs.lemmas.List.{take-append-drop}
-use Rattle.values.specs.Names.{is_name}
+use Rattle.http_requests.proofs.Words.{Decides-eqb, Some, ap, codes, drop, is_name, nat_eq, pointwise, strip_prefix_is}
+use Rattle.http_requests.proofs.Words.{sym, take, take-append-drop, ◌++◌, ◌∙◌, ◌≡◌}
 use Rattle.http_requests.proofs.Cutting.{message_cut}
 use Rattle.http_requests.proofs.route.message_of.Goals as goal
 

@@ -1,7 +1,4 @@
-use Rattle.std.proofs.Common.{ap, sym, ◌∙◌}
-use Rattle.matchit.specs.Seek.{first}
-use Rattle.http_requests.specs.declared.router.RouteKind.TheVariants.{Message, Certificate, Body}
-use Rattle.http_requests.specs.Routing.{routing}
+use Rattle.http_requests.proofs.Words.{Body, Certificate, Message, ap, first, routing, sym, ◌∙◌}
 use Rattle.http_requests.proofs.Finding.{routed, found_of}
 use Rattle.http_requests.proofs.Matching.{fixed_path}
 use Rattle.http_requests.proofs.route.route_of.Goals as goal

@@ -1,6 +1,5 @@
-use Rattle.std.proofs.Common.{◌≡◌, ℕ, true, subst, sym, ◌∙◌, arith, rules}
-use Rattle.std.proofs.lemmas.Fmt.{decimal_injective}
-use Rattle.values.specs.Serials.{is_serial}
+use Rattle.http_requests.proofs.Words.{arith, decimal_injective, is_serial, subst, sym, true, ℕ, ◌∙◌, ◌≡◌}
+use Rattle.std.proofs.Common.{rules}
 use Rattle.values.proofs.SerialLemmas.{serial_bounds}
 use Rattle.http_requests.proofs.route.serial_of.Goals as goal
 

@@ -1,6 +1,4 @@
-use Rattle.std.proofs.Common.{◌≡◌, true, false, sym, ◌∙◌}
-use Rattle.std.specs.Prelude.{slice_get}
-use Rattle.memory_store.specs.Departments.{place_of, is_department_named}
+use Rattle.memory_store.proofs.Words.{false, is_department_named, place_of, slice_get, sym, true, ◌∙◌, ◌≡◌}
 use Rattle.memory_store.proofs.Places.{put_replaced, put_inserted}
 use Rattle.memory_store.proofs.departments.put_department.Goals as goal
 

@@ -1,6 +1,4 @@
-use Rattle.std.proofs.Common.{◌≡◌, true, false, sym, ◌∙◌}
-use Rattle.std.specs.Prelude.{slice_get}
-use Rattle.memory_store.specs.KeyIds.{place_among, is_at}
+use Rattle.memory_store.proofs.Words.{false, is_at, place_among, slice_get, sym, true, ◌∙◌, ◌≡◌}
 use Rattle.memory_store.proofs.KeyIdPlaces.{put_again, put_new}
 use Rattle.memory_store.proofs.key_ids.put_key_id.Goals as goal
 

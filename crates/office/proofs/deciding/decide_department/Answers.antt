@@ -1,7 +1,6 @@
-use Rattle.std.proofs.Common.{refl, sym, ap, ◌∙◌}
+use Rattle.office.proofs.Words.{ap, department_reply, refl, sym, ◌∙◌}
 use Rattle.message.specs.declared.kinds.Message.TheVariants as message
 use Rattle.office.specs.declared.view.Change.TheVariants as change
-use Rattle.office.specs.Replies.{department_reply}
 use Rattle.office.proofs.Decisions.{step_refused, unpublished_decided}
 use Rattle.office.proofs.deciding.decide_department.Goals as goal
 

@@ -1,8 +1,5 @@
-use Rattle.std.proofs.Common.{◌≡◌, Some, refl, sym, ap, ◌∙◌}
-use Rattle.std.specs.Prelude.{option_copied}
+use Rattle.office.proofs.Words.{HasRoom, Some, ap, department_named, issued, option_copied, refl, sym, ◌∙◌, ◌≡◌}
 use Rattle.message.specs.declared.kinds.Message.TheVariants as message
-use Rattle.office.specs.Decided.{HasRoom}
-use Rattle.office.specs.Machine.{department_named, issued}
 use Rattle.office.proofs.Decisions.{certified_decided, issued_by_view, made_so, serial_left}
 use Rattle.office.proofs.deciding.decide_issue.Goals as goal
 

@@ -1,5 +1,4 @@
-use Rattle.std.proofs.Common.{◌≡◌, take}
-use Rattle.office.specs.Certificates.{flags}
+use Rattle.office.proofs.Words.{flags, take, ◌≡◌}
 use Rattle.office.proofs.issuing.flags_of.Given as goal
 
 abbrev pub invariant-loop-name : goal.invariant-loop-name

@@ -1,6 +1,5 @@
-use Rattle.std.proofs.Common.{◌≡◌, rules}
+use Rattle.office.proofs.Words.{flags, rules, ◌≡◌}
 use Rattle.cert.specs.Options.{listing}
-use Rattle.office.specs.Certificates.{flags}
 use Rattle.office.proofs.Issuable.{issuable_options, issuable_extensions, issuable_certificate}
 use Rattle.office.proofs.issuing.issued.Goals as goal
 

@@ -1,7 +1,5 @@
-use Rattle.std.proofs.Common.{◌≡◌, ℕ, List, true, refl}
-use Rattle.message.specs.declared.kinds.Message.{Message}
+use Rattle.office.proofs.Words.{List, Message, State, refl, true, ℕ, ◌≡◌}
 use Rattle.message.specs.declared.kinds.Message.TheVariants as message
-use Rattle.office.specs.State.{State}
 use Rattle.office.specs.Refusals.{refusals}
 use Rattle.office.specs.Laws.{ascend_from}
 use Rattle.office.proofs.laws.refusals_ascend.Goals as goal

@@ -1,7 +1,5 @@
-use Rattle.std.proofs.Common.{◌≡◌, Some, refl, sym, ap, ◌∙◌}
-use Rattle.std.specs.Prelude.{option_copied}
+use Rattle.office.proofs.Words.{HasRoom, Some, ap, option_copied, refl, sym, ◌∙◌, ◌≡◌}
 use Rattle.message.specs.declared.kinds.Message.TheVariants as message
-use Rattle.office.specs.Decided.{HasRoom}
 use Rattle.office.specs.State.{certificate_of}
 use Rattle.office.proofs.Decisions.{certified_decided, made_so, renewed_by, renewed_by_view, serial_left}
 use Rattle.office.proofs.renewing.decide_renewal.Goals as goal

@@ -1,7 +1,4 @@
-use Rattle.std.proofs.Common.{Option, subst}
-use Rattle.std.specs.Prelude.{IsSome}
-use Rattle.office.specs.Decided.{HasRoom}
-use Rattle.office.specs.declared.certificate.Certificate.{Certificate}
+use Rattle.office.proofs.Words.{Certificate, HasRoom, IsSome, Option, subst}
 use Rattle.office.proofs.Decisions.{made_so, serial_of_one}
 use Rattle.office.proofs.revoking.decide_serial.Goals as goal
 

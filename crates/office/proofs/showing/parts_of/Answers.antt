@@ -1,8 +1,5 @@
-use Rattle.std.proofs.Common.{◌≡◌, ◌&&◌, ℕ, List, length, sym, ap, ◌∙◌}
+use Rattle.office.proofs.Words.{Ca, List, ap, contains, is_last_reached, length, numbers, sym, ℕ, ◌&&◌, ◌∙◌, ◌≡◌}
 use Rattle.std.proofs.lemmas.List.{length-map}
-use Rattle.krl.specs.Sets.{contains, is_last_reached}
-use Rattle.office.specs.declared.ca.Ca.{Ca}
-use Rattle.office.specs.Parts.{numbers}
 use Rattle.office.proofs.showing.parts_of.Goals as goal
 
 pub returns : goal.returns

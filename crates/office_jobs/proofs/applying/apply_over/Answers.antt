@@ -1,7 +1,4 @@
-use Rattle.std.proofs.Common.{ap, subst, sym}
-use Rattle.sqlite.specs.Held.{state}
-use Rattle.sqlite.specs.State.{State, HasCleanDisk}
-use Rattle.office_jobs.specs.Applying.{Applies}
+use Rattle.office_jobs.proofs.Words.{Applies, HasCleanDisk, State, ap, state, subst, sym}
 use Rattle.office_jobs.proofs.Carried.{applied}
 use Rattle.office_jobs.proofs.applying.apply_over.Goals as goal
 

@@ -1,8 +1,5 @@
-use Rattle.std.proofs.Common.{subst, sym, ◌∙◌}
-use Rattle.std.specs.Prelude.{IfErr}
+use Rattle.office_jobs.proofs.Words.{IfErr, IsOfATrial, memory_is_clean, subst, sym, ◌∙◌}
 use Rattle.std.proofs.lemmas.Result.{IfOk-weaker}
-use Rattle.sqlite.proofs.Callers.{memory_is_clean}
-use Rattle.office_jobs.specs.Faults.{IsOfATrial}
 use Rattle.office_jobs.proofs.Applied.{applies_of, not_bad, of_ok, was_fault}
 use Rattle.office_jobs.proofs.Causes.{silent, trial_run}
 use Rattle.office_jobs.proofs.applying.apply_to_trial.Goals as goal

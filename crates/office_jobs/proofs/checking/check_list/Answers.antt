@@ -1,8 +1,6 @@
-use Rattle.std.proofs.Common.{◌≡◌, ℕ, List, Option, Some, None, Result, Err, refl, subst, ◌∙◌}
-use Rattle.std.specs.Prelude.{IfSome}
+use Rattle.office_jobs.proofs.Words.{Err, IfSome, JobFault, List, None, Option, Result, Some, refl, subst, ℕ, ◌∙◌, ◌≡◌}
 use Rattle.krl.specs.Faults.{FirstFault}
 use Rattle.krl.specs.declared.krl_fault.KrlFault.{KrlFault}
-use Rattle.office_jobs.specs.declared.job_fault.JobFault.{JobFault}
 use Rattle.office_jobs.specs.declared.job_fault.JobFault.TheVariants as job
 use Rattle.office_jobs.proofs.checking.check_list.Goals as goal
 

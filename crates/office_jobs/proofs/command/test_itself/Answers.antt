@@ -1,5 +1,4 @@
-use Rattle.std.proofs.Common.{ap, inr}
-use Rattle.std.proofs.lemmas.Result.{IfErr-weaker}
+use Rattle.office_jobs.proofs.Words.{IfErr-weaker, ap, inr}
 use Rattle.office_jobs.proofs.Ended.{test_told}
 use Rattle.office_jobs.proofs.command.test_itself.Goals as goal
 

@@ -1,6 +1,4 @@
-use Rattle.std.proofs.Common.{subst, sym}
-use Rattle.office_jobs.specs.declared.job.OfficeJob.{OfficeJob}
-use Rattle.office_jobs.specs.Finding.{OpensFor}
+use Rattle.office_jobs.proofs.Words.{OfficeJob, OpensFor, subst, sym}
 use Rattle.office_jobs.proofs.Found.{there_for}
 use Rattle.office_jobs.proofs.database_opening.open_for.Goals as goal
 

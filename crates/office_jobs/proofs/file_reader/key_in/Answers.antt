@@ -1,11 +1,10 @@
-use Rattle.std.proofs.Common.{◌≡◌, ◌≢◌, inl, inr, ℕ, List, [], ◌∷◌, ◌++◌, Option, Some, None, Bor, refl, sym, ap, ◌∙◌}
-use Rattle.std.specs.Prelude.{IsTrue, MatchOption}
+use Rattle.office_jobs.proofs.Words.{Bor, IsKeyText, IsTrue, KeyLine, List, None, Option, Some, [], ap, inl, inr, refl}
+use Rattle.office_jobs.proofs.Words.{sym, ℕ, ◌++◌, ◌∙◌, ◌∷◌, ◌≡◌, ◌≢◌}
+use Rattle.std.specs.Prelude.{MatchOption}
 use Rattle.std.specs.Option.{unwrap_or}
 use Rattle.std.proofs.lemmas.Slice.Eq.{strip_suffix_is}
 use Rattle.std.proofs.lemmas.Bool.Decides.{Decides-eqb}
-use Rattle.lines.specs.declared.key_line.KeyLine.{KeyLine}
 use Rattle.lines.specs.KeyLines.{is_key_line, key_line_text}
-use Rattle.office_jobs.specs.Reading.{IsKeyText}
 use Rattle.office_jobs.proofs.file_reader.key_in.Goals as goal
 
 -- the line that was read is the text, or the text without the line feed at its end

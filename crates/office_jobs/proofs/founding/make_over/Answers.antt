@@ -1,8 +1,6 @@
-use Rattle.std.proofs.Common.{ap, arith, refl, subst, sym}
-use Rattle.sqlite.specs.State.{State, HasCleanDisk}
+use Rattle.office_jobs.proofs.Words.{HasCleanDisk, State, ap, arith, refl, state, subst, sym}
 use Rattle.office_jobs.specs.Making.{IsOfficeMade}
 use Rattle.office_jobs.proofs.Unlike.{had_no_office}
-use Rattle.sqlite.specs.Held.{state}
 use Rattle.office_jobs.proofs.Made.{unmade}
 use Rattle.office_jobs.proofs.founding.make_over.Goals as goal
 

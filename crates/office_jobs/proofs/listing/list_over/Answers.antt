@@ -1,7 +1,4 @@
-use Rattle.std.proofs.Common.{ap, refl, subst, sym}
-use Rattle.std.proofs.lemmas.Result.{IfErr-weaker}
-use Rattle.sqlite.specs.Held.{state}
-use Rattle.sqlite.specs.State.{HasCleanDisk}
+use Rattle.office_jobs.proofs.Words.{HasCleanDisk, IfErr-weaker, ap, refl, state, subst, sym}
 use Rattle.office_jobs.proofs.Printed.{listed, lists_as, unlisted}
 use Rattle.office_jobs.proofs.listing.list_over.Goals as goal
 

@@ -1,11 +1,7 @@
-use Rattle.std.proofs.Common.{◌≡◌, Err, ap, arith, refl, subst, sym}
-use Rattle.sqlite.specs.Held.{state}
-use Rattle.sqlite.specs.State.{State, HasCleanDisk}
-use Rattle.office.specs.declared.store_fault.StoreFault.{StoreFault}
+use Rattle.office_jobs.proofs.Words.{Err, HasCleanDisk, JobFault, MigratingEnds, State, StoreFault, ap, arith, of_store}
+use Rattle.office_jobs.proofs.Words.{refl, state, subst, sym, ◌≡◌}
 use Rattle.office.specs.declared.store_fault.StoreFault.TheVariants as store
-use Rattle.office_jobs.specs.declared.job_fault.JobFault.{JobFault}
-use Rattle.office_jobs.specs.Faults.{of_store}
-use Rattle.office_jobs.specs.Making.{IsMoved, IsUnmoved, MigratingEnds}
+use Rattle.office_jobs.specs.Making.{IsMoved, IsUnmoved}
 use Rattle.office_jobs.proofs.Unlike.{had_no_cas}
 use Rattle.office_jobs.proofs.migrating.migrate_over.Goals as goal
 

@@ -1,5 +1,4 @@
-use Rattle.std.proofs.Common.{◌∷◌, ◌++◌, decimal, length, ap, ◌∙◌}
-use Rattle.exchanges.specs.Reading.{rest_after}
+use Rattle.office_jobs.proofs.Words.{ap, decimal, length, rest_after, ◌++◌, ◌∙◌, ◌∷◌}
 use Rattle.office_jobs.proofs.Bodies.{end, found_is, not_found, rest_found, sized_found}
 use Rattle.office_jobs.proofs.reporting.body_of.Goals as goal
 

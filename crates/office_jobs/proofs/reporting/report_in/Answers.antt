@@ -1,9 +1,5 @@
-use Rattle.std.proofs.Common.{◌<◌, ◌^◌, length, arith, refl, subst, sym}
-use Rattle.std.specs.Prelude.{Err}
-use Rattle.sqlite.specs.Held.{state}
-use Rattle.http_requests.specs.Asks.{get}
-use Rattle.office_jobs.specs.declared.job_fault.JobFault.{JobFault}
-use Rattle.office_jobs.specs.Reporting.{IsReport, resource_of}
+use Rattle.office_jobs.proofs.Words.{Err, IsReport, JobFault, arith, get, length, refl, resource_of, state, subst, sym}
+use Rattle.office_jobs.proofs.Words.{◌<◌, ◌^◌}
 use Rattle.office_jobs.proofs.Carried.{before_open}
 use Rattle.office_jobs.proofs.Printed.{report_fault}
 use Rattle.office_jobs.proofs.Reported.{reported, unfound}

@@ -1,7 +1,4 @@
-use Rattle.std.proofs.Common.{ap, refl, subst, sym}
-use Rattle.sqlite.specs.Held.{state}
-use Rattle.sqlite.specs.State.{State, HasCleanDisk}
-use Rattle.office_jobs.specs.Reporting.{Reports}
+use Rattle.office_jobs.proofs.Words.{HasCleanDisk, Reports, State, ap, refl, state, subst, sym}
 use Rattle.office_jobs.proofs.Printed.{reports_from, unreported}
 use Rattle.office_jobs.proofs.reporting.report_over.Goals as goal
 

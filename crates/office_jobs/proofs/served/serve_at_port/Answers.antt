@@ -1,5 +1,4 @@
-use Rattle.std.proofs.Common.{Some, None, refl}
-use Rattle.sqlite.specs.Held.{state}
+use Rattle.office_jobs.proofs.Words.{None, Some, refl, state}
 use Rattle.office_jobs.proofs.Meeting.{served_of, unheard}
 use Rattle.office_jobs.proofs.served.serve_at_port.Goals as goal
 

@@ -1,5 +1,4 @@
-use Rattle.std.proofs.Common.{Ok, ap}
-use Rattle.sqlite.specs.Held.{state}
+use Rattle.office_jobs.proofs.Words.{Ok, ap, state}
 use Rattle.office_jobs.proofs.Meeting.{served_at}
 use Rattle.office_jobs.proofs.served.serve_listening.Goals as goal
 

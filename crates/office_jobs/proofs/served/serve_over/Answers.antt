@@ -1,6 +1,4 @@
-use Rattle.std.proofs.Common.{subst, sym}
-use Rattle.sqlite.specs.Held.{state}
-use Rattle.office_jobs.specs.Serving.{MeetsOver}
+use Rattle.office_jobs.proofs.Words.{MeetsOver, state, subst, sym}
 use Rattle.office_jobs.proofs.Meeting.{met_over}
 use Rattle.office_jobs.proofs.served.serve_over.Goals as goal
 

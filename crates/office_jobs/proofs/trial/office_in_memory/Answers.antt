@@ -1,6 +1,4 @@
-use Rattle.sqlite.proofs.Callers.{memory_is_clean}
-use Rattle.sqlite.specs.Held.{state}
-use Rattle.sqlite.specs.Steps.{over_memory}
+use Rattle.office_jobs.proofs.Words.{memory_is_clean, over_memory, state}
 use Rattle.office_jobs.proofs.Blank.{blank}
 use Rattle.office_jobs.proofs.trial.office_in_memory.Goals as goal
 

@@ -1,11 +1,5 @@
-use Rattle.std.proofs.Common.{[], subst}
-use Rattle.values.specs.declared.limits.TheConstants.{LAST_SERIAL}
-use Rattle.office.specs.declared.opening.Opening.{Opening}
-use Rattle.sqlite.proofs.Callers.{memory_is_clean}
-use Rattle.sqlite.specs.Held.{state}
-use Rattle.sqlite.specs.Steps.{over_memory}
-use Rattle.store.specs.Meaning.{Tells}
-use Rattle.office_jobs.specs.TrialOffice.{opening_of}
+use Rattle.office_jobs.proofs.Words.{LAST_SERIAL, Opening, Tells, [], memory_is_clean, opening_of, over_memory, state}
+use Rattle.office_jobs.proofs.Words.{subst}
 use Rattle.office_jobs.proofs.trial.trial_office.Goals as goal
 
 pub returns-in-Ok : goal.returns-in-Ok

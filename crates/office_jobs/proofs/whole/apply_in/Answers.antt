@@ -1,7 +1,4 @@
-use Rattle.std.proofs.Common.{[], Ok, Err, ap, refl, subst}
-use Rattle.office_jobs.specs.Applying.{Applies}
-use Rattle.office_jobs.specs.Asked.{AsksExchanges}
-use Rattle.office_jobs.specs.Finding.{OpensThere}
+use Rattle.office_jobs.proofs.Words.{Applies, AsksExchanges, Err, Ok, OpensThere, [], ap, refl, subst}
 use Rattle.office_jobs.specs.Whole.{DoesIn}
 use Rattle.office_jobs.proofs.whole.apply_in.Goals as goal
 

@@ -1,7 +1,4 @@
-use Rattle.std.proofs.Common.{Ok, Err, ap, refl}
-use Rattle.std.proofs.lemmas.Result.{IfErr-weaker}
-use Rattle.sqlite.specs.Held.{state}
-use Rattle.office_jobs.specs.Asked.{AsksOffice}
+use Rattle.office_jobs.proofs.Words.{AsksOffice, Err, IfErr-weaker, Ok, ap, refl, state}
 use Rattle.office_jobs.proofs.Additions.{done as added}
 use Rattle.office_jobs.proofs.Ended.{told}
 use Rattle.office_jobs.proofs.Doing.{does_asked}

@@ -1,12 +1,8 @@
-use Rattle.std.proofs.Common.{◌≡◌, inl, inr, ℕ, List, Option, Result, Ok, Err}
-use Rattle.std.specs.Prelude.{IfErr, IfOk, IfSome}
-use Rattle.lines.specs.declared.key_line.KeyLine.{KeyLine}
-use Rattle.office.specs.declared.opening.Opening.{Opening}
+use Rattle.office_jobs.proofs.Words.{Err, IfErr, IfOk, IfSome, IsKeyText, JobFault, KeyLine, List, Ok, Opening, Option}
+use Rattle.office_jobs.proofs.Words.{Result, inl, inr, ℕ, ◌≡◌}
 use Rattle.office_jobs.specs.declared.founding.Founding.{Founding}
-use Rattle.office_jobs.specs.declared.job_fault.JobFault.{JobFault}
 use Rattle.office_jobs.specs.Faults.{IsOfAnOpening}
 use Rattle.office_jobs.specs.Making.{due_opening}
-use Rattle.office_jobs.specs.Reading.{IsKeyText}
 use Rattle.office_jobs.specs.Whole.{BeginsOffice}
 use Rattle.office_jobs.proofs.whole.opening_from.Goals as goal
 

@@ -1,12 +1,7 @@
-use Rattle.std.proofs.Common.{◌≤◌, ℕ, Result, Ok, Err, ap, refl, subst, sym}
-use Rattle.std.specs.Prelude.{IfOk}
-use Rattle.restart.specs.declared.ending.EndFault.{EndFault}
-use Rattle.sqlite.specs.Held.{state}
+use Rattle.office_jobs.proofs.Words.{AsksServing, EndFault, Err, IfOk, JobFault, Ok, Result, ap, heard_of, refl, state}
+use Rattle.office_jobs.proofs.Words.{subst, sym, ℕ, ◌≤◌}
 use Rattle.office_jobs.specs.Ending.{closed}
-use Rattle.office_jobs.specs.declared.job_fault.JobFault.{JobFault}
 use Rattle.office_jobs.proofs.Additions.{served as added}
-use Rattle.office_jobs.specs.Asked.{AsksServing}
-use Rattle.office_jobs.specs.Whole.{heard_of}
 use Rattle.office_jobs.proofs.Doing.{serves_asked}
 use Rattle.office_jobs.proofs.Found.{kept, opened_there, ran, ready_there}
 use Rattle.office_jobs.proofs.whole.serve_in.Goals as goal

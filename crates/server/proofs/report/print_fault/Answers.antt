@@ -1,5 +1,4 @@
-use Rattle.std.proofs.Common.{subst, ◌∙◌}
-use Rattle.std.specs.Io.KnownBytes.{Appends}
+use Rattle.server.proofs.Words.{Appends, subst, ◌∙◌}
 use Rattle.server.proofs.Lines.{in_five}
 use Rattle.server.proofs.report.print_fault.Goals as goal
 

@@ -1,6 +1,4 @@
-use Rattle.std.proofs.Common.{subst, sym}
-use Rattle.waiting.specs.Knowing.{MeansKnown}
-use Rattle.server.specs.Connections.{Extends, MeetsTold}
+use Rattle.server.proofs.Words.{Extends, MeansKnown, MeetsTold, subst, sym}
 use Rattle.server.proofs.Keeping.{extends_as, known_at_first, told_as}
 use Rattle.server.proofs.serve.serve_keeping.Goals as goal
 

@@ -1,5 +1,4 @@
-use Rattle.std.proofs.Common.{◌≡◌, ◌≤◌, ◌+◌, ℕ, arith, subst}
-use Rattle.server.specs.Connections.{Extends, MeetsTold}
+use Rattle.server.proofs.Words.{Extends, MeetsTold, arith, subst, ℕ, ◌+◌, ◌≡◌, ◌≤◌}
 use Rattle.server.proofs.Extensions.{meets_extends}
 use Rattle.server.proofs.Runs.{told_none, told_one_more}
 use Rattle.server.proofs.serve.serve_on.Goals as goal

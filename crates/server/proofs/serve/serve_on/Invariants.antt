@@ -1,5 +1,4 @@
-use Rattle.std.proofs.Common.{◌≤◌, ◌+◌}
-use Rattle.server.specs.Connections.{MeetsTold}
+use Rattle.server.proofs.Words.{MeetsTold, ◌+◌, ◌≤◌}
 use Rattle.server.proofs.serve.serve_on.Given as goal
 
 -- the connections so far were handled, and each added one failure of the nonce source and of the output at most

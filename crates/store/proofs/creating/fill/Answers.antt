@@ -1,6 +1,4 @@
-use Rattle.std.proofs.lemmas.Result.{err_from_is_err_and}
-use Rattle.std.proofs.Common.{inl, inr}
-use Rattle.store.specs.Creating.{RefusesFirst}
+use Rattle.store.proofs.Words.{RefusesFirst, err_from_is_err_and, inl, inr}
 use Rattle.store.proofs.TransactionParts.{stopped_first, written, written_then}
 use Rattle.store.proofs.creating.fill.Goals as goal
 

@@ -1,17 +1,9 @@
-use Rattle.std.proofs.Common.{arith, refl}
-use Rattle.std.proofs.lemmas.Result.{err_from_is_err_and}
-use Rattle.sqlite.specs.State.{State, Survives, HasCleanDisk}
-use Rattle.sqlite.proofs.StateLemmas.{survives_weaker}
-use Rattle.sqlite.specs.Held.{state}
-use Rattle.store_sql.specs.Schema.{no_schema}
-use Rattle.store_sql.specs.Contents.{no_contents}
-use Rattle.store_sql.specs.Calls.{IsBare, Steps, WaitsAt}
-use Rattle.store_sql.specs.Changes.{with_ca_row, with_office}
-use Rattle.store_sql.proofs.Staying.{stays_then}
-use Rattle.store.specs.Transactions.{Has, Waits}
+use Rattle.store.proofs.Words.{Has, HasCleanDisk, IsBare, RefusesFirst, Steps, Survives, Waits, WaitsAt, arith}
+use Rattle.store.proofs.Words.{err_from_is_err_and, no_contents, no_schema, refl, state, stays_then, survives_weaker}
+use Rattle.store.proofs.Words.{with_ca_row, with_office}
+use Rattle.sqlite.specs.State.{State}
 use Rattle.store.proofs.Steps.{Leads, goes, answers_then, waits_then}
 use Rattle.store.proofs.Causes.{cause_of, fails_then}
-use Rattle.store.specs.Creating.{RefusesFirst}
 use Rattle.store.proofs.creating.make.Goals as goal
 
 -- a database without tables, in which the office's tables are made

@@ -1,17 +1,9 @@
-use Rattle.std.proofs.Common.{arith}
+use Rattle.store.proofs.Words.{Database, HasCleanDisk, IsBare, RefusesFirst, Waits, arith, no_contents, no_schema}
+use Rattle.store.proofs.Words.{state, with_ca_row, with_office}
 use Rattle.std.proofs.lemmas.Result.{IfErr-weaker}
-use Rattle.sqlite.specs.Effect.{Database}
-use Rattle.sqlite.specs.Held.{state}
-use Rattle.sqlite.specs.State.{HasCleanDisk}
-use Rattle.store_sql.specs.Schema.{no_schema}
-use Rattle.store_sql.specs.Contents.{no_contents}
-use Rattle.store_sql.specs.Calls.{IsBare}
-use Rattle.store_sql.specs.Changes.{with_ca_row, with_office}
-use Rattle.store.specs.Transactions.{Waits}
 use Rattle.store.proofs.Before.{concludes_before}
 use Rattle.store.proofs.Causes.{stops_for}
 use Rattle.store.proofs.Steps.{ends, left}
-use Rattle.store.specs.Creating.{RefusesFirst}
 use Rattle.store.proofs.creating.make_whole.Goals as goal
 
 pub returns : goal.returns

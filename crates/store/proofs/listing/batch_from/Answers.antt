@@ -1,5 +1,4 @@
-use Rattle.std.proofs.Common.{◌≡◌, ◌+◌, arith}
-use Rattle.store.specs.Batches.{numbered}
+use Rattle.store.proofs.Words.{arith, numbered, ◌+◌, ◌≡◌}
 use Rattle.store.proofs.Reading.{of_state}
 use Rattle.store.proofs.listing.batch_from.Goals as goal
 

@@ -1,9 +1,5 @@
-use Rattle.std.proofs.Common.{◌≡◌, ℕ, ap, ◌∙◌, ◌+◌, filter}
-use Rattle.office.specs.declared.opening.Opening.{Opening}
+use Rattle.store.proofs.Words.{Opening, ap, batch_of, filter, lies_within, numbered, ℕ, ◌+◌, ◌∙◌, ◌≡◌}
 use Rattle.office.specs.History.{state as after}
-use Rattle.office.specs.Listing.{batch_of}
-use Rattle.store.specs.Certificates.{lies_within}
-use Rattle.store.specs.Batches.{numbered}
 use Rattle.store.proofs.Batches.{batch_is}
 use Rattle.store.proofs.Reading.{and_then, of_state, reading_failed}
 use Rattle.store.proofs.listing.read_batch.Goals as goal

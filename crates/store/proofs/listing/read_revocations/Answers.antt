@@ -1,7 +1,4 @@
-use Rattle.std.proofs.Common.{◌≡◌, ℕ, List, ap, ◌∙◌}
-use Rattle.krl.specs.declared.run.Run.{Run}
-use Rattle.krl.specs.Sets.{contains}
-use Rattle.office.specs.Listing.{AreRevocations}
+use Rattle.store.proofs.Words.{AreRevocations, List, Run, ap, contains, ℕ, ◌∙◌, ◌≡◌}
 use Rattle.store.proofs.Showing.{asks_weaker}
 use Rattle.store.proofs.Reading.{and_then, of_past, of_state, reading_failed}
 use Rattle.store.proofs.listing.read_revocations.Goals as goal

@@ -1,5 +1,4 @@
-use Rattle.std.proofs.Common.{◌≡◌, refl}
-use Rattle.office.specs.declared.listing.Revocations.{Revocations}
+use Rattle.store.proofs.Words.{Revocations, refl, ◌≡◌}
 use Rattle.store.proofs.Reading.{and_shown, of_state, reading_failed}
 use Rattle.store.proofs.listing.with_key_ids.Goals as goal
 

@@ -1,5 +1,4 @@
-use Rattle.std.proofs.Common.{◌≡◌, drop}
-use Rattle.store.specs.Parts.{are_ordered}
+use Rattle.store.proofs.Words.{are_ordered, drop, ◌≡◌}
 use Rattle.store.proofs.publishing.are_ordered.Given as goal
 
 abbrev pub invariant-loop-ca : goal.invariant-loop-ca

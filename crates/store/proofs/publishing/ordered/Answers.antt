@@ -1,5 +1,4 @@
-use Rattle.std.proofs.Common.{◌≡◌, true, refl, sym, ap, ◌∙◌, arith}
-use Rattle.store.specs.Parts.{are_ordered}
+use Rattle.store.proofs.Words.{ap, are_ordered, arith, refl, sym, true, ◌∙◌, ◌≡◌}
 use Rattle.store.proofs.Parts.{ordered_rise, rise_ordered}
 use Rattle.store.proofs.publishing.ordered.Goals as goal
 

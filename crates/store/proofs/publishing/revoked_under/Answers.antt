@@ -1,6 +1,5 @@
 use Rattle.office.specs.History.{state as after}
-use Rattle.office.proofs.Ranges.{revoked_is_issued}
-use Rattle.store.specs.Parts.{AreShown, IsMadeOf}
+use Rattle.store.proofs.Words.{AreShown, IsMadeOf, revoked_is_issued}
 use Rattle.store.proofs.Parts.{made_shown}
 use Rattle.store.proofs.Reading.{and_made, reading_failed}
 use Rattle.store.proofs.publishing.revoked_under.Goals as goal

@@ -1,5 +1,4 @@
-use Rattle.std.proofs.Common.{◌∙◌}
-use Rattle.store.specs.Parts.{AreShown}
+use Rattle.store.proofs.Words.{AreShown, ◌∙◌}
 use Rattle.store.proofs.Reading.{and_then, reading_failed}
 use Rattle.store.proofs.publishing.revoked_with.Goals as goal
 

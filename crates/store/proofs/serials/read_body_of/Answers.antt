@@ -1,6 +1,5 @@
-use Rattle.std.proofs.Common.{◌≡◌, ap, ◌∙◌}
-use Rattle.std.specs.Option.{option_map}
-use Rattle.office.specs.State.{body_of, certificate_of}
+use Rattle.store.proofs.Words.{ap, certificate_of, option_map, ◌∙◌, ◌≡◌}
+use Rattle.office.specs.State.{body_of}
 use Rattle.store.proofs.Reading.{and_shown, of_past, reading_failed}
 use Rattle.store.proofs.serials.read_body_of.Goals as goal
 

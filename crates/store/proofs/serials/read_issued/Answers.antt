@@ -1,6 +1,4 @@
-use Rattle.std.proofs.Common.{◌≡◌, ap, ◌∙◌}
-use Rattle.std.specs.Option.{option_map}
-use Rattle.office.specs.State.{certificate_of}
+use Rattle.store.proofs.Words.{ap, certificate_of, option_map, ◌∙◌, ◌≡◌}
 use Rattle.office.specs.Publication.{issued_of, issued_row}
 use Rattle.store.proofs.Reading.{and_made, of_past, reading_failed}
 use Rattle.store.proofs.serials.read_issued.Goals as goal

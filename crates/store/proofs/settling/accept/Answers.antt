@@ -1,13 +1,7 @@
-use Rattle.std.proofs.lemmas.Result.{err_from_is_err_and}
-use Rattle.std.proofs.Common.{ℕ, List, Ok, Err, sym, subst}
-use Rattle.sqlite.specs.Held.{state}
+use Rattle.store.proofs.Words.{Err, ExceedsTables, IsAccepted, IsAfter, IsDue, List, Ok, Outcome, RefusesDecision}
+use Rattle.store.proofs.Words.{Settles, contents_of, err_from_is_err_and, kept_at, state, state_at, subst, sym, ℕ}
 use Rattle.office.specs.declared.arrival.Outcome.TheVariants as outcome
-use Rattle.office.specs.declared.arrival.Outcome.{Outcome}
-use Rattle.store.specs.Rows.{contents_of}
 use Rattle.store.proofs.Causes.{fails_weaker}
-use Rattle.store.specs.Due.{IsDue}
-use Rattle.store.specs.Refused.{RefusesDecision}
-use Rattle.store.specs.Arriving.{IsAccepted, IsAfter, ExceedsTables, Settles, kept_at, state_at}
 use Rattle.store.proofs.Accepted.{is_due, settles_written, waits_written}
 use Rattle.store.proofs.Limits.{limited}
 use Rattle.store.proofs.settling.accept.Goals as goal

@@ -1,6 +1,4 @@
-use Rattle.std.proofs.Common.{arith}
-use Rattle.store.specs.Meaning.{IsHistory}
-use Rattle.store.specs.Arriving.{IsAccepted, IsDecided, Past}
+use Rattle.store.proofs.Words.{IsAccepted, IsDecided, IsHistory, Past, arith}
 use Rattle.store.proofs.Settled.{settling_weaker}
 use Rattle.store.proofs.settling.accept_version.Goals as goal
 

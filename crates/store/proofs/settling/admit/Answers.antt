@@ -1,10 +1,5 @@
-use Rattle.std.proofs.Common.{◌≡◌, true, false, refl, ◌∙◌}
-use Rattle.std.specs.Prelude.{nat_lt}
-use Rattle.std.proofs.lemmas.Bool.{le-ltb, lt-ltb}
-use Rattle.values.specs.declared.limits.TheConstants.{LATEST_MOMENT}
-use Rattle.sqlite.specs.Held.{state}
-use Rattle.store.specs.Meaning.{IsHistory}
-use Rattle.store.specs.Arriving.{IsAsked, IsNew, Past}
+use Rattle.store.proofs.Words.{IsAsked, IsHistory, IsNew, LATEST_MOMENT, Past, false, le-ltb, lt-ltb, nat_lt, refl}
+use Rattle.store.proofs.Words.{state, true, ◌∙◌, ◌≡◌}
 use Rattle.store.proofs.Settled.{settles_refused, settling_open, settling_still, settling_weaker}
 use Rattle.store.proofs.settling.admit.Goals as goal
 

@@ -1,6 +1,4 @@
-use Rattle.std.proofs.Common.{◌≡◌, ℕ, List, Some, None, refl, subst}
-use Rattle.sqlite.specs.Held.{state}
-use Rattle.office.specs.Messages.{message_with_text}
+use Rattle.store.proofs.Words.{List, None, Some, message_with_text, refl, state, subst, ℕ, ◌≡◌}
 use Rattle.office.proofs.Texts.{read_is}
 use Rattle.store.proofs.Settled.{bad_line, settles_refused, settling_still}
 use Rattle.store.proofs.settling.judge.Goals as goal

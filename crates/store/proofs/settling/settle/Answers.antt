@@ -1,7 +1,4 @@
-use Rattle.std.proofs.Common.{◌≡◌}
-use Rattle.std.specs.Prelude.{find}
-use Rattle.store.specs.Histories.{is_kept_for}
-use Rattle.store.specs.Arriving.{IsAny, IsFound}
+use Rattle.store.proofs.Words.{IsAny, IsFound, find, is_kept_for, ◌≡◌}
 use Rattle.store.proofs.Reading.{of_past}
 use Rattle.store.proofs.Settled.{read_failed, read_then}
 use Rattle.store.proofs.settling.settle.Goals as goal

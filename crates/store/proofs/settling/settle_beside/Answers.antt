@@ -1,12 +1,7 @@
-use Rattle.std.proofs.Common.{◌≡◌, ℕ, List, true, false, Some, None, sym, ap, ◌∙◌}
-use Rattle.std.specs.Prelude.{find}
-use Rattle.std.specs.Str.{bytes_eq}
-use Rattle.sqlite.specs.Held.{state}
+use Rattle.store.proofs.Words.{IsAsked, IsFound, IsHistory, List, None, Past, Some, ap, bytes_eq, false, find}
+use Rattle.store.proofs.Words.{is_kept_for, kept_at, state, sym, true, ℕ, ◌∙◌, ◌≡◌}
 use Rattle.office.specs.declared.arrival.Outcome.TheVariants as outcome
-use Rattle.store.specs.Histories.{is_kept_for}
 use Rattle.store.proofs.OfHistory.{apart_after}
-use Rattle.store.specs.Meaning.{IsHistory}
-use Rattle.store.specs.Arriving.{IsAsked, IsFound, Past, kept_at}
 use Rattle.store.proofs.Settled.{known_found, repeat_found, repeat_other, repeat_unknown, repeated_still}
 use Rattle.store.proofs.Settled.{settles_still, settling_still, settling_weaker, unknown_found}
 use Rattle.store.proofs.settling.settle_beside.Goals as goal

@@ -1,8 +1,4 @@
-use Rattle.std.proofs.Common.{ℕ, List, Ok, Err, subst}
-use Rattle.sqlite.specs.Held.{state}
-use Rattle.office.specs.Decided.{Decided}
-use Rattle.store.specs.Meaning.{IsHistory}
-use Rattle.store.specs.Arriving.{IsDecided, IsWeighed, Past, state_at}
+use Rattle.store.proofs.Words.{Decided, Err, IsDecided, IsHistory, IsWeighed, List, Ok, Past, state, state_at, subst, ℕ}
 use Rattle.store.proofs.Accepted.{decided_accepted}
 use Rattle.store.proofs.Settled.{settling_open, settling_weaker, stopped_settles}
 use Rattle.store.proofs.settling.weigh.Goals as goal

@@ -1,11 +1,8 @@
-use Rattle.std.proofs.Common.{arith}
-use Rattle.sqlite.specs.Held.{state}
-use Rattle.sqlite.specs.State.{HasCleanDisk}
-use Rattle.store.specs.Transactions.{Waits}
+use Rattle.store.proofs.Words.{ExceedsTables, HasCleanDisk, IsAfter, IsAny, IsDueAnswer, Waits, arith, contents_with}
+use Rattle.store.proofs.Words.{state}
 use Rattle.store.proofs.Before.{concludes_before, concludes_unaccepted}
 use Rattle.store.proofs.Causes.{stops_for}
 use Rattle.store.proofs.Steps.{ends, left_due}
-use Rattle.store.specs.Arriving.{IsAfter, IsDueAnswer, IsAny, ExceedsTables, contents_with}
 use Rattle.store.proofs.taking.take.Goals as goal
 
 pub returns-in-Ok : goal.returns-in-Ok

@@ -1,5 +1,4 @@
-use Rattle.office.specs.History.{state}
-use Rattle.office.proofs.Registers.{preserves_both}
+use Rattle.web.proofs.Words.{preserves_both, state}
 use Rattle.web.proofs.Reported.{all_said, one_more}
 use Rattle.web.proofs.batches.put_all.Goals as goal
 

@@ -1,10 +1,6 @@
-use Rattle.std.proofs.Common.{◌≡◌, ◌-◌, ◌≤◌, ◌++◌, List, length, take}
-use Rattle.std.specs.List.{flat_map}
-use Rattle.office.specs.declared.opening.Opening.{Opening}
-use Rattle.office.specs.declared.arrival.Arrival.{Arrival}
-use Rattle.office.specs.History.{state}
+use Rattle.web.proofs.Words.{Arrival, List, Opening, flat_map, length, line_among, state, take, ◌++◌, ◌≡◌, ◌≤◌}
+use Rattle.std.proofs.Common.{◌-◌}
 use Rattle.office.specs.Registers.{Preserves}
-use Rattle.web.specs.Batches.{line_among}
 use Rattle.web.proofs.batches.put_all.Given as goal
 
 abbrev pub invariant-batches : goal.invariant-batches

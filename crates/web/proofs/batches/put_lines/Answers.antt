@@ -1,5 +1,4 @@
-use Rattle.std.proofs.Common.{◌∙◌, ap, Bool, ◌++◌}
-use Rattle.web.specs.Batches.{line_among, line_as}
+use Rattle.web.proofs.Words.{Bool, ap, line_among, line_as, ◌++◌, ◌∙◌}
 use Rattle.web.proofs.Items.{one_item_more}
 use Rattle.web.proofs.batches.put_lines.Goals as goal
 

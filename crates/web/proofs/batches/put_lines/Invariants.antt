@@ -1,6 +1,4 @@
-use Rattle.std.proofs.Common.{◌≡◌, ◌++◌, take}
-use Rattle.std.specs.List.{flat_map}
-use Rattle.web.specs.Batches.{line_among}
+use Rattle.web.proofs.Words.{flat_map, line_among, take, ◌++◌, ◌≡◌}
 use Rattle.web.proofs.batches.put_lines.Given as goal
 
 abbrev pub invariant-loop-certificate : goal.invariant-loop-certificate

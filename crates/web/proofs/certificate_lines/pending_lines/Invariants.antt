@@ -1,5 +1,4 @@
-use Rattle.std.proofs.Common.{◌≡◌, take}
-use Rattle.web.specs.Reports.{pending_lines}
+use Rattle.web.proofs.Words.{pending_lines, take, ◌≡◌}
 use Rattle.web.proofs.certificate_lines.pending_lines.Given as goal
 
 abbrev pub invariant-loop-row : goal.invariant-loop-row

@@ -1,5 +1,4 @@
-use Rattle.std.proofs.Common.{◌∙◌, sym, Some, None}
-use Rattle.office.specs.History.{state}
+use Rattle.web.proofs.Words.{None, Some, state, sym, ◌∙◌}
 use Rattle.office.specs.Publication.{issued_of}
 use Rattle.web.specs.Answers.{certificate_response}
 use Rattle.web.proofs.Shown.{memory_cause, memory_only, shows}

@@ -1,5 +1,4 @@
-use Rattle.std.proofs.Common.{◌∙◌, sym, ap, List, ℕ, Some, None}
-use Rattle.office.specs.History.{state}
+use Rattle.web.proofs.Words.{List, None, Some, ap, state, sym, ℕ, ◌∙◌}
 use Rattle.office.specs.State.{body_of}
 use Rattle.web.specs.Answers.{body_response}
 use Rattle.web.proofs.Shown.{memory_cause, memory_only, shows}

@@ -1,5 +1,4 @@
-use Rattle.std.proofs.Common.{◌≡◌, ◌++◌, take}
-use Rattle.std.specs.List.{flat_map}
+use Rattle.web.proofs.Words.{flat_map, take, ◌++◌, ◌≡◌}
 use Rattle.web.proofs.pieces.put_pieces.Given as goal
 
 -- the output has the pieces so far

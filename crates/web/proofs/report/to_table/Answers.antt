@@ -1,8 +1,5 @@
-use Rattle.std.proofs.Common.{ap}
+use Rattle.web.proofs.Words.{ap, preserves_both, state, table_report}
 use Rattle.krl.specs.declared.krl_head.KrlHead.{KrlHead}
-use Rattle.office.specs.History.{state}
-use Rattle.office.proofs.Registers.{preserves_both}
-use Rattle.web.specs.Reports.{table_report}
 use Rattle.web.proofs.Shown.{memory_cause, memory_only}
 use Rattle.web.proofs.Reported.{shows_report, whole_table}
 use Rattle.web.proofs.report.to_table.Goals as goal

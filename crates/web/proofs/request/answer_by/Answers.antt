@@ -1,6 +1,4 @@
-use Rattle.std.proofs.Common.{sym, subst}
-use Rattle.http_requests.specs.Asks.{Ask, Asks}
-use Rattle.web.specs.Requests.{request_ask}
+use Rattle.web.proofs.Words.{Ask, Asks, request_ask, subst, sym}
 use Rattle.web.proofs.Shown.{always_err, is_no_message}
 use Rattle.web.proofs.request.answer_by.Goals as goal
 

@@ -1,7 +1,6 @@
-use Rattle.std.proofs.Common.{inl, inr, refl}
+use Rattle.web.proofs.Words.{Keeps, arrival_by, inl, inr, refl}
 use Rattle.web.proofs.Shown.{always_err, cause_as, memory_cause, memory_only}
 use Rattle.web.proofs.Answered.{of_arrival, of_refusal, of_resource}
-use Rattle.web.specs.Answers.{Keeps, arrival_by}
 use Rattle.web.proofs.request.answer_request.Goals as goal
 
 pub returns-in-Refused-clause-answered : goal.returns-in-Refused-clause-answered

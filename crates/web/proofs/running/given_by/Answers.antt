@@ -1,6 +1,4 @@
-use Rattle.std.proofs.Common.{◌≡◌, ◌∙◌, ℕ, List, subst, sym}
-use Rattle.web.specs.declared.exchange.Given.TheVariants.{Answer}
-use Rattle.web.specs.Answers.{AsksNoChange, IsAnswered, Keeps}
+use Rattle.web.proofs.Words.{Answer, AsksNoChange, IsAnswered, Keeps, List, subst, sym, ℕ, ◌∙◌, ◌≡◌}
 use Rattle.web.proofs.running.given_by.Goals as goal
 
 same_text : (x y : List ℕ) → Answer x ≡ Answer y → x ≡ y

@@ -1,9 +1,8 @@
-use Rattle.std.proofs.Common.{arith, suc, ◌≡◌, ◌+◌, ◌++◌, [], ◌∷◌, List, drop, sym, ap, subst, add-one, drop-cons}
+use Rattle.web.proofs.Words.{AsksNoChange, Exchange, Given, List, [], ap, arith, drop, subst, suc, sym, ◌++◌, ◌+◌, ◌∷◌}
+use Rattle.web.proofs.Words.{◌≡◌}
+use Rattle.std.proofs.Common.{add-one, drop-cons}
 use Rattle.std.proofs.lemmas.Grind.{common_steps}
 use Rattle.std.proofs.Math.ListN.{drop_of_length-le}
-use Rattle.web.specs.declared.exchange.Exchange.{Exchange}
-use Rattle.web.specs.declared.exchange.Given.{Given}
-use Rattle.web.specs.Answers.{AsksNoChange}
 use Rattle.web.proofs.Underway.{IsUnderway, goes_with, is_done, starts}
 use Rattle.web.proofs.running.run.Goals as goal
 

@@ -1,7 +1,6 @@
-use Rattle.std.proofs.Common.{inl, inr, subst}
+use Rattle.web.proofs.Words.{inl, inr, request_ask, subst}
 use Rattle.std.specs.Io.KnownBytes.{Appends}
 use Rattle.wire.specs.Streams.{AppendsBeginning}
-use Rattle.web.specs.Requests.{request_ask}
 use Rattle.web.proofs.Shown.{is_no_message}
 use Rattle.web.proofs.Stores.{cause_of_store}
 use Rattle.web.proofs.serve.serve_one.Goals as goal

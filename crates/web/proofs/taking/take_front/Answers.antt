@@ -1,9 +1,7 @@
-use Rattle.std.proofs.Common.{◌≡◌, ◌++◌, ◌∷◌, ◌∙◌, ℕ, List, [], length, arith, subst, sym, ap, refl, inl, inr}
-use Rattle.std.proofs.Common.{get_or, length-append}
+use Rattle.web.proofs.Words.{HasCome, IsAt, List, Waits, WaitsBefore, [], ap, arith, get_or, inl, inr, length}
+use Rattle.web.proofs.Words.{length-append, refl, subst, sym, ℕ, ◌++◌, ◌∙◌, ◌∷◌, ◌≡◌}
 use Rattle.std.proofs.KnownBytes.{Consumes-nil}
-use Rattle.http_requests.specs.declared.progress.Progress.TheVariants.{Waits}
-use Rattle.http_requests.specs.Places.{IsAt}
-use Rattle.http_requests.specs.Reading.{HoldsHead, NeverHolds, HasCome, WaitsBefore}
+use Rattle.http_requests.specs.Reading.{HoldsHead, NeverHolds}
 use Rattle.http_requests.proofs.Places.{nothing_waits}
 use Rattle.http_requests.proofs.Reading.{waits_before_nothing, waits_before_more}
 use Rattle.web.proofs.Taken.{byte_more}

@@ -1,9 +1,5 @@
-use Rattle.std.proofs.Common.{◌≡◌, ℕ, List, Option, length}
-use Rattle.std.specs.Io.KnownBytes.{Consumes}
+use Rattle.web.proofs.Words.{Consumes, HasCome, IsAt, List, Option, Waits, WaitsBefore, length, ℕ, ◌≡◌}
 use Rattle.http_requests.specs.declared.growing.Spot.{Spot}
-use Rattle.http_requests.specs.declared.progress.Progress.TheVariants.{Waits}
-use Rattle.http_requests.specs.Places.{IsAt}
-use Rattle.http_requests.specs.Reading.{HasCome, WaitsBefore}
 use Rattle.web.proofs.taking.take_front.Given as goal
 
 -- `count` bytes were taken, each while the bytes before it were undecided, and no call failed

@@ -1,6 +1,5 @@
-use Rattle.std.proofs.Common.{ℕ, List, refl, subst}
-use Rattle.http_requests.specs.declared.plan.Plan.TheVariants.{Refused, Get, Post}
-use Rattle.http_requests.specs.Plans.{Plans}
+use Rattle.web.proofs.Words.{List, Plans, Refused, refl, subst, ℕ}
+use Rattle.http_requests.specs.declared.plan.Plan.TheVariants.{Get, Post}
 use Rattle.web.proofs.Taken.{bodies_taken, front_taken}
 use Rattle.web.proofs.taking.take_request.Goals as goal
 

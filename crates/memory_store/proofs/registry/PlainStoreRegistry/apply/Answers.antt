@@ -1,9 +1,6 @@
-use Rattle.std.proofs.Common.{◌≡◌, List, Some, None, refl, sym, ap, ◌∙◌, arith}
-use Rattle.std.specs.Prelude.{option_copied}
-use Rattle.office.specs.declared.arrival.Kept.{Kept}
-use Rattle.office.specs.History.{reply_kept}
+use Rattle.memory_store.proofs.Words.{Kept, List, MemoryContents, None, Some, ap, arith, option_copied, refl}
+use Rattle.memory_store.proofs.Words.{reply_kept, state_of, sym, ◌∙◌, ◌≡◌}
 use Rattle.office.proofs.Steps.{shows_repeated}
-use Rattle.memory_store.specs.Contents.{MemoryContents, state_of}
 use Rattle.memory_store.proofs.Accepted.{accepted}
 use Rattle.memory_store.proofs.registry.PlainStoreRegistry.apply.Goals as goal
 

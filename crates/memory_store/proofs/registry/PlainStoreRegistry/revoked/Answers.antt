@@ -1,6 +1,4 @@
-use Rattle.std.proofs.Common.{ap}
-use Rattle.office.specs.Publication.{head_of}
-use Rattle.memory_store.specs.Contents.{MemoryContents, state_of}
+use Rattle.memory_store.proofs.Words.{MemoryContents, ap, head_of, state_of}
 use Rattle.memory_store.proofs.Parts.{shown}
 use Rattle.memory_store.proofs.registry.PlainStoreRegistry.revoked.Goals as goal
 

@@ -1,9 +1,5 @@
-use Rattle.std.proofs.Common.{◌≡◌, List, false, sym, ap, ◌∙◌}
-use Rattle.std.specs.List.{list_any}
+use Rattle.memory_store.proofs.Words.{Kept, List, MemoryContents, ap, false, has_key, list_any, sym, ◌∙◌, ◌≡◌}
 use Rattle.std.proofs.lemmas.Bool.{le-ltb, lt-ltb}
-use Rattle.office.specs.declared.arrival.Kept.{Kept}
-use Rattle.office.specs.History.{has_key}
-use Rattle.memory_store.specs.Contents.{MemoryContents}
 use Rattle.memory_store.proofs.Verdicts.{bad_moment, judges_by_decide}
 use Rattle.memory_store.proofs.store.PlainStore.admit.Goals as goal
 

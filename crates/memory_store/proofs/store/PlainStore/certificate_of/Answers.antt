@@ -1,8 +1,4 @@
-use Rattle.std.proofs.Common.{subst}
-use Rattle.std.specs.Prelude.{IfSome}
-use Rattle.office.specs.Certificates.{IsCertificate}
-use Rattle.office.specs.Machine.{certificate_of}
-use Rattle.memory_store.specs.Contents.{MemoryContents, state_of}
+use Rattle.memory_store.proofs.Words.{IfSome, IsCertificate, MemoryContents, certificate_of, state_of, subst}
 use Rattle.memory_store.proofs.Keeping.{issued_lawful}
 use Rattle.memory_store.proofs.store.PlainStore.certificate_of.Goals as goal
 

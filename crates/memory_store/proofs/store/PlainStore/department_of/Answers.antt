@@ -1,10 +1,8 @@
-use Rattle.std.proofs.Common.{◌≡◌, ℕ, List, Some, sym, ap, ap₂, ◌∙◌}
-use Rattle.std.specs.Prelude.{find, option_copied, option_and_then}
-use Rattle.message.specs.declared.department.Department.{Department}
+use Rattle.memory_store.proofs.Words.{Department, List, MemoryContents, Some, ap, ap₂, find, has_department_name}
+use Rattle.memory_store.proofs.Words.{option_copied, state_of, sym, ℕ, ◌∙◌, ◌≡◌}
+use Rattle.std.specs.Prelude.{option_and_then}
 use Rattle.office.specs.Concerns.{named_department}
 use Rattle.office.specs.Machine.{department_named}
-use Rattle.memory_store.specs.Departments.{has_department_name}
-use Rattle.memory_store.specs.Contents.{MemoryContents, state_of}
 use Rattle.office.proofs.Agreeing.{department_of_concerned, department_of_named}
 use Rattle.memory_store.proofs.Found.{find-entries, found_lawful}
 use Rattle.memory_store.proofs.store.PlainStore.department_of.Goals as goal

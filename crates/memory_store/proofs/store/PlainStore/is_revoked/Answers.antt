@@ -1,7 +1,6 @@
-use Rattle.std.proofs.Common.{sym, subst, ◌∙◌}
-use Rattle.std.specs.Prelude.{IsTrue, ◌↔◌}
-use Rattle.krl.specs.Sets.{HasAll, contains}
-use Rattle.memory_store.specs.Contents.{MemoryContents, state_of}
+use Rattle.memory_store.proofs.Words.{IsTrue, MemoryContents, contains, state_of, subst, sym, ◌∙◌}
+use Rattle.std.specs.Prelude.{◌↔◌}
+use Rattle.krl.specs.Sets.{HasAll}
 use Rattle.office.proofs.Ranges.{range_flag}
 use Rattle.office.proofs.Agreeing.{range_order, range_says}
 use Rattle.memory_store.proofs.store.PlainStore.is_revoked.Goals as goal

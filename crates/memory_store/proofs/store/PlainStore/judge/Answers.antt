@@ -1,5 +1,4 @@
-use Rattle.std.proofs.Common.{◌≡◌, ℕ, List, Some, subst}
-use Rattle.office.specs.Messages.{message_with_text}
+use Rattle.memory_store.proofs.Words.{List, Some, message_with_text, subst, ℕ, ◌≡◌}
 use Rattle.office.proofs.Texts.{read_is}
 use Rattle.memory_store.proofs.store.PlainStore.judge.Goals as goal
 

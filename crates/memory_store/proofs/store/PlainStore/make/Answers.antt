@@ -1,11 +1,10 @@
-use Rattle.std.proofs.Common.{◌≡◌, ℕ, ◌+◌, ◌≤◌, length, Bool, sym, ap, subst, ◌∙◌}
+use Rattle.memory_store.proofs.Words.{Bool, MemoryContents, State, ap, contains, length, state_of, subst, sym, ℕ, ◌+◌}
+use Rattle.memory_store.proofs.Words.{◌∙◌, ◌≡◌, ◌≤◌}
 use Rattle.std.specs.Prelude.{◌||◌}
 use Rattle.std.proofs.Math.Path.{fun_ext}
-use Rattle.krl.specs.Sets.{contains, is_within}
+use Rattle.krl.specs.Sets.{is_within}
 use Rattle.office.specs.declared.view.Change.{Change}
-use Rattle.office.specs.Machine.{State}
 use Rattle.office.specs.Decided.{HasRoom, IsLawfulChange, changed}
-use Rattle.memory_store.specs.Contents.{MemoryContents, state_of}
 use Rattle.memory_store.proofs.Keeping.{with_department, with_certificate, with_signature, with_ca}
 use Rattle.memory_store.proofs.store.PlainStore.make.Goals as goal
 

@@ -1,8 +1,5 @@
-use Rattle.std.proofs.Common.{List, subst}
+use Rattle.memory_store.proofs.Words.{AreParts, Ca, List, MemoryContents, subst}
 use Rattle.std.specs.Prelude.{IfOk}
-use Rattle.office.specs.declared.ca.Ca.{Ca}
-use Rattle.office.specs.Parts.{AreParts}
-use Rattle.memory_store.specs.Contents.{MemoryContents}
 use Rattle.memory_store.proofs.store.PlainStore.parts.Goals as goal
 
 pub returns : goal.returns

@@ -1,6 +1,5 @@
-use Rattle.std.proofs.Common.{ℕ, ◌+◌, length, sym, ap, ap₂, ◌∙◌}
+use Rattle.memory_store.proofs.Words.{MemoryContents, ap, ap₂, length, state_of, sym, ℕ, ◌+◌, ◌∙◌}
 use Rattle.office.specs.Machine.{has_any}
-use Rattle.memory_store.specs.Contents.{MemoryContents, state_of}
 use Rattle.office.proofs.Agreeing.{any_is, any_says}
 use Rattle.memory_store.proofs.store.PlainStore.view.Goals as goal
 

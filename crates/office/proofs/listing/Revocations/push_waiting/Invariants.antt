@@ -1,5 +1,4 @@
-use Rattle.std.proofs.Common.{◌≡◌, ◌++◌, take}
-use Rattle.office.specs.Listing.{waiting_rows}
+use Rattle.office.proofs.Words.{take, waiting_rows, ◌++◌, ◌≡◌}
 use Rattle.office.proofs.listing.Revocations.push_waiting.Given as goal
 
 abbrev pub invariant-loop-certificate : goal.invariant-loop-certificate

@@ -1,7 +1,4 @@
-use Rattle.std.proofs.Common.{◌+◌, ◌++◌, ◌∙◌, List, ap, length}
-use Rattle.office.specs.declared.certificate.Certificate.{Certificate}
-use Rattle.office.specs.History.{state}
-use Rattle.office.specs.Listing.{waiting_rows}
+use Rattle.office.proofs.Words.{Certificate, List, ap, length, state, waiting_rows, ◌++◌, ◌+◌, ◌∙◌}
 use Rattle.office.proofs.Registers.{preserves_both}
 use Rattle.office.proofs.Waiting.{all_batches, one_batch_more, pending_is}
 use Rattle.office.proofs.registry.Registry.pending.Goals as goal

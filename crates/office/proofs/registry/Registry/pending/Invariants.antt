@@ -1,9 +1,5 @@
-use Rattle.std.proofs.Common.{◌≡◌, ◌-◌, ◌≤◌, List, length, take}
-use Rattle.office.specs.declared.opening.Opening.{Opening}
-use Rattle.office.specs.declared.arrival.Arrival.{Arrival}
-use Rattle.office.specs.History.{state}
-use Rattle.office.specs.Listing.{AreRevocations, waiting_rows}
-use Rattle.office.specs.Registers.{Preserves}
+use Rattle.office.proofs.Words.{AreRevocations, Arrival, List, Opening, Preserves, length, state, take, waiting_rows}
+use Rattle.office.proofs.Words.{◌-◌, ◌≡◌, ◌≤◌}
 use Rattle.office.proofs.registry.Registry.pending.Given as goal
 
 abbrev pub invariant-batches : goal.invariant-batches

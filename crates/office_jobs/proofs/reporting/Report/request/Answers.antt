@@ -1,7 +1,4 @@
-use Rattle.std.proofs.Common.{codes, subst, sym}
-use Rattle.http_requests.specs.Asks.{Asks, get}
-use Rattle.office_jobs.specs.declared.reporting.Report.{Report}
-use Rattle.office_jobs.specs.Reporting.{resource_of}
+use Rattle.office_jobs.proofs.Words.{Asks, Report, codes, get, resource_of, subst, sym}
 use Rattle.office_jobs.proofs.Asking.{asks_signers, asks_table}
 use Rattle.office_jobs.proofs.reporting.Report.request.Goals as goal
 

@@ -1,5 +1,4 @@
-use Rattle.std.proofs.Common.{◌≡◌}
-use Rattle.std.specs.Io.KnownBytes.{Keeps}
+use Rattle.server.proofs.Words.{Keeps, ◌≡◌}
 use Rattle.server.proofs.timed.TimedSink.write.Given as goal
 
 abbrev pub invariant-tries : goal.invariant-tries

@@ -1,9 +1,5 @@
-use Rattle.std.proofs.Common.{arith}
-use Rattle.sqlite.specs.Held.{state}
-use Rattle.sqlite.specs.State.{HasCleanDisk}
+use Rattle.store.proofs.Words.{Had, HasCleanDisk, Waits, arith, migrated, state}
 use Rattle.store.proofs.Steps.{ends, left}
-use Rattle.store.specs.Transactions.{Waits}
-use Rattle.store.specs.Former.{Had, migrated}
 use Rattle.store.proofs.Judging.{judged_fault, judged_whole}
 use Rattle.store.proofs.Before.{concludes_before, fails_before}
 use Rattle.store.proofs.migration.migrating.migrate_whole.Goals as goal

@@ -1,13 +1,5 @@
-use Rattle.std.proofs.lemmas.Result.{err_from_is_err_and}
-use Rattle.std.proofs.Common.{List, Err, arith, subst, Ok}
-use Rattle.sqlite.specs.Held.{state}
-use Rattle.sqlite.specs.State.{HasCleanDisk}
-use Rattle.store_sql.specs.declared.offices.OfficeRow.{OfficeRow}
-use Rattle.store_sql.specs.Calls.{Never}
-use Rattle.store_sql.proofs.FirstTable.{means_offices}
-use Rattle.store_sql.proofs.Staying.{reads_stay, stays_then}
-use Rattle.store.specs.Former.{ca_of}
-use Rattle.store.specs.Migrating.{IsCaDue}
+use Rattle.store.proofs.Words.{Err, HasCleanDisk, IsCaDue, List, Never, OfficeRow, Ok, arith, ca_of}
+use Rattle.store.proofs.Words.{err_from_is_err_and, means_offices, reads_stay, state, stays_then, subst}
 use Rattle.store.proofs.Judging.{judged_filled, judged_rows}
 use Rattle.store.proofs.Moves.{filled, stays_told}
 use Rattle.store.proofs.migration.moving.fill.Goals as goal

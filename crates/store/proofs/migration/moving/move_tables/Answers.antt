@@ -1,15 +1,9 @@
-use Rattle.std.proofs.Common.{arith, refl}
-use Rattle.sqlite.specs.Held.{state}
-use Rattle.sqlite.specs.State.{HasCleanDisk}
+use Rattle.store.proofs.Words.{Had, HasCleanDisk, HasNoCa, HasStopped, WaitsAt, arith, migrated, refl, state}
+use Rattle.store.proofs.Words.{stays_then, without_ca}
 use Rattle.store.proofs.Steps.{answers_then, waits_then}
-use Rattle.store.specs.Former.{Had, migrated}
-use Rattle.store.specs.Migrating.{HasNoCa, HasStopped}
-use Rattle.store_sql.specs.Schema.{without_ca}
-use Rattle.store_sql.specs.Calls.{WaitsAt}
 use Rattle.store.proofs.Failing.{stopped_late}
 use Rattle.store.proofs.Judging.{judged_fault, judged_for}
 use Rattle.store.proofs.Moves.{made_leads, made_waits}
-use Rattle.store_sql.proofs.Staying.{stays_then}
 use Rattle.store.proofs.migration.moving.move_tables.Goals as goal
 
 pub returns-in-Ok : goal.returns-in-Ok

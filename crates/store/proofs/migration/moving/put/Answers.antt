@@ -1,6 +1,4 @@
-use Rattle.std.proofs.lemmas.Result.{err_from_is_err_and}
-use Rattle.std.proofs.Common.{inl, inr}
-use Rattle.store.specs.Migrating.{IsRefused}
+use Rattle.store.proofs.Words.{IsRefused, err_from_is_err_and, inl, inr}
 use Rattle.store.proofs.TransactionParts.{stopped_first, written, written_then}
 use Rattle.store.proofs.migration.moving.put.Goals as goal
 

@@ -1,8 +1,4 @@
-use Rattle.std.proofs.Common.{◌≡◌, ◌∙◌, ap}
-use Rattle.office.specs.State.{certificate_of}
-use Rattle.store_sql.specs.Changes.{certs_numbered}
-use Rattle.store.specs.Certificates.{certificate_in}
-use Rattle.store.specs.Rows.{cert_row}
+use Rattle.store.proofs.Words.{ap, cert_row, certificate_in, certificate_of, certs_numbered, ◌∙◌, ◌≡◌}
 use Rattle.store.proofs.Sorting.{rows_asked, rows_failed}
 use Rattle.store.proofs.Numbered.{asked, certificate_again, numbered}
 use Rattle.store.proofs.OneRow.{shows_one}

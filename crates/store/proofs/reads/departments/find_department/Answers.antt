@@ -1,7 +1,4 @@
-use Rattle.office.specs.State.{department_named}
-use Rattle.store_sql.specs.Changes.{departments_named}
-use Rattle.store.specs.Departments.{department_of_row}
-use Rattle.store.specs.Rows.{department_row}
+use Rattle.store.proofs.Words.{department_named, department_of_row, department_row, departments_named}
 use Rattle.store.proofs.NamedRow.{department_again, named}
 use Rattle.store.proofs.OneRow.{shows_one}
 use Rattle.store.proofs.Sorting.{rows_asked, rows_failed}

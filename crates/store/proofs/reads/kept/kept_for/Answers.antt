@@ -1,5 +1,4 @@
-use Rattle.std.proofs.Common.{◌∙◌}
-use Rattle.store.specs.Rows.{contents_of}
+use Rattle.store.proofs.Words.{contents_of, ◌∙◌}
 use Rattle.store.proofs.Keeping.{kept_found}
 use Rattle.store.proofs.Sorting.{rows_asked, rows_failed}
 use Rattle.store.proofs.reads.kept.kept_for.Goals as goal

@@ -1,5 +1,4 @@
-use Rattle.std.proofs.Common.{ap, sym, ◌∙◌}
-use Rattle.office.specs.State.{has_any}
+use Rattle.store.proofs.Words.{ap, has_any, sym, ◌∙◌}
 use Rattle.office.proofs.Agreeing.{any_is}
 use Rattle.store.proofs.Showing.{asks_shown, asks_failed}
 use Rattle.store.proofs.reads.key_ids.has_revoked_key_ids.Goals as goal

@@ -1,6 +1,4 @@
-use Rattle.std.proofs.Common.{◌∙◌}
-use Rattle.store_sql.specs.Changes.{is_same_key_id}
-use Rattle.store.specs.Rows.{contents_of}
+use Rattle.store.proofs.Words.{contents_of, is_same_key_id, ◌∙◌}
 use Rattle.store.proofs.Found.{any_found}
 use Rattle.store.proofs.Sorting.{rows_asked, rows_failed}
 use Rattle.store.proofs.reads.key_ids.is_key_id_revoked.Goals as goal

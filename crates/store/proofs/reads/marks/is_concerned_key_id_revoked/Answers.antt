@@ -1,5 +1,4 @@
-use Rattle.std.proofs.Common.{sym, ap, ◌∙◌}
-use Rattle.std.specs.Prelude.{option_copied}
+use Rattle.store.proofs.Words.{ap, option_copied, sym, ◌∙◌}
 use Rattle.office.specs.State.{is_key_id_revoked}
 use Rattle.office.proofs.Agreeing.{certificate_says, key_id_says, no_key_id_says}
 use Rattle.store.proofs.Showing.{asks_weaker, asks_nothing}

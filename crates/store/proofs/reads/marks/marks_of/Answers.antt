@@ -1,5 +1,4 @@
-use Rattle.std.proofs.Common.{Ok, refl, Err}
-use Rattle.std.specs.Prelude.{option_copied}
+use Rattle.store.proofs.Words.{Err, Ok, option_copied, refl}
 use Rattle.store.proofs.Marking.{first_flag, two_flags}
 use Rattle.store.proofs.Showing.{asks_shown, asks_failed}
 use Rattle.store.proofs.reads.marks.marks_of.Goals as goal

@@ -1,7 +1,5 @@
-use Rattle.std.proofs.Common.{◌<◌, subst, sym}
-use Rattle.std.specs.Prelude.{◌^◌}
+use Rattle.store.proofs.Words.{RiseFrom, subst, sym, ◌<◌, ◌^◌}
 use Rattle.std.proofs.lemmas.List.Elements.{recursion_from_All}
-use Rattle.store.specs.RunRows.{RiseFrom}
 use Rattle.store.proofs.Rising.{are_runs_from}
 use Rattle.store.proofs.reads.runs.read_runs.Goals as goal
 

@@ -1,10 +1,7 @@
-use Rattle.std.proofs.Common.{◌≡◌, ℕ, ◌+◌, ◌<◌, List, [], ◌∷◌, ◌++◌, length, get_or, take, sym, ap, subst, ◌∙◌}
-use Rattle.std.specs.Prelude.{All, ◌^◌}
-use Rattle.std.proofs.lemmas.List.{map-append, take_all, take_more}
-use Rattle.std.proofs.lemmas.List.Elements.{All-append, All-cons, All-nil}
-use Rattle.krl.specs.declared.run.Run.{Run}
-use Rattle.store_sql.specs.declared.runs.RunRow.{RunRow}
-use Rattle.store.specs.RunRows.{run_of, runs_of}
+use Rattle.store.proofs.Words.{All, All-cons, All-nil, List, Run, RunRow, [], ap, get_or, length, map-append, run_of}
+use Rattle.store.proofs.Words.{runs_of, subst, sym, take, take_all, ℕ, ◌++◌, ◌+◌, ◌<◌, ◌^◌, ◌∙◌, ◌∷◌, ◌≡◌}
+use Rattle.std.proofs.lemmas.List.{take_more}
+use Rattle.std.proofs.lemmas.List.Elements.{All-append}
 use Rattle.store.proofs.reads.runs.runs_of.Goals as goal
 
 one_more : (rows : List RunRow) (k : ℕ) (row : RunRow) (runs more : List Run) (run : Run) → k < length rows

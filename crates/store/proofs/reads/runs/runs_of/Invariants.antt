@@ -1,6 +1,4 @@
-use Rattle.std.proofs.Common.{◌≡◌, ◌<◌, take}
-use Rattle.std.specs.Prelude.{All, ◌^◌}
-use Rattle.store.specs.RunRows.{runs_of}
+use Rattle.store.proofs.Words.{All, runs_of, take, ◌<◌, ◌^◌, ◌≡◌}
 use Rattle.store.proofs.reads.runs.runs_of.Given as goal
 
 abbrev pub invariant-loop-row : goal.invariant-loop-row

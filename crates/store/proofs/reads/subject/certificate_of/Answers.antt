@@ -1,7 +1,6 @@
-use Rattle.std.proofs.Common.{sym, ◌∙◌, ap}
+use Rattle.store.proofs.Words.{ap, option_and_then, sym, ◌∙◌}
 use Rattle.store.proofs.Gathered.{certificate_found}
 use Rattle.store.proofs.Showing.{asks_weaker, asks_nothing}
-use Rattle.std.specs.Option.{option_and_then}
 use Rattle.office.specs.State.{certificate_of as certificate_at}
 use Rattle.store.proofs.reads.subject.certificate_of.Goals as goal
 

@@ -1,6 +1,4 @@
-use Rattle.std.proofs.Common.{sym, ap, ◌∙◌}
-use Rattle.std.specs.Prelude.{option_copied}
-use Rattle.office.specs.State.{department_named}
+use Rattle.store.proofs.Words.{ap, department_named, option_copied, sym, ◌∙◌}
 use Rattle.office.proofs.Agreeing.{department_of_concerned}
 use Rattle.store.proofs.Gathered.{department_found}
 use Rattle.store.proofs.Showing.{asks_weaker, asks_nothing}

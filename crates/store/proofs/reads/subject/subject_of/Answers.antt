@@ -1,5 +1,4 @@
-use Rattle.std.proofs.Common.{◌≡◌, ◌∙◌, refl}
-use Rattle.office.specs.Decided.{certificate_concerned}
+use Rattle.store.proofs.Words.{certificate_concerned, refl, ◌∙◌, ◌≡◌}
 use Rattle.store.specs.Concerning.{IsSubject}
 use Rattle.store.proofs.Showing.{asks_both, asks_shown, asks_failed}
 use Rattle.store.proofs.reads.subject.subject_of.Goals as goal

@@ -1,12 +1,8 @@
-use Rattle.std.proofs.Common.{◌≡◌, [], false, true, sym, ap, ◌∙◌, arith}
-use Rattle.std.specs.List.{list_any}
-use Rattle.std.proofs.lemmas.Bool.{both_ways}
-use Rattle.sqlite.specs.Schema.{Schema}
+use Rattle.store.proofs.Words.{RefusesOpening, Schema, [], ap, arith, both_ways, false, list_any, office_contents}
+use Rattle.store.proofs.Words.{state, sym, true, ◌∙◌, ◌≡◌}
 use Rattle.store_sql.specs.Look.{is_office_name, whole_has_tables}
-use Rattle.sqlite.specs.Held.{state}
 use Rattle.store.proofs.Before.{same_before}
-use Rattle.store.specs.Creating.{LeavesOnBlank, RefusesOpening}
-use Rattle.store.specs.Rows.{office_contents}
+use Rattle.store.specs.Creating.{LeavesOnBlank}
 use Rattle.store.proofs.ShortRows.{opening_fits}
 use Rattle.store.proofs.OfficeRows.{excused_unless}
 use Rattle.store.proofs.Telling.{keeps_telling, left_committed}

@@ -1,10 +1,8 @@
-use Rattle.std.proofs.Common.{◌≡◌, true, drop, sym, subst, ◌∙◌}
-use Rattle.std.specs.List.{list_any}
-use Rattle.sqlite.specs.Held.{Held, state}
-use Rattle.store_sql.specs.Look.{first_is_office, is_ca_name, is_office_table, whole_has_ca}
+use Rattle.store.proofs.Words.{Had, Tells, drop, former_contents, is_ca_name, is_office_table, list_any, migrated}
+use Rattle.store.proofs.Words.{state, subst, sym, true, ◌∙◌, ◌≡◌}
+use Rattle.sqlite.specs.Held.{Held}
+use Rattle.store_sql.specs.Look.{first_is_office, whole_has_ca}
 use Rattle.store_sql.specs.Schema.{whole}
-use Rattle.store.specs.Former.{Had, former_contents, migrated}
-use Rattle.store.specs.Meaning.{Tells}
 use Rattle.store.specs.Transactions.{Leaves}
 use Rattle.store.proofs.ShortRows.{first_ca_fits}
 use Rattle.store.proofs.OfficeRows.{excused_by_disk}

@@ -1,9 +1,4 @@
-use Rattle.std.proofs.Common.{refl, Err}
-use Rattle.sqlite.specs.Held.{state}
-use Rattle.store_sql.specs.Faults.{HasFailed}
-use Rattle.store_sql.proofs.FirstTable.{means_offices}
-use Rattle.store.specs.Rows.{office_contents}
-use Rattle.store.specs.Meaning.{DiskFailed}
+use Rattle.store.proofs.Words.{DiskFailed, Err, HasFailed, means_offices, office_contents, refl, state}
 use Rattle.store.proofs.OfficeRows.{looks_weaker, not_missed}
 use Rattle.store.proofs.Telling.{disk_failed}
 use Rattle.store.proofs.register.Store.open.Goals as goal

@@ -1,9 +1,4 @@
-use Rattle.std.proofs.lemmas.Cmp.{nat_cmp_total}
-use Rattle.std.specs.Ordering.{nat_cmp}
-use Rattle.store_sql.specs.Contents.{Contents}
-use Rattle.store_sql.specs.declared.cas.CaRow.{CaRow}
-use Rattle.office.specs.State.{State}
-use Rattle.store.specs.Reading.{ca_in}
+use Rattle.store.proofs.Words.{CaRow, Contents, State, ca_in, nat_cmp, nat_cmp_total}
 use Rattle.store.proofs.CaRows.{cas_again, cas_rise}
 use Rattle.store.proofs.Sorting.{shows_each, rows_asked, rows_failed}
 use Rattle.store.proofs.rows.cas.read_cas.Goals as goal

@@ -1,10 +1,5 @@
-use Rattle.std.proofs.Common.{filter}
-use Rattle.std.proofs.lemmas.Cmp.{nat_cmp_total}
-use Rattle.std.specs.Ordering.{nat_cmp}
+use Rattle.store.proofs.Words.{CertRow, State, certificate_in, filter, lies_within, nat_cmp, nat_cmp_total}
 use Rattle.store_sql.specs.Changes.{certs_within}
-use Rattle.store_sql.specs.declared.certs.CertRow.{CertRow}
-use Rattle.office.specs.State.{State}
-use Rattle.store.specs.Certificates.{certificate_in, lies_within}
 use Rattle.store.proofs.CertRows.{within_again, within_rise}
 use Rattle.store.proofs.Sorting.{shows_each, rows_asked, rows_failed}
 use Rattle.store.proofs.rows.certificate_rows.read_certificates.Goals as goal

@@ -1,5 +1,4 @@
-use Rattle.std.proofs.Common.{◌≡◌, ◌++◌, ◌∷◌, List, ℕ, ap, sym, ◌∙◌}
-use Rattle.lines.specs.Signers.{list_text}
+use Rattle.store.proofs.Words.{List, ap, list_text, sym, ℕ, ◌++◌, ◌∙◌, ◌∷◌, ◌≡◌}
 use Rattle.store.proofs.DepartmentRows.{following, following_more, following_none, joined_first}
 use Rattle.store.proofs.rows.department_rows.joined.Goals as goal
 

@@ -1,5 +1,4 @@
-use Rattle.std.proofs.Common.{◌≡◌, ◌++◌, drop}
-use Rattle.lines.specs.Signers.{list_text}
+use Rattle.store.proofs.Words.{drop, list_text, ◌++◌, ◌≡◌}
 use Rattle.store.proofs.DepartmentRows.{following}
 use Rattle.store.proofs.rows.department_rows.joined.Given as goal
 

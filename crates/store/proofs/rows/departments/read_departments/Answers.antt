@@ -1,14 +1,7 @@
-use Rattle.std.proofs.lemmas.Cmp.{nat_list_cmp_total}
-use Rattle.std.specs.Ordering.{nat_cmp}
-use Rattle.std.specs.Cmp.Lexicographic.{slice_cmp}
-use Rattle.std.specs.Prelude.{◌≡◌}
-use Rattle.std.proofs.Common.{Less}
+use Rattle.store.proofs.Words.{Contents, DepartmentRow, Less, department_of_row, department_row, nat_cmp}
+use Rattle.store.proofs.Words.{nat_list_cmp_total, slice_cmp, ◌≡◌}
 use Rattle.sqlite_trees.proofs.ListLemmas.{ascending-map}
-use Rattle.store_sql.specs.Contents.{Contents}
-use Rattle.store_sql.specs.declared.departments.DepartmentRow.{DepartmentRow}
 use Rattle.office.specs.Publication.{departments_of}
-use Rattle.store.specs.Departments.{department_of_row}
-use Rattle.store.specs.Rows.{department_row}
 use Rattle.store.proofs.DepartmentRows.{departments_again}
 use Rattle.store.proofs.Sorting.{shows_each, rows_asked, rows_failed}
 use Rattle.store.proofs.rows.departments.read_departments.Goals as goal

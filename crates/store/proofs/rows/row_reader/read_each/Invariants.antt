@@ -1,6 +1,4 @@
-use Rattle.std.proofs.Common.{◌≡◌, ◌++◌, drop}
-use Rattle.std.specs.Option.{option_map}
-use Rattle.store.specs.Reading.{each}
+use Rattle.store.proofs.Words.{drop, each, option_map, ◌++◌, ◌≡◌}
 use Rattle.store.proofs.rows.row_reader.read_each.Given as goal
 
 -- the values of all rows are those read so far, followed by those of the other rows

@@ -1,8 +1,5 @@
-use Rattle.std.proofs.Common.{inl, inr, sym, ap, ◌∙◌, Bool, cond, false}
-use Rattle.std.specs.Prelude.{is_some}
-use Rattle.std.specs.List.{list_any}
-use Rattle.std.proofs.lemmas.Result.{err_from_is_err_and}
-use Rattle.store_sql.specs.Changes.{is_same_key_id, with_revoked}
+use Rattle.store.proofs.Words.{Bool, ap, cond, err_from_is_err_and, false, inl, inr, is_same_key_id, is_some, list_any}
+use Rattle.store.proofs.Words.{sym, with_revoked, ◌∙◌}
 use Rattle.store.proofs.Found.{any_found}
 use Rattle.store.proofs.TransactionParts.{found_done, found_then, not_found, written}
 use Rattle.store.proofs.Once.{not_there}

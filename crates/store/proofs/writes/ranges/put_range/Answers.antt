@@ -1,9 +1,6 @@
-use Rattle.std.proofs.lemmas.Result.{err_from_is_err_and}
-use Rattle.std.proofs.Common.{ℕ, ap, subst, ◌∙◌}
-use Rattle.store_sql.specs.Runs.{last_run}
+use Rattle.store.proofs.Words.{RefusesJoined, ap, err_from_is_err_and, joined_low, last_run, subst, with_joined, ℕ, ◌∙◌}
 use Rattle.store.proofs.TransactionParts.{found_then, not_found}
-use Rattle.store.specs.Ranges.{joined_low, run_from, with_joined}
-use Rattle.store.specs.Refused.{RefusesJoined}
+use Rattle.store.specs.Ranges.{run_from}
 use Rattle.store.proofs.writes.ranges.put_range.Goals as goal
 
 pub returns : goal.returns

@@ -1,11 +1,6 @@
-use Rattle.sqlite.specs.Held.{state}
-use Rattle.store_sql.specs.Changes.{with_counters, with_request}
-use Rattle.store.specs.Rows.{contents_of}
-use Rattle.store.specs.Transactions.{Has}
+use Rattle.store.proofs.Words.{Has, IsDue, RefusesDecision, RefusesRows, contents_after, contents_of, state}
+use Rattle.store.proofs.Words.{with_change, with_counters, with_request}
 use Rattle.store.proofs.Causes.{fails_weaker}
-use Rattle.store.specs.Refused.{RefusesDecision, RefusesRows}
-use Rattle.store.specs.Changing.{with_change}
-use Rattle.store.specs.Due.{IsDue, contents_after}
 use Rattle.store.proofs.WrittenParts.{made, waited}
 use Rattle.store.proofs.Written.{due_holds}
 use Rattle.store.proofs.writes.writing.write.Goals as goal

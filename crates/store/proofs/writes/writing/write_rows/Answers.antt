@@ -1,11 +1,6 @@
-use Rattle.std.proofs.lemmas.Result.{err_from_is_err_and}
-use Rattle.std.proofs.Common.{inl, inr, refl}
-use Rattle.sqlite.specs.Held.{state}
-use Rattle.store_sql.specs.Contents.{Contents}
-use Rattle.store_sql.specs.Changes.{with_counters, with_request}
+use Rattle.store.proofs.Words.{Contents, RefusesChange, RefusesRows, err_from_is_err_and, inl, inr, refl, state}
+use Rattle.store.proofs.Words.{with_change, with_counters, with_request}
 use Rattle.store.proofs.TransactionParts.{part_then, stopped_first}
-use Rattle.store.specs.Changing.{with_change}
-use Rattle.store.specs.Refused.{RefusesChange, RefusesRows}
 use Rattle.store.proofs.WrittenParts.{leads_on}
 use Rattle.store.proofs.writes.writing.write_rows.Goals as goal
 
