@@ -28,7 +28,8 @@ abbrev pub RefusesNone : {A C : Type 0} → (conn last : C) → Result A JobFaul
 RefusesNone conn last r = (r ≡ Err (Store NotAnOffice)) × (last ≡ conn)
 
 -- The effect of a job on the tables and on the output, with this result.
-abbrev pub DoesOfficeJob : OfficeJob → (old new : State) → (held holds : Option (List ℕ)) → Result (Unit {0}) JobFault → Type 0
+abbrev pub DoesOfficeJob : OfficeJob → (old new : State) → (held holds : Option (List ℕ)) → Result (Unit {0}) JobFault
+    → Type 0
 DoesOfficeJob (Init opening) old new held holds r = MakesOffice opening.now old new r × (holds ≡ held)
 DoesOfficeJob (Apply exchanges) old new held holds r = Applies exchanges.now old new held holds r
 DoesOfficeJob Krl old new held holds r = PrintsKrl old new held holds r

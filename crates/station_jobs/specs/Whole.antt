@@ -34,7 +34,8 @@ Follows Used Nothing (Ok x) result = Used x result
 Follows Used Nothing (Err e) result = (result ≡ Err e) × Nothing
 
 -- A fault of the job is kept; if the job succeeded, a fault of closing is returned.
-abbrev pub closed : {A : Type 0} → Result A StationFault → (closing : Result (Unit {0}) StationFault) → Result A StationFault
+abbrev pub closed : {A : Type 0} → Result A StationFault → (closing : Result (Unit {0}) StationFault)
+    → Result A StationFault
 closed (Err e) closing = Err e
 closed (Ok x) (Ok done) = Ok x
 closed (Ok x) (Err e) = Err e
