@@ -1,5 +1,5 @@
 -- Retiring a guard over a register.
-use Rattle.std.proofs.Common.{◌≡◌, ◌<◌, ◌^◌, ℕ, Result, Ok, Err, inl, inr, refl}
+use Rattle.std.proofs.Common.{◌≡◌, ℕ, Result, Ok, Err, inl, inr, refl}
 use Rattle.guard.specs.declared.register.Register.{Ghosts}
 use Rattle.guard.specs.declared.register.RegisterFault.{RegisterFault}
 use Rattle.guard.specs.declared.register.RegisterFault.TheVariants as register
@@ -10,8 +10,8 @@ use Rattle.guard.specs.Retirement.{HasRetireCause, Retires as IsRetired, if_reti
 use Rattle.guard.specs.Retiring.{with_last}
 use Rattle.station_jobs.specs.Faults.{of_register, of_retiring}
 use Rattle.station_jobs.specs.Leaving.{HasCause, IsNext, Leaves, OfRetiring}
-use Rattle.station_jobs.specs.Whole.{Retires, RetiresTo}
-use Rattle.station_jobs.proofs.Leavings.{fails_same, register_cause}
+use Rattle.station_jobs.specs.Whole.{RetiresTo}
+use Rattle.station_jobs.proofs.Leavings.{register_cause}
 
 -- the state that may be left is a next state
 next_retired : (s : State) (last : ℕ) → IsNext (OfRetiring last) s (if_retired s (retirement s last))
