@@ -11,6 +11,7 @@ import re
 import shutil
 import signal
 import socket
+import stat
 import subprocess
 import time
 
@@ -20,7 +21,7 @@ from asking import (LAST_SERIAL, LATEST, blob_of, body, department, digest_of, i
                     revoke_range, rollover, string)
 from fetching import Web, response
 from recording import whole_request
-from running import EXAMPLES, free_port, is_listening, run, until
+from running import EXAMPLES, free_port, is_listening, loaded, run, until, write_secret
 from stations import Guard, Station, new_guard, new_station, stopped
 
 WEB = department("web", principals="alice", extensions="permit-pty")
@@ -421,12 +422,12 @@ def silent(address):
 def test_the_time_of_a_request_is_that_of_all_addresses(alone, room):
     """The first address doesn't answer, so the time is over before the second one begins to drip. The library goes on
     to the next address after each OSError."""
-    (room / "sitecustomize.py").write_text(TWO_ADDRESSES)
     with Dripping() as web, silent(("127.0.0.2", web.port)):
         begun = time.monotonic()
         station = Station(alone, f"http://front.test:{web.port}", alone.key)
+        changed_station(room, station, "\nimport requests\n", f"\nimport requests\n{TWO_ADDRESSES}")
         said = f"station: {station.url} doesn't answer: not within 20 seconds"
-        assert (1, [], [said]) == station.once(PYTHONPATH=str(room))
+        assert (1, [], [said]) == station.once()
         assert 19 < time.monotonic() - begun < 60 and [] == web.requests
 
 
@@ -593,16 +594,48 @@ def test_help(room):
      "no-key has another line than those of Ed25519 public keys"),
 ], ids=lambda it: " ".join(it) if isinstance(it, list) else "")
 def test_a_file_that_cannot_be_read_is_named(alone, room, key, why):
-    (room / "no-key").write_text("no key\n")
-    (room / "no-pin").write_bytes(b"\xff\0\n")
+    write_secret("no-key", "no key\n")
+    write_secret("no-pin", b"\xff\0\n")
     (room / "no-blob").write_text(f"ssh-ed25519 {'A' * 68}\n")
     environment = {"SSH_AUTH_SOCK": "nobody"}
     assert (1, [], [f"station: {why}"]) == Station(alone, "http://127.0.0.1:1", key).once(**environment)
 
 
+SECRETS = {"--key": ["--key", "secret"], "--pin-file": ["--pkcs11", "m", "--id", "01", "--pin-file", "secret"],
+           "--cert": ["--key", "no-key", "--cert", "secret"]}
+
+
+@pytest.mark.parametrize("key", SECRETS.values(), ids=SECRETS)
+@pytest.mark.parametrize("mode", ["640", "604", "620", "644", "400"])
+def test_a_secret_that_others_can_use_is_refused(alone, room, key, mode):
+    write_secret("no-key", "no key\n")
+    write_secret("secret", b"\0\n")
+    (room / "secret").chmod(int(mode, 8))
+    with Web(response(b"")) as web:
+        status, out, errors = Station(alone, web.url, key).once()
+    said = [f"station: secret has mode {mode}, which lets others use it: chmod 600 secret"]
+    assert (status, out, errors == said) == ((1, [], True) if mode != "400" else (status, [], False))
+
+
+@pytest.mark.parametrize("owner, mode, user, is_taken", [
+    (1000, 0o600, 1000, True), (1000, 0o440, 1000, False), (1000, 0o404, 1000, False), (0, 0o600, 0, True),
+    (0, 0o440, 0, False), (0, 0o440, 1000, True), (0, 0o660, 1000, False), (0, 0o444, 1000, False),
+    (1001, 0o440, 1000, False),
+])
+def test_root_may_give_a_service_a_secret_by_its_group(room, monkeypatch, owner, mode, user, is_taken):
+    """So systemd does with a credential, by an access list, which shows as the group's mode."""
+    station = loaded(EXAMPLES / "station")
+    write_secret("secret", "")
+    found = os.stat_result([stat.S_IFREG | mode, 0, 0, 1, owner, owner, *[0] * 4])
+    monkeypatch.setattr(station.os, "stat", lambda path: found)
+    monkeypatch.setattr(station.os, "getuid", lambda: user)
+    with contextlib.nullcontext() if is_taken else pytest.raises(station.Fault, match="lets others use it"):
+        station.check_secret("secret")
+
+
 @pytest.mark.parametrize("missing", ["sshstation", "openssl", "pkcs11-tool"])
 def test_a_program_that_is_missing_is_named(alone, room, missing):
-    (room / "pin").write_text("1234\n")
+    write_secret("pin", "1234\n")
     for program in {"sshstation", "openssl", "pkcs11-tool"} - {missing}:
         (room / "bin").mkdir(exist_ok=True)
         (room / "bin" / program).symlink_to("/bin/true")
@@ -656,6 +689,27 @@ def test_a_station_goes_on(asked, programs, room):
     assert 200 == asked.get("/v1/certs/2").status
     said = ["station: not signed: 1, refused as NotPermitted: 2"]
     assert (0, [], said) == stopped(process)
+
+
+def test_a_station_whose_temporary_files_are_removed_goes_on(asked, programs, room):
+    """As a program does that looks for old ones, with their folder. Until there is a folder again, nothing is
+    signed."""
+    new_key("alice")
+    folder = room / "temporary"
+    folder.mkdir()
+    process = asked.station.begin(programs, env=asked.station.environment | {"TMPDIR": str(folder)})
+    for serial in (1, 2):
+        assert serial == issued(asked, "alice")
+        until(lambda: asked.get(f"/v1/certs/{serial}").status == 200, seconds=20)
+        assert [] == [*folder.iterdir()]
+    folder.rmdir()
+    assert 3 == issued(asked, "alice")
+    said = "station: not signed: 1, no temporary folder can be made: No such file or directory: 3"
+    assert f"{said}\n".encode() == process.stderr.readline()
+    time.sleep(3)
+    folder.mkdir()
+    until(lambda: asked.get("/v1/certs/3").status == 200, seconds=20)
+    assert (0, ["signed 1", "signed 2", "signed 3"], []) == stopped(process)
 
 
 def test_a_station_waits_for_an_office_that_is_away(sshstation, office, programs):
@@ -862,7 +916,7 @@ def token(room):
     # The point is the 32 bytes of the key, as a string of ASN.1.
     point = re.search(r"EC_POINT:\s+0420([0-9a-f]{64})", shown_key)[1]
     blob = string(b"ssh-ed25519") + string(bytes.fromhex(point))
-    (room / "pin").write_text("12345678\n")
+    write_secret("pin", "12345678\n")
     return f"ssh-ed25519 {base64.b64encode(blob).decode()} in a token\n", environment
 
 
@@ -878,7 +932,7 @@ def test_a_key_in_a_token_signs(make_office, sshstation, sshd, token, room):
     ("01", "11111111", "CKR_PIN_INCORRECT")], ids=["no such key", "another PIN"])
 def test_a_token_that_does_not_sign_is_said(sshstation, make_office, token, room, key_id, pin, why):
     line, environment = token
-    (room / "pin").write_text(f"{pin}\n")
+    write_secret("pin", f"{pin}\n")
     guard = new_guard(sshstation, make_office(ca=line), policy=WEB)
     with FalseOffice({1: body(ca=blob_of(line))}) as false:
         made = Station(guard, false.url, ["--pkcs11", MODULE, "--id", key_id, "--pin-file", "pin"])
