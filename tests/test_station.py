@@ -431,6 +431,16 @@ def test_the_time_of_a_request_is_that_of_all_addresses(alone, room):
         assert 19 < time.monotonic() - begun < 60 and [] == web.requests
 
 
+def test_what_is_another_text_each_time_is_left_out():
+    """So that a reason is reported once: the name of a temporary folder, and an object's place in memory."""
+    printable = loaded(EXAMPLES / "station").printable
+    for said, due in {"[Errno 2] No such file: '/tmp/station-ab_cd123/body'": "[Errno 2] No such file: 'body'",
+                      "['openssl', PosixPath('/var/tmp/station-abcd1234/body')]": "['openssl', PosixPath('body')]",
+                      "<Connection object at 0x7f00ab> failed": "<Connection> failed",
+                      "/etc/station-key is \x1b[2J": "/etc/station-key is ?[2J"}.items():
+        assert due == printable(said)
+
+
 def test_the_url_is_taken_as_it_is(alone):
     with Web(response(b"no", "404 Not Found")) as web:
         Station(alone, f"{web.url}/{{a,b}}[1-3]", alone.key).once()
@@ -585,7 +595,7 @@ def test_help(room):
     (["--key", "none"], "can't read none"),
     (["--agent", "none"], "can't read none: No such file or directory"),
     (["--agent", "no-key"], "no-key has another line than those of Ed25519 public keys"),
-    (["--pkcs11", "m", "--id", "01", "--pin-file", "none"], "can't read none: No such file or directory"),
+    (["--pkcs11", "m", "--id", "01", "--pin-file", "none"], "can't read none"),
     (["--pkcs11", "m", "--id", "01", "--pin-file", "no-pin"], "the first line of no-pin is no PIN"),
     (["--key", "no-key", "--other-ca", "no-blob"], "no-blob has another line than those of Ed25519 public keys"),
     (["--key", "no-key", "--cacert", "none"], "can't read none"),
@@ -691,25 +701,32 @@ def test_a_station_goes_on(asked, programs, room):
     assert (0, [], said) == stopped(process)
 
 
-def test_a_station_whose_temporary_files_are_removed_goes_on(asked, programs, room):
-    """As a program does that looks for old ones, with their folder. Until there is a folder again, nothing is
-    signed."""
-    new_key("alice")
+def test_a_station_whose_temporary_files_are_removed_goes_on(alone, programs, room):
+    """A program that looks for old files removes what lies there for long. Without a folder to make any in, nothing is
+    signed, and that is said once."""
+    bodies = {serial: body(serial, ca=alone.blob) for serial in (1, 2)}
     folder = room / "temporary"
     folder.mkdir()
-    process = asked.station.begin(programs, env=asked.station.environment | {"TMPDIR": str(folder)})
-    for serial in (1, 2):
-        assert serial == issued(asked, "alice")
-        until(lambda: asked.get(f"/v1/certs/{serial}").status == 200, seconds=20)
-        assert [] == [*folder.iterdir()]
-    folder.rmdir()
-    assert 3 == issued(asked, "alice")
-    said = "station: not signed: 1, no temporary folder can be made: No such file or directory: 3"
-    assert f"{said}\n".encode() == process.stderr.readline()
-    time.sleep(3)
-    folder.mkdir()
-    until(lambda: asked.get("/v1/certs/3").status == 200, seconds=20)
-    assert (0, ["signed 1", "signed 2", "signed 3"], []) == stopped(process)
+    with FalseOffice(bodies, []) as web:
+        station = Station(alone, web.url, alone.key, ahead=3600)
+        process = station.begin(programs, env=station.environment | {"TMPDIR": str(folder)})
+
+        def pends(serial):
+            web.rows = f"{serial} {digest_of(bodies[serial])}\n"
+        pends(1)
+        until(lambda: web.delivered, seconds=60)
+        web.rows = ""
+        until(lambda: [] == [*folder.iterdir()], seconds=60)
+        folder.rmdir()
+        pends(2)
+        said = b"station: not signed: 1, no temporary folder can be made: No such file or directory: 2\n"
+        assert said == process.stderr.readline()
+        count = len(web.requests)
+        until(lambda: len(web.requests) > count + 3, seconds=60)
+        folder.mkdir()
+        until(lambda: web.delivered[-1].startswith("deliver 2\n"), seconds=60)
+        status, out, errors = stopped(process)
+    assert (0, {"signed 1", "signed 2"}, []) == (status, {*out}, errors)
 
 
 def test_a_station_waits_for_an_office_that_is_away(sshstation, office, programs):
