@@ -43,8 +43,8 @@ SITES, AT_ONCE = 1, 2
 MEMORY_OF_SITE = 6_000_000_000
 DOOR = "unix:/run/office-door.sock"
 LOG = "/run/office-way/way.log"
-# A line of it: the moment of the answer, its status, the request, the doors that were asked, and the seconds of each. 499
-# stands for a client that didn't wait.
+# A line of it: the moment of the answer, its status, the request, the doors that were asked, and the seconds of each.
+# 499 stands for a client that didn't wait.
 LINE = re.compile(r'(\d+\.\d+) (?:200|4[0-8]\d) "(\w+) [^"]*" "(?:[^"]*, )?' + DOOR
                   + r'" "(?:[^"]*, )?(\d+\.\d+)"')
 LISTENING = re.compile(r"^(\d+\.\d+) \S+ office-waiting\[\d+\]: listening 8022$", re.M)

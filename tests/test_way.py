@@ -5,6 +5,7 @@ import http.server
 import os
 import pathlib
 import pwd
+import shutil
 import socket
 import socketserver
 import subprocess
@@ -51,9 +52,10 @@ class Machine:
 
     def begin(self, programs, other):
         """Starts nginx with the files of examples/volume, in this machine's folder."""
-        edits = {"way.conf": [("/usr/lib/nginx/modules/ngx_http_js_module.so", MODULE), ("/etc/vethlumi/way", self.folder),
-                              ("/run/office-door.sock", self.folder / "door.sock"), ("/run/office-way", self.folder),
-                              ("OTHER:8444", f"127.0.0.1:{other.port}"), ("listen 8444", f"listen 127.0.0.1:{self.port}")],
+        edits = {"way.conf": [("/etc/vethlumi/way", self.folder), ("/run/office-way", self.folder),
+                              ("/run/office-door.sock", self.folder / "door.sock"),
+                              ("OTHER:8444", f"127.0.0.1:{other.port}"),
+                              ("listen 8444", f"listen 127.0.0.1:{self.port}")],
                  "way.js": [("/run/office-volume", self.folder / "run")]}
         for file, changes in edits.items():
             text = (EXAMPLES / "volume" / file).read_text()
@@ -100,11 +102,10 @@ def machines(tmp_path, programs):
     if not MODULE.exists():
         left_out(f"{MODULE} isn't there: the package libnginx-mod-http-js has it")
     made = [Machine(tmp_path, "one", free_port()), Machine(tmp_path, "two", free_port())]
-    openssl = ["openssl", "req", "-x509", "-newkey", "ed25519", "-nodes", "-subj", "/CN=way"]
+    subprocess.run([EXAMPLES / "volume/office-volume", "key"], check=True, capture_output=True, cwd=tmp_path)
     for it in made:
-        files = ["-keyout", it.folder / "way.key", "-out", it.folder / "way.crt"]
-        subprocess.run([*openssl, *files] if it is made[0] else ["cp", "-t", it.folder, *made[0].folder.glob("way.[kc]*")],
-                       check=True, capture_output=True)
+        for file in ("way.key", "way.crt"):
+            shutil.copy(tmp_path / file, it.folder)
     for it, other in zip(made, reversed(made)):
         it.begin(programs, other)
     yield made
