@@ -94,12 +94,18 @@ class Site(boxes.Rack):
             out.mkdir(parents=True)
             shutil.copy2(self.program, out / "sshoffice")
 
-    def type(self, heading):
-        """Types the commands below a heading of the page."""
+    def type(self, heading, names=None, has=""):
+        """Types the commands below a heading of the page: all blocks, or those that have a text. `names` has machines
+        that are meant, by the machines of the page, of which some are left out if their name is None."""
+        names = {it: it for it in MACHINES} | (names or {})
         for block in pages.blocks(pages.section((TOP / "docs/GROWING.md").read_text(), heading)):
-            if block.machine not in self.shells:
-                self.shells[block.machine] = boxes.Shell(self.boxes[block.machine])
-            self.shells[block.machine].run(block.commands)
+            name = names[block.machine]
+            if not name or has not in block.commands:
+                continue
+            if name not in self.shells:
+                self.shells[name] = boxes.Shell(self.boxes[name])
+            commands = re.sub(rf"\b({'|'.join(VOLUME)})(?=\.example\.org)", lambda it: names[it[1]], block.commands)
+            self.shells[name].run(commands)
 
     def leave_shells(self):
         for it in self.shells.values():
@@ -119,11 +125,14 @@ class Site(boxes.Rack):
         for it in ("admin", "station"):
             self.boxes[it].pull_the_plug()
         for it in self.pair():
-            # The callers of these tests are more than a front lets through, and the answers are written down.
-            it.run("sed -i 's/rate=20r/rate=2000r/' /etc/vethlumi/front/nginx.conf; systemctl reload office-front")
-            it.run(f"sed -i 's#access_log off;#access_log {LOG} way; log_subrequest on;#' /etc/vethlumi/way/way.conf; "
-                   "systemctl restart office-way")
+            self.have_answers_written(it)
         until(self.serving, seconds=180)
+
+    def have_answers_written(self, box):
+        """The callers of these tests are more than a front lets through, and the answers are written down."""
+        box.run("sed -i 's/rate=20r/rate=2000r/' /etc/vethlumi/front/nginx.conf; systemctl reload office-front")
+        box.run(f"sed -i 's#access_log off;#access_log {LOG} way; log_subrequest on;#' /etc/vethlumi/way/way.conf; "
+                "systemctl restart office-way")
 
     def pair(self):
         return [self.boxes[it] for it in ("one", "two")]
@@ -739,6 +748,43 @@ def test_a_machine_is_replaced(site, become_new, request):
         site.boxes["admin"].pull_the_plug()
         until_well(site, site.is_healed)
         site.compare_copies()
+    assert not errors(calling.since(0), request.config.getoption("--patience"))
+
+
+def test_a_machine_with_an_office_is_replaced(site, request):
+    """The same for the machine that serves, in whose place a new one comes."""
+    until_well(site, site.is_well)
+    until_well(site, site.is_healed)
+    with asked(site) as calling:
+        box = until(site.serving, seconds=60)
+        other, admin = site.other(box), site.boxes["admin"]
+        site.renew(box)
+        admin.start()
+        admin.wait_until_up()
+        names = {"three": box.name, "one": other.name}
+        site.type("A new machine", names)
+        site.type("Three machines", {it: None for it in MACHINES} | {box.name: box.name}, has="nginx-light")
+        site.type("A new machine with an office", {"two": box.name, "one": other.name})
+        site.leave_shells()
+        admin.pull_the_plug()
+        site.have_answers_written(box)
+        until_well(site, site.is_healed)
+        until_well(site, site.is_well)
+        site.compare_copies()
+    assert not errors(calling.since(0), request.config.getoption("--patience"))
+
+
+def test_the_program_is_updated(site, request):
+    """The page's commands, first on the machine that waits and then on the one that serves: the other takes over."""
+    until_well(site, site.is_well)
+    programs = "crates/sshoffice/out/sshoffice examples/volume/office-{volume,waiting}"
+    with asked(site) as calling:
+        serving = until(site.serving, seconds=60)
+        for box in (site.other(serving), serving):
+            box.run(f"cd vethlumi; install -m 755 {programs} /usr/local/bin; systemctl daemon-reload; "
+                    "systemctl restart office office-watch; systemctl reload office-way")
+            until_well(site, site.is_well)
+        assert site.other(serving) == site.serving()
     assert not errors(calling.since(0), request.config.getoption("--patience"))
 
 
