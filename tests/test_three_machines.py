@@ -36,11 +36,10 @@ from running import TOP, left_out, until
 pytestmark = [pytest.mark.boxes, pytest.mark.root, pytest.mark.slow, pytest.mark.alone, pytest.mark.volume]
 VOLUME = ["one", "two", "three"]
 MACHINES = [*VOLUME, "admin", "station"]
-# Sets of machines that have their faults side by side, since a round mostly waits. Each takes 6 GB of memory. Linux
-# gives root 128 instances of inotify, of which a box takes seven: so at most two sets are made at once, with five boxes
-# each. Later each has three.
-SITES, AT_ONCE = 1, 2
-MEMORY_OF_SITE = 6_000_000_000
+# Sets of machines may have their faults side by side, since a round mostly waits. Each takes so much memory. Linux gives
+# root 128 instances of inotify, of which a box takes seven: so at most two sets are made at once, with five boxes each.
+# Later each has three.
+MEMORY_OF_SITE, AT_ONCE = 6_000_000_000, 2
 DOOR = "unix:/run/office-door.sock"
 LOG = "/run/office-way/way.log"
 # A line of it: the moment of the answer, its status, the request, the doors that were asked, and the seconds of each.
@@ -410,8 +409,9 @@ def base(tmp_path_factory, request):
     if not request.config.getoption("--rounds"):
         left_out("--rounds N says how many faults there are to be")
     free = int(re.search(r"^MemAvailable: +(\d+) kB$", pathlib.Path("/proc/meminfo").read_text(), re.M)[1]) * 1024
-    if free < SITES * MEMORY_OF_SITE:
-        left_out(f"{free / 1e9:.1f} GB of memory are free, and the machines take {SITES * MEMORY_OF_SITE / 1e9:.0f}")
+    wanted = request.config.getoption("--sites") * MEMORY_OF_SITE
+    if free < wanted:
+        left_out(f"{free / 1e9:.1f} GB of memory are free, and the machines take {wanted / 1e9:.0f}")
     try:
         folder = boxes.prepare(*boxes.OF_VOLUME)
         rack = boxes.Rack(tmp_path_factory.mktemp("probe"), folder)
@@ -428,7 +428,7 @@ def base(tmp_path_factory, request):
 def sites(base, program, tmp_path_factory, request):
     made = []
     try:
-        for _ in range(min(SITES, request.config.getoption("--rounds"))):
+        for _ in range(min(request.config.getoption("--sites"), request.config.getoption("--rounds"))):
             made.append(Site(tmp_path_factory.mktemp("site"), base, program))
         with ThreadPoolExecutor(AT_ONCE) as pool:
             [*pool.map(Site.set_up, made)]
