@@ -35,6 +35,8 @@ def pytest_addoption(parser):
                     help="after how many minutes none of these faults begins any more (0: all of them do)")
     group.addoption("--patience", type=int, default=1,
                     help="how many times as long as promised a takeover may take, beside other work (1)")
+    group.addoption("--sites", type=int, default=1,
+                    help="how many sets of machines have these faults side by side, each with 6 GB of memory (1)")
     group.addoption("--judgements", type=int, default=100_000,
                     help="how many random bodies test_guard has judged (100000)")
     group.addoption("--pieces", type=int, default=1000, help="how many random requests test_pieces sends (1000)")

@@ -36,20 +36,19 @@ from running import TOP, left_out, until
 pytestmark = [pytest.mark.boxes, pytest.mark.root, pytest.mark.slow, pytest.mark.alone, pytest.mark.volume]
 VOLUME = ["one", "two", "three"]
 MACHINES = [*VOLUME, "admin", "station"]
-# Sets of machines that have their faults side by side, since a round mostly waits. Each takes 6 GB of memory. Linux
-# gives root 128 instances of inotify, of which a box takes seven: so at most two sets are made at once, with five boxes
-# each. Later each has three.
-SITES, AT_ONCE = 1, 2
-MEMORY_OF_SITE = 6_000_000_000
+# Sets of machines may have their faults side by side, since a round mostly waits. Each takes so much memory. Linux gives
+# root 128 instances of inotify, of which a box takes seven: so at most two sets are made at once, with five boxes each.
+# Later each has three.
+MEMORY_OF_SITE, AT_ONCE = 6_000_000_000, 2
 DOOR = "unix:/run/office-door.sock"
 LOG = "/run/office-way/way.log"
 # A line of it: the moment of the answer, its status, the request, the doors that were asked, and the seconds of each.
-LINE = re.compile(r'(\d+\.\d+) 200 "(\w+) [^"]*" "(?:[^"]*, )?' + DOOR + r'" "(?:[^"]*, )?(\d+\.\d+)"')
+# 499 stands for a client that didn't wait.
+LINE = re.compile(r'(\d+\.\d+) (?:200|4[0-8]\d) "(\w+) [^"]*" "(?:[^"]*, )?' + DOOR
+                  + r'" "(?:[^"]*, )?(\d+\.\d+)"')
 LISTENING = re.compile(r"^(\d+\.\d+) \S+ office-waiting\[\d+\]: listening 8022$", re.M)
-# For how many seconds an office may still answer what it is asked, after the other one began to serve, or after it came
-# back from where it couldn't be reached. A page comes from memory, until the old office is ended. With `--patience N`
-# that may take N times as long.
-OVERLAP = {"POST": 0, "GET": 25}
+# For how many seconds after a sign the office of a machine is asked (examples/volume/office-volume).
+LEASE = 5
 # The journal has the line of a server that began to listen a moment later, on a busy machine some seconds.
 LAG = 10
 Answer = collections.namedtuple("Answer", "asked answered machine method")
@@ -63,7 +62,7 @@ class Site(boxes.Rack):
     def __init__(self, room, base, program, disk=None):
         super().__init__(room, base)
         self.program, self.disk, self.shells = program, disk, {}
-        self.answers, self.reigns, self.read, self.backs, self.patience = set(), [], {}, [], 1
+        self.answers, self.reigns, self.read = set(), [], {}
         # The callers are on the same network.
         assert not self.enter("ip", "address", "add", "10.80.0.1/24", "dev", "rack").wait()
 
@@ -94,12 +93,18 @@ class Site(boxes.Rack):
             out.mkdir(parents=True)
             shutil.copy2(self.program, out / "sshoffice")
 
-    def type(self, heading):
-        """Types the commands below a heading of the page."""
+    def type(self, heading, names=None, has=""):
+        """Types the commands below a heading of the page: all blocks, or those that have a text. `names` has machines
+        that are meant, by the machines of the page, of which some are left out if their name is None."""
+        names = {it: it for it in MACHINES} | (names or {})
         for block in pages.blocks(pages.section((TOP / "docs/GROWING.md").read_text(), heading)):
-            if block.machine not in self.shells:
-                self.shells[block.machine] = boxes.Shell(self.boxes[block.machine])
-            self.shells[block.machine].run(block.commands)
+            name = names[block.machine]
+            if not name or has not in block.commands:
+                continue
+            if name not in self.shells:
+                self.shells[name] = boxes.Shell(self.boxes[name])
+            commands = re.sub(rf"\b({'|'.join(VOLUME)})(?=\.example\.org)", lambda it: names[it[1]], block.commands)
+            self.shells[name].run(commands)
 
     def leave_shells(self):
         for it in self.shells.values():
@@ -119,11 +124,14 @@ class Site(boxes.Rack):
         for it in ("admin", "station"):
             self.boxes[it].pull_the_plug()
         for it in self.pair():
-            # The callers of these tests are more than a front lets through, and the answers are written down.
-            it.run("sed -i 's/rate=20r/rate=2000r/' /etc/vethlumi/front/nginx.conf; systemctl reload office-front")
-            it.run(f"sed -i 's#access_log off;#access_log {LOG} way; log_subrequest on;#' /etc/vethlumi/way/way.conf; "
-                   "systemctl restart office-way")
+            self.have_answers_written(it)
         until(self.serving, seconds=180)
+
+    def have_answers_written(self, box):
+        """The callers of these tests are more than a front lets through, and the answers are written down."""
+        box.run("sed -i 's/rate=20r/rate=2000r/' /etc/vethlumi/front/nginx.conf; systemctl reload office-front")
+        box.run(f"sed -i 's#access_log off;#access_log {LOG} way; log_subrequest on;#' /etc/vethlumi/way/way.conf; "
+                "systemctl restart office-way")
 
     def pair(self):
         return [self.boxes[it] for it in ("one", "two")]
@@ -170,10 +178,7 @@ class Site(boxes.Rack):
         """Answers of a machine to what it was asked after the other one had begun to serve."""
         found, begun = [], [it.begun for it in self.reigns]
         for it in self.answers:
-            overlap = self.patience * OVERLAP[it.method]
-            if it.method == "GET" and any(0 < it.answered - back < overlap for back in self.backs):
-                continue
-            first = bisect.bisect_left(begun, it.asked - overlap)
+            first = bisect.bisect_left(begun, it.asked)
             last = bisect.bisect_right(begun, it.answered + LAG)
             if it.machine not in {reign.machine for reign in self.reigns[max(0, first - 1):last]}:
                 found.append(it)
@@ -300,7 +305,7 @@ class Site(boxes.Rack):
         """Writes down what the machines have after a round that failed, and returns where."""
         place = self.room / "evidence"
         place.mkdir(exist_ok=True)
-        (place / "seen.json").write_text(json.dumps([self.reigns, self.backs]))
+        (place / "seen.json").write_text(json.dumps([self.reigns, sorted(self.answers)]))
         for name in VOLUME:
             box, kept = self.boxes[name], place / name
             shutil.copytree(box.files / "var/log/ceph", kept / "log", dirs_exist_ok=True)
@@ -404,8 +409,9 @@ def base(tmp_path_factory, request):
     if not request.config.getoption("--rounds"):
         left_out("--rounds N says how many faults there are to be")
     free = int(re.search(r"^MemAvailable: +(\d+) kB$", pathlib.Path("/proc/meminfo").read_text(), re.M)[1]) * 1024
-    if free < SITES * MEMORY_OF_SITE:
-        left_out(f"{free / 1e9:.1f} GB of memory are free, and the machines take {SITES * MEMORY_OF_SITE / 1e9:.0f}")
+    wanted = request.config.getoption("--sites") * MEMORY_OF_SITE
+    if free < wanted:
+        left_out(f"{free / 1e9:.1f} GB of memory are free, and the machines take {wanted / 1e9:.0f}")
     try:
         folder = boxes.prepare(*boxes.OF_VOLUME)
         rack = boxes.Rack(tmp_path_factory.mktemp("probe"), folder)
@@ -422,7 +428,7 @@ def base(tmp_path_factory, request):
 def sites(base, program, tmp_path_factory, request):
     made = []
     try:
-        for _ in range(min(SITES, request.config.getoption("--rounds"))):
+        for _ in range(min(request.config.getoption("--sites"), request.config.getoption("--rounds"))):
             made.append(Site(tmp_path_factory.mktemp("site"), base, program))
         with ThreadPoolExecutor(AT_ONCE) as pool:
             [*pool.map(Site.set_up, made)]
@@ -506,7 +512,6 @@ def one_round(site, calling, name, patience=1):
     time.sleep(max(STAYS if backs else 0, wait - (time.time() - moment)))
     for it in backs:
         it()
-        site.backs.append(time.time())
     until_well(site, site.is_well)
     time.sleep(0.5)
     calling.tell("rest")
@@ -579,7 +584,7 @@ class Rounds:
             return self.waiting.get_nowait()
 
     def on(self, site):
-        calling, name, site.patience = Calling(site), "before the first fault", self.patience
+        calling, name = Calling(site), "before the first fault"
         try:
             until(lambda: calling.since(0), seconds=180)
             while following := self.next():
@@ -647,6 +652,65 @@ def test_each_setting_is_looked_at(site, wrong, said, right):
     until_well(site, site.is_well)
 
 
+def gives_page(box, socket):
+    """Whether a page comes from a socket of a box."""
+    how = f"--max-time 2 --unix-socket {socket} http://office/v1/cas"
+    return "200" == box.run(f"curl -s -o /dev/null -w '%{{http_code}}' {how}", check=False).stdout
+
+
+def stop_watch(_, box):
+    box.run("systemctl stop office-watch")
+    return lambda: box.run("systemctl start office-watch")
+
+
+@pytest.mark.parametrize("silence", [Site.freeze_mount, stop_watch])
+def test_who_gives_no_sign_answers_nobody(site, silence):
+    """An office whose machine gives no sign goes on giving pages from its memory. But the way leads nobody to it, also
+    before the other one serves."""
+    until_well(site, site.is_well)
+    box = until(site.serving, seconds=60)
+    other = site.other(box)
+    assert gives_page(box, "/run/office-way/way.sock")
+    back = silence(site, box)
+    moment, itself, led = time.time(), [], []
+    while other not in site.listening() and time.time() < moment + 60:
+        itself.append((time.time(), gives_page(box, DOOR.removeprefix("unix:"))))
+        led.append((time.time(), gives_page(box, "/run/office-way/way.sock")))
+        time.sleep(0.5)
+    over = time.time()
+    print(f"the other one serves after {over - moment:.1f} s")
+    until(lambda: gives_page(box, "/run/office-way/way.sock"), seconds=60)
+    said = box.run("office-volume check", check=False)
+    back()
+    assert 1 == said.returncode and "this machine gives no sign" in said.stdout
+    late = moment + LEASE
+    assert any(given for when, given in itself if when > late), "no page in memory"
+    assert not any(given for when, given in led[:-1] if when > late)
+    until_well(site, site.is_well)
+    assert not [it for it in site.answers if it.machine == box.name and late < it.asked < over]
+    assert not site.intruders()
+
+
+def test_who_evicts_waits_for_the_lease_of_the_other(site):
+    """A machine that evicts the other one has the lock at once. Nobody is led to its office before the other's lease is
+    certainly over."""
+    until_well(site, site.is_well)
+    box = until(site.serving, seconds=60)
+    other = site.other(box)
+    # The office that is evicted gives no answer meanwhile, also none that it may.
+    box.run("systemctl stop office-way")
+    other.run(f"office-volume evict {box.name}")
+    moment = time.time()
+    until(lambda: other in site.listening(), seconds=60)
+    begun = time.time()
+    until(lambda: gives_page(other, "/run/office-way/way.sock"), seconds=60)
+    print(f"the other one serves after {begun - moment:.1f} s, and is asked after {time.time() - moment:.1f} s")
+    assert time.time() - moment > LEASE
+    box.run("systemctl start office-way")
+    until_well(site, site.is_well)
+    assert not site.intruders()
+
+
 @contextlib.contextmanager
 def asked(site):
     """Callers that ask meanwhile. At the end nothing may be wrong with what was answered."""
@@ -687,6 +751,43 @@ def test_a_machine_is_replaced(site, become_new, request):
     assert not errors(calling.since(0), request.config.getoption("--patience"))
 
 
+def test_a_machine_with_an_office_is_replaced(site, request):
+    """The same for the machine that serves, in whose place a new one comes."""
+    until_well(site, site.is_well)
+    until_well(site, site.is_healed)
+    with asked(site) as calling:
+        box = until(site.serving, seconds=60)
+        other, admin = site.other(box), site.boxes["admin"]
+        site.renew(box)
+        admin.start()
+        admin.wait_until_up()
+        names = {"three": box.name, "one": other.name}
+        site.type("A new machine", names)
+        site.type("Three machines", {it: None for it in MACHINES} | {box.name: box.name}, has="nginx-light")
+        site.type("A new machine with an office", {"two": box.name, "one": other.name})
+        site.leave_shells()
+        admin.pull_the_plug()
+        site.have_answers_written(box)
+        until_well(site, site.is_healed)
+        until_well(site, site.is_well)
+        site.compare_copies()
+    assert not errors(calling.since(0), request.config.getoption("--patience"))
+
+
+def test_the_program_is_updated(site, request):
+    """The page's commands, first on the machine that waits and then on the one that serves: the other takes over."""
+    until_well(site, site.is_well)
+    programs = "crates/sshoffice/out/sshoffice examples/volume/office-{volume,waiting}"
+    with asked(site) as calling:
+        serving = until(site.serving, seconds=60)
+        for box in (site.other(serving), serving):
+            box.run(f"cd vethlumi; install -m 755 {programs} /usr/local/bin; systemctl daemon-reload; "
+                    "systemctl restart office office-watch; systemctl reload office-way")
+            until_well(site, site.is_well)
+        assert site.other(serving) == site.serving()
+    assert not errors(calling.since(0), request.config.getoption("--patience"))
+
+
 def test_the_two_offices_are_parted(site, request):
     """The office goes on, on one of the two machines. Callers who come to the front of the other one wait, until it is
     stopped, as the page says."""
@@ -703,6 +804,5 @@ def test_the_two_offices_are_parted(site, request):
         until(lambda: len(calling.since(moment + 10)) > 20, seconds=180)
         assert [serving] == site.listening()
         back()
-        site.backs.append(time.time())
         waiting.run("systemctl start office-front")
     assert not errors(calling.since(0), request.config.getoption("--patience"))

@@ -1,14 +1,45 @@
-// Asks the offices until one of them answers. An accepted message is answered again as it was, so it may be sent as often
-// as it takes, to whichever office serves.
+// Decides whether the office here may be asked, and asks the offices until one of them answers.
+//
+// An accepted message is answered again as it was, so it may be sent as often as it takes, to whichever office serves.
+// But an office that has lost its file to the other machine goes on giving pages from its memory, until it is ended. So
+// the office here is asked only for some seconds after a sign that this machine has certainly given on the volume. They
+// are over before the other office gets the lock. office-watch writes down when that is, in seconds since this machine
+// was switched on. Nobody sets that clock, and it goes on while the machine hangs.
+import fs from 'fs';
+
+const RUN = '/run/office-volume/';
 
 // In milliseconds. The front waits for longer. Most takeovers end within the first seconds, in which pauses are short.
 const LONGEST_WAIT = 120000;
 const FIRST = 10000;
 
+// The number that a file begins with, if there is one. All of them are in memory, so this never waits.
+function number(path) {
+    try {
+        return parseFloat(fs.readFileSync(path));
+    } catch (fault) {
+        return NaN;
+    }
+}
+
+function isLent() {
+    const now = number('/proc/uptime');
+    return now < number(RUN + 'lease') && !(now < number(RUN + 'withheld'));
+}
+
+// For way.conf: whom to ask for the front of this machine, and whether the other machine gets an answer.
+function asked() {
+    return isLent() ? 'offices' : 'other';
+}
+function lent() {
+    return isLent() ? 'yes' : '';
+}
+
 async function ask(r) {
     const begun = Date.now();
     for (;;) {
-        const answer = await r.subrequest('/once' + r.uri, {method: r.method});
+        // This isn't a variable of nginx, which would stay as it was when this request began.
+        const answer = await r.subrequest(`/${asked()}${r.uri}`, {method: r.method});
         if (answer.status < 500) {
             r.headersOut['Content-Type'] = answer.headersOut['Content-Type'];
             r.return(answer.status, answer.responseBuffer);
@@ -23,4 +54,4 @@ async function ask(r) {
     }
 }
 
-export default {ask};
+export default {ask, asked, lent};
