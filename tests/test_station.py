@@ -158,43 +158,60 @@ ROOT = {"principals": ["root"], "before": LATEST}
 NOBODY = "0" * 64
 # What a false office gives, with the digest of what is pending if it isn't that of the bytes, and why it isn't signed.
 ATTACKS = [
-    ("root until 9999, with another digest", lambda ca: body(ca=ca, **ROOT), NOBODY,
+    ("root until 9999, with another digest", lambda ca, at: body(at, ca=ca, **ROOT), NOBODY,
      "its body has another digest than the one that is pending"),
-    ("root until 9999", lambda ca: body(ca=ca, **ROOT), None, "refused as NotPermitted"),
-    ("alice until 9999", lambda ca: body(ca=ca, before=LATEST), None, "refused as NotPermitted"),
-    ("alice and root", lambda ca: body(ca=ca, principals=["alice", "root"]), None, "refused as NotPermitted"),
-    ("alice with a command", lambda ca: body(ca=ca, options=[("force-command", "/bin/sh")]), None,
+    ("root until 9999", lambda ca, at: body(at, ca=ca, **ROOT), None, "refused as NotPermitted"),
+    ("alice until 9999", lambda ca, at: body(at, ca=ca, before=LATEST), None, "refused as NotPermitted"),
+    ("alice and root", lambda ca, at: body(at, ca=ca, principals=["alice", "root"]), None, "refused as NotPermitted"),
+    ("alice with a command", lambda ca, at: body(at, ca=ca, options=[("force-command", "/bin/sh")]), None,
      "refused as NotPermitted"),
-    ("alice with a forwarded port", lambda ca: body(ca=ca, extensions=["permit-port-forwarding"]), None,
+    ("alice with a forwarded port", lambda ca, at: body(at, ca=ca, extensions=["permit-port-forwarding"]), None,
      "refused as NotPermitted"),
-    ("a host", lambda ca: body(ca=ca, kind=2), None, "refused as OtherKind"),
-    ("another department", lambda ca: body(ca=ca, key_id="other/alice"), None, "refused as NoDepartment"),
-    ("alice in two hours", lambda ca: body(ca=ca, after=int(time.time()) + 7200, before=int(time.time()) + 7300), None,
+    ("a host", lambda ca, at: body(at, ca=ca, kind=2), None, "refused as OtherKind"),
+    ("another department", lambda ca, at: body(at, ca=ca, key_id="other/alice"), None, "refused as NoDepartment"),
+    ("alice in two hours",
+     lambda ca, at: body(at, ca=ca, after=int(time.time()) + 7200, before=int(time.time()) + 7300), None,
      "refused as TooFarAhead"),
-    ("alice yesterday", lambda ca: body(ca=ca, after=1000, before=2000), None, "refused as AlreadyEnded"),
-    ("a login with the CA's own key", lambda ca: auth_blob(0, ca), None, "refused as NotABody WrongType"),
-    ("a text", lambda ca: b"I owe you 1000 euros\n" + ca[-32:], None, "refused as NotABody Truncated"),
-    ("a body with more behind it", lambda ca: body(ca=ca) + b"\0", None, "refused as NotABody TrailingBytes"),
-    ("a long body", lambda ca: body(ca=ca) + bytes(20000), None, "refused as NotABody TooLong"),
-    ("nothing", lambda ca: b"", None, "refused as NotABody Truncated"),
-    ("another serial", lambda ca: body(2, ca=ca), None, "its body has another serial"),
+    ("alice yesterday", lambda ca, at: body(at, ca=ca, after=1000, before=2000), None, "refused as AlreadyEnded"),
+    ("a login with the CA's own key", lambda ca, at: auth_blob(0, ca), None, "refused as NotABody WrongType"),
+    ("a text", lambda ca, at: b"I owe you 1000 euros\n" + ca[-32:], None, "refused as NotABody Truncated"),
+    ("a body with more behind it", lambda ca, at: body(at, ca=ca) + b"\0", None, "refused as NotABody TrailingBytes"),
+    ("a long body", lambda ca, at: body(at, ca=ca) + bytes(20000), None, "refused as NotABody TooLong"),
+    ("nothing", lambda ca, at: b"", None, "refused as NotABody Truncated"),
+    ("another serial", lambda ca, at: body(at + 1, ca=ca), None, "its body has another serial"),
 ]
 
 
 @pytest.mark.parametrize("made, digest, why", [it[1:] for it in ATTACKS], ids=[it[0] for it in ATTACKS])
 def test_what_a_false_office_composes_is_not_signed(alone, made, digest, why):
-    text = made(alone.blob)
+    text = made(alone.blob, 1)
     rows = [(1, digest or digest_of(text))]
     assert (1, [], [f"station: not signed: 1, {why}: 1"], []) == shown(alone, {1: text}, rows)
 
 
 def test_what_is_permitted_is_signed_beside_all_that_is_not(alone):
     """One row of a false office starves no other."""
-    bodies = {serial: made(alone.blob) for serial, (_, made, _, _) in enumerate(ATTACKS, 1)}
+    bodies = {serial: made(alone.blob, serial) for serial, (_, made, _, _) in enumerate(ATTACKS, 1)}
     bodies[100] = body(100, ca=alone.blob)
     status, out, errors, delivered = shown(alone, bodies)
     assert (1, ["signed 100"], 1) == (status, out, len(delivered))
     assert ["station: not signed: 6, refused as NotPermitted: 1-6"] == [it for it in errors if "NotPermitted" in it]
+
+
+def test_a_body_under_another_serial_uses_none_up(alone):
+    """The guard isn't asked about it: it would keep it under its own serial, and nothing that is shown names that."""
+    said = ["station: not signed: 1, its body has another serial: 1"]
+    for serial in (2, LAST_SERIAL):
+        text = body(serial, ca=alone.blob)
+        assert (1, [], said, []) == shown(alone, {1: text}, [(1, digest_of(text))])
+    assert [] == alone.bodies()
+
+
+def test_a_body_says_its_serial_if_it_is_long_enough(alone):
+    serial_of, text = loaded(EXAMPLES / "station").serial_of, body(7, ca=alone.blob)
+    whole = text.index((7).to_bytes(8, "big")) + 8
+    assert {None} == {serial_of(text[:size]) for size in range(whole)}
+    assert {7} == {serial_of(text[:size]) for size in range(whole, len(text) + 1)}
 
 
 def test_a_signature_of_sshd_is_wanted(alone, sshd, room):
