@@ -562,8 +562,33 @@ def test_the_office_says_why_a_delivery_is_refused(alone):
             self.sendall = lambda _: peer.sendall(response(b"refused 19 Revoked\n", "409 Conflict"))
 
     with Refusing({1: body(ca=alone.blob)}) as web:
-        said = "station: not signed: 1, 409 refused 19 Revoked: 1"
+        said = "station: not signed: 1, its signature isn't taken: 409 refused 19 Revoked: 1"
         assert (1, [], [said]) == Station(alone, web.url, alone.key).once()
+
+
+def test_a_signature_that_is_not_taken_is_shown_apart(alone):
+    """A false office has it all the same. Whatever reasons it makes up, the serial isn't among those of others."""
+    class Hiding(FalseOffice):
+        made_up = 0
+
+        def finish_request(self, peer, address):
+            target = whole_request(peer).split(b" ")[1].decode()
+            if target == "/v1/pending":
+                return peer.sendall(response(self.rows.encode()))
+            if (found := re.fullmatch(r"/v1/certs/(\d+)/body", target)) and self.bodies[int(found[1])]:
+                return peer.sendall(response(self.bodies[int(found[1])]))
+            self.made_up += 1
+            peer.sendall(response(b"reason %d" % self.made_up, "500 Broken"))
+
+    bodies = {serial: b"" for serial in range(1, 23)} | {it: body(it, ca=alone.blob) for it in range(101, 123)}
+    with Hiding(bodies) as web:
+        status, out, errors = Station(alone, web.url, alone.key).once()
+    assert (1, []) == (status, out)
+    # A long round shows some of them earlier, too.
+    assert [f"station: not signed: 1, 500 reason {it}: {it}" for it in range(1, 21)] + [
+        "station: not signed: 2, for other reasons: 21-22"
+    ] + [f"station: not signed: 1, its signature isn't taken: 500 reason {it}: {it + 78}" for it in range(23, 43)] + [
+        "station: not signed: 2, its signature isn't taken, for other reasons: 121-122"] == errors[-42:]
 
 
 def test_another_key_than_the_cas_delivers_nothing(alone):
