@@ -61,7 +61,7 @@ ends_well {D} {g} stays c (Err (GivenUp error)) files ended = λ clean.
           (subst (λ (p : D × D). outcomes g p.0 p.1 image) (sym it.are_its) may) in
           leaves_one_of c it.it it.up.numbered it.up.sound it.up.fewer s t left image now,
     )
-ends_well stays c (Err (Uncopied error)) files ended = tt
+ends_well stays c (Err (Uncopied error)) files ended = ended
 
 -- the guard at the open is kept at the end, perhaps with more bodies, and the close leaves it
 pub run_keeps_guard : {D : Type 0} {g : Ghosts D} (files : Files D) → RunKeepsGuard g files

@@ -1,5 +1,5 @@
 -- One run of a program that keeps a guard, from the two files that it finds to those that it leaves.
-use Rattle.std.specs.Prelude.{IsTrue, Result, Ok, Err}
+use Rattle.std.specs.Prelude.{IsTrue, Some, Result, Ok, Err}
 use Rattle.sqlite_disk.specs.declared.Disk.{Ghosts}
 use Rattle.sqlite_disk.specs.declared.Files.{Files}
 use Rattle.sqlite_wal.specs.Recovery.{Image}
@@ -17,6 +17,7 @@ use Rattle.guard_sql.specs.Keeping.{HasGuard, IsBlank, IsGuard, Keeps, Leaves}
 use Rattle.guard_sql.specs.Rows.{guard_contents}
 use Rattle.restart.specs.declared.ending.EndFault.{EndFault}
 use Rattle.restart.specs.declared.ending.EndFault.TheVariants.{GivenUp, Uncopied}
+use Rattle.restart.specs.Ending.{AreClosed}
 use Rattle.restart.specs.Images.{HoldsNone}
 use Rattle.guard_restart.specs.Images.{Holds, HoldsGuard, HoldsOneOf, Standing}
 use Rattle.guard_restart.specs.Lives.{GoesOn, IsRun, Said, SomeRun}
@@ -54,7 +55,7 @@ LeavesOneOf c may_leave =
 
 -- How the connection ended, if its disk has been faithful: it was closed, and whatever a crash makes of the files, they
 -- hold the guard that was kept. Or it was abandoned, and they hold one of the two guards that a crash left. If its log
--- couldn't be copied, nothing is promised.
+-- couldn't be copied, a crash leaves nothing that it couldn't leave before, and the error has its cause.
 abbrev pub EndsWell : {D : Type 0} {g : Ghosts D} → Held (FileStore D g) → Result (Unit {0}) EndFault → Files D
     → Type 0
 EndsWell {D} {g} conn (Ok done) files =
@@ -62,7 +63,7 @@ EndsWell {D} {g} conn (Ok done) files =
 EndsWell {D} {g} conn (Err (GivenUp error)) files =
     AreClean g files.log files.db
     → HasCleanDisk (file_state conn) × LeavesOneOf (file_state conn) (outcomes g files.log files.db)
-EndsWell {D} {g} conn (Err (Uncopied error)) files = Unit {0}
+EndsWell {D} {g} conn (Err (Uncopied error)) files = AreClosed conn (Some error) files
 
 -- ---- the whole run
 

@@ -61,4 +61,4 @@ ends_well {D} {g} stays c (Err (GivenUp error)) files ended = λ clean.
           (subst (λ (p : D × D). outcomes g p.0 p.1 image) (sym it.are_its) may) in
           leaves_one_of c it.it it.up.numbered it.up.sound it.up.fewer s t left image now,
     )
-ends_well stays c (Err (Uncopied error)) files ended = tt
+ends_well stays c (Err (Uncopied error)) files ended = ended

@@ -1,5 +1,5 @@
 -- One run of a program that keeps a list guard: opening its two files, and ending the connection.
-use Rattle.std.specs.Prelude.{Result, Ok, Err}
+use Rattle.std.specs.Prelude.{Some, Result, Ok, Err}
 use Rattle.sqlite_disk.specs.declared.Disk.{Ghosts}
 use Rattle.sqlite_disk.specs.declared.Files.{Files}
 use Rattle.sqlite_wal.specs.Recovery.{Image}
@@ -15,6 +15,7 @@ use Rattle.list_sql.specs.Keeping.{HasList, IsBlank, Keeps, Leaves}
 use Rattle.list_sql.specs.Rows.{list_contents}
 use Rattle.restart.specs.declared.ending.EndFault.{EndFault}
 use Rattle.restart.specs.declared.ending.EndFault.TheVariants.{GivenUp, Uncopied}
+use Rattle.restart.specs.Ending.{AreClosed}
 use Rattle.restart.specs.Images.{HoldsNone}
 use Rattle.list_restart.specs.Images.{HoldsList, HoldsOneOf}
 use Rattle.list_restart.specs.Lives.{GoesOn, IsRun, Said}
@@ -47,7 +48,8 @@ LeavesOneOf c may_leave =
 
 -- How a connection ended, if its disk has been faithful. It was closed, and whatever a crash makes of the files, they
 -- hold the list guard that was kept. Or it was abandoned, and they hold one of the two list guards that a crash could
--- leave before. If its log couldn't be copied, nothing is promised.
+-- leave before. If its log couldn't be copied, a crash leaves nothing that it couldn't leave before, and the error has
+-- its cause.
 abbrev pub EndsWell : {D : Type 0} {g : Ghosts D} → Held (FileStore D g) → Result (Unit {0}) EndFault → Files D
     → Type 0
 EndsWell {D} {g} conn (Ok done) files =
@@ -55,7 +57,7 @@ EndsWell {D} {g} conn (Ok done) files =
 EndsWell {D} {g} conn (Err (GivenUp error)) files =
     AreClean g files.log files.db
     → HasCleanDisk (file_state conn) × LeavesOneOf (file_state conn) (outcomes g files.log files.db)
-EndsWell {D} {g} conn (Err (Uncopied error)) files = Unit {0}
+EndsWell {D} {g} conn (Err (Uncopied error)) files = AreClosed conn (Some error) files
 
 -- ---- the whole run
 

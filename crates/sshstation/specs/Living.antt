@@ -66,13 +66,12 @@ module _ {E F : Type 0} (world : surroundings.Ghosts E F) (around : E) (remainin
 -- The effect of the words in a world, with files for which `Is` and `AreLists` hold afterwards. The files of a guard
 -- held `image` before, and are left as in `left`. Those of a guard of lists held `lists_image`, and are left as in
 -- `lists_left`.
-pub record RunsWords {E F D L H M : Type 0} {g : Ghosts H} {h : Ghosts M} (world : surroundings.Ghosts E F)
+pub record RunsWords {E F D L H M : Type 0} {g : Ghosts H} {h : Ghosts M} (world : surroundings.Ghosts E F) (around : E)
     (remaining : F → Option (List ℕ)) (guard : register.Ghosts (GuardStore (FileStore H g)))
     (file : file.Ghosts D (GuardStore (FileStore H g))) (keeper : lister.Ghosts (ListStore (FileStore M h)))
     (file_of : lists.Ghosts L (ListStore (FileStore M h))) (Is : D → Type 0) (AreLists : L → Type 0)
     (image lists_image : Image) (left : Left H) (lists_left : Left M) (words : List (List ℕ))
     (held holds : Option (List ℕ)) (answered : ℕ) : Type 0 where
-  pub around : E
   pub input : Option (List ℕ)
   pub before : D
   pub after : D

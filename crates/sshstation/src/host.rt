@@ -1,4 +1,4 @@
-//! The system's files and its clock, and doing what the words ask for with them.
+//! The system's files and its clock, and doing what the words ask for with them or with others.
 
 ghost use Rattle.std.specs.Prelude.{◌≡◌, ◌≤◌, IfSome, map, string_bytes};
 ghost use Rattle.values.specs.declared.limits.TheConstants.{LATEST_MOMENT};
@@ -60,11 +60,19 @@ impl Surroundings for Host<'_> {
     }
 }
 
-/// Does what the words ask for, with the system's files and clock. Returns the exit status, and the files of a guard
-/// and of a guard of lists as they are left, if any were closed. `start` represents what the files of a guard hold, and
+/// Does what the words ask for, with these files and this clock. Returns the exit status, and the files of a guard and
+/// of a guard of lists as they are left, if any were closed. `start` represents what the files of a guard hold, and
 /// `lists` what those of a guard of lists hold: a job opens one or the other.
-pub(crate) fn run<S: Start, T: Start, O: Write, E: Write>(
+pub(crate) fn run<
+    F: Read + Drop,
+    P: Surroundings<File = F>,
+    S: Start,
+    T: Start,
+    O: Write,
+    E: Write,
+>(
     rt: &HostRuntime,
+    around: &P,
     start: S,
     lists: T,
     words: &[String],
@@ -76,7 +84,7 @@ pub(crate) fn run<S: Start, T: Start, O: Write, E: Write>(
 
     // This is the effect of the words, and a job over the files of a guard, or of a guard of lists, was a run in their
     // lifetime.
-    ensures runs { RunsWords ⟦<Host<'static> as Surroundings>⟧ ⟦<fs::File as Read>⟧.remaining
+    ensures runs { RunsWords P.Surroundings around.now F.remaining
         ⟦<GuardStore<FileStore<FileFrom<S>>> as Register>⟧ ⟦<GuardDatabase<'static, S> as GuardFile>⟧
         ⟦<ListStore<FileStore<FileFrom<T>>> as ListRegister>⟧ ⟦<ListDatabase<'static, T> as ListFile>⟧
         (λ db. db.left ≡ result.1) (λ lists. lists.left ≡ result.2) (image_at S.Start) (image_at T.Start) result.1
@@ -85,10 +93,9 @@ pub(crate) fn run<S: Start, T: Start, O: Write, E: Write>(
     let mut db = GuardDatabase::new(rt, start);
     let mut lists = ListDatabase::new(rt, lists);
     let mut input = rt.reader();
-    let host = Host { rt };
     let status = do_words(
         rt.alloc(),
-        &host,
+        around,
         &mut db,
         &mut lists,
         words,

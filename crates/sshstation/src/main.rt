@@ -3,8 +3,8 @@
 //! What a command does with a guard is proved in `station_jobs`, over any register, files, input and output: `run_in`
 //! does it, from opening the guard's file to closing it. Here `do_words` reads the words and does the job that they
 //! name, and `run` does this over the tables of a database: it shows that an opened guard is the one that the files
-//! held, and that they hold the one that is closed. Other files, the console and the clock are the system's, and
-//! nothing is proved about them.
+//! held, and that they hold the one that is closed. Other files and the clock may be any: `main` gives it the system's,
+//! about which nothing is proved, nor about the console.
 #![tactic(auto)]
 
 mod command;
@@ -27,7 +27,11 @@ fn status_by(rt: &HostRuntime) -> u8 {
     let mut err = rt.stderr();
     let mut out = rt.stdout();
     match words_of(rt) {
-        Ok(words) => host::run(rt, Unknown, Unknown, words.as_slice(), &mut out, &mut err).0,
+        Ok(words) => {
+            let around = host::Host { rt };
+            let words = words.as_slice();
+            host::run(rt, &around, Unknown, Unknown, words, &mut out, &mut err).0
+        }
         Err(fault) => command::do_no_words(fault.kind(), &mut err),
     }
 }

@@ -19,7 +19,6 @@ do_words-status-requires g c = record {
 
 pub returns-clause-runs : goal.returns-clause-runs
 returns-clause-runs g c = record {
-  around = _;
   input = _;
   before = _;
   after = _;
