@@ -218,6 +218,34 @@ def test_each_call_moves_half_of_its_bytes(disk, call):
     applied(disk, Play(disk.founded, (), FIVE, "five"), f"each {call}", f"any {call} 1 0 short")
 
 
+def test_a_log_that_is_not_copied_keeps_what_was_answered(disk):
+    """The database is written only as it is closed, from the log. It takes no write, so that the log isn't copied."""
+    disk.lay(disk.founded)
+    status, out, err = disk.apply("five", FAIL=f"db write 1 0 {EIO}", SYNCED=f"{disk.folder}/synced")
+    assert (1, FIVE_DUE, b"sshoffice: Device\n") == (status, answers(out), err)
+    assert {("db", "write")} == {*disk.failed()}
+    assert disk.founded[0] == disk.files()[0]
+    for name, files in disk.left().items():
+        assert due(FIVE)[1] == disk.tell(files), name
+
+
+def test_a_database_that_a_failed_sync_has_shut_is_left(disk):
+    """One sync of the log fails, and then the disk is well again. Nothing more is answered, and nothing is copied."""
+    def shut(number):
+        """What comes of it if this sync fails: the earlier ones are those of the opening, and then nothing is asked."""
+        disk.lay(disk.founded)
+        status, out, err = disk.apply("five", FAIL=f"log sync {number} {number} {EIO}", SYNCED=f"{disk.folder}/synced")
+        return status, answers(out), err
+
+    done = next(it for it in map(shut, itertools.count(1)) if it != (1, [], b"sshoffice: Device\n"))
+    assert (1, [None] * len(FIVE), b"sshoffice: Fault\n") == done
+    assert [("log", "sync")] == disk.failed()
+    assert disk.founded[0] == disk.files()[0]
+    left = disk.left()
+    assert due(())[1] == disk.tell(left["as synced"])
+    assert disk.tell(left["as seen"]) in (due(())[1], due(FIVE[:1])[1])
+
+
 @pytest.mark.parametrize("is_once", [ONCE, ON], ids=["a call fails", "the disk is gone"])
 def test_over_a_log_that_was_left(disk, is_once):
     """A process was killed before it copied the log, once all five were answered."""
