@@ -682,7 +682,7 @@ def test_who_gives_no_sign_answers_nobody(site, silence):
     until(lambda: gives_page(box, "/run/office-way/way.sock"), seconds=60)
     said = box.run("office-volume check", check=False)
     back()
-    assert 1 == said.returncode and "this machine gives no sign" in said.stdout
+    assert 1 == said.returncode and "this machine has no lease" in said.stdout
     late = moment + LEASE
     assert any(given for when, given in itself if when > late), "no page in memory"
     assert not any(given for when, given in led[:-1] if when > late)
