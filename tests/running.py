@@ -9,6 +9,7 @@ import socket
 import subprocess
 import time
 import tomllib
+import types
 
 import pytest
 
@@ -101,6 +102,20 @@ def said(words, **how):
     """Status, output and errors of a program that runs to its end."""
     done = run(words, **how)
     return done.returncode, done.stdout, done.stderr
+
+
+def loaded(path):
+    """A script of Python as a module. Python keeps nothing of it beside the script."""
+    module = types.ModuleType(path.name.replace("-", "_"))
+    module.__file__ = str(path)
+    exec(compile(path.read_text(), path, "exec"), module.__dict__)
+    return module
+
+
+def write_secret(file, text):
+    """Writes a file that its owner alone can read."""
+    pathlib.Path(file).touch(0o600)
+    pathlib.Path(file).write_bytes(text if isinstance(text, bytes) else text.encode())
 
 
 def sql(file, *texts):

@@ -7,8 +7,6 @@ import contextlib
 import fcntl
 import gzip
 import hashlib
-import importlib.machinery
-import importlib.util
 import json
 import os
 import pathlib
@@ -23,7 +21,7 @@ import pytest
 
 import boxes
 import pages
-from running import TOP, left_out, run
+from running import TOP, left_out, loaded, run
 from test_lists import published
 
 PAGE = TOP / "docs/INSTALLING.md"
@@ -233,9 +231,10 @@ def test_each_command_has_a_manual_page_with_its_options(unpacked):
 
 
 def help_of(unpacked, command, *words):
-    environment = os.environ | {"PYTHONPATH": str(unpacked / "usr/lib/python3/dist-packages"), "COLUMNS": "80",
-                                "PYTHONDONTWRITEBYTECODE": "1"}
-    return run([command, *words, "--help"], env=environment, check=True).stdout.decode()
+    environment = os.environ | {"PYTHONPATH": str(unpacked / "usr/lib/python3/dist-packages"), "COLUMNS": "80"}
+    # The client itself looks only where its package would be.
+    python = ["/usr/bin/python3", "-B"] if command.name == "vethlumi" else []
+    return run([*python, command, *words, "--help"], env=environment, check=True).stdout.decode()
 
 
 def test_each_command_of_the_client_has_a_manual_page(unpacked):
@@ -267,7 +266,7 @@ def test_bash_completes(unpacked, words, due):
     function = re.search(r"-F (\w+)", file.read_text())[1]
     (unpacked / "bin").mkdir(exist_ok=True)
     shim = unpacked / "bin/vethlumi"
-    shim.write_text(f'#!/bin/sh\nexec {unpacked}/usr/bin/vethlumi "$@"\n')
+    shim.write_text(f'#!/bin/sh\nexec /usr/bin/python3 -B {unpacked}/usr/bin/vethlumi "$@"\n')
     shim.chmod(0o755)
     script = COMPLETE.format(words=words, last=len(words.split()) - 1, function=function, name=name)
     environment = os.environ | {"PYTHONPATH": str(unpacked / "usr/lib/python3/dist-packages"),
@@ -291,11 +290,7 @@ def test_there_is_a_completion_of_each_command_for_both_shells(unpacked):
 
 def load(name):
     """A set-up command as a module."""
-    path = TOP / "setup" / name
-    loader = importlib.machinery.SourceFileLoader(name.replace("-", "_").removesuffix(".py"), str(path))
-    module = importlib.util.module_from_spec(importlib.util.spec_from_loader(loader.name, loader))
-    loader.exec_module(module)
-    return module
+    return loaded(TOP / "setup" / name)
 
 
 CA = "ssh-ed25519 AAAAC3NzaC1lZDI1NTE5AAAAI" + "A" * 43
@@ -627,6 +622,34 @@ def test_a_lost_guard_is_not_made_again_unless_somebody_names_its_first_serial(r
     assert (1, [room / "first.db"]) == (do("8"), made)
     (room / "first.db.new").touch()
     assert (1, [room / "first.db"] * 2) == (do(), made)
+
+
+def test_the_guard_of_a_second_ca_begins_where_somebody_says(room, keeping, monkeypatch):
+    """The key comes first: the rollover needs it, and its answer names the serial. No guard approves what another one
+    may have approved."""
+    station, _ = keeping
+    made = []
+    monkeypatch.setattr(station.setting_up, "as_user", lambda user, *words: made.append(words))
+    monkeypatch.setattr(station.setting_up, "put_database", lambda user, path, make: make(f"{path}.new"))
+    (room / "first.pub").write_text("the first CA\n")
+    (room / "second.policy").touch()
+    (room / "bundle").write_text("[office]\nhttps://a\n")
+
+    def do(first=None, bundle=None):
+        given = argparse.Namespace(yes=True, name="second", policy=None, principals=None, host=[], first=first,
+                                   bundle=bundle)
+        station.do(given, station.setting_up.Steps(given, "vethlumi-station-setup"))
+        return [words[words.index("--first") + 1] for words in made]
+    with pytest.raises(station.Fault, match="with --first N: N is the serial from which the office uses this CA"):
+        do(bundle=room / "bundle")
+    assert not (room / "second.pub").exists()
+    assert [] == do() and (room / "second.pub").exists() and (room / "second.office").exists()
+    # Nor does a guard that was half made say with which serial it was to begin.
+    for left in ("nothing", "second.db.new"):
+        (room / left).touch()
+        with pytest.raises(station.Fault, match="the guard of first ends before it"):
+            do()
+    assert ["8"] == do(8)
 
 
 def test_a_station_may_be_connected_in_the_run_that_makes_its_key(room, keeping, monkeypatch):

@@ -16,7 +16,7 @@ from asking import department
 from fetching import Web, response, script, small_disk
 from publishing import HIGHEST, OTHER_CA, Signer, bitmaps, is_signed, key_line, krl, parted, statement
 from recording import getting, statuses, whole_request
-from running import EXAMPLES, free_port, is_listening, run, until
+from running import EXAMPLES, free_port, is_listening, run, until, write_secret
 from stations import Lists, Station, new_guard, stopped
 
 pytestmark = [pytest.mark.front, pytest.mark.xdist_group("published")]
@@ -185,7 +185,7 @@ def test_a_key_in_a_token_signs_lists(make_site, room):
     shown = run([*pkcs11, "--list-objects", "--type", "pubkey"], **how).stdout.decode()
     point = bytes.fromhex(re.search(r"EC_POINT:\s+0420([0-9a-f]{64})", shown)[1])
     (room / "ca.pub").write_text(key_line(b"\0\0\0\x0bssh-ed25519\0\0\0\x20" + point))
-    (room / "pin").write_text("12345678\n")
+    write_secret("pin", "12345678\n")
     key = ["--pkcs11", MODULE, "--id", "01", "--pin-file", room / "pin"]
     site = make_site(key, room / "ca.pub", **environment)
     site.begin_with(site.old)

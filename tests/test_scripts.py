@@ -5,13 +5,14 @@ import http.server
 import json
 import os
 import re
+import shutil
 import threading
 import time
 
 import pytest
 
 from asking import department, post, revoke_serial
-from running import EXAMPLES, free_port, is_revoked, new_key, run, until
+from running import EXAMPLES, TOP, free_port, is_revoked, new_key, run, until
 
 pytestmark = pytest.mark.xdist_group("scripts")
 
@@ -32,6 +33,32 @@ def shown(certificate):
 def test_a_script_says_what_it_wants(name):
     status, out, _ = script(name, "--help")
     assert (0, True, 2) == (status, os.path.basename(name) in out, script(name, "--no-such-word")[0])
+
+
+# What packages install, or pages have people install, as a Python script.
+PYTHON = sorted(str(it.relative_to(TOP)) for folder in ("examples", "examples/front", "setup", "debian")
+                for it in (TOP / folder).iterdir()
+                if it.is_file() and it.name != "prepare" and re.match(rb"#!.*python", it.read_bytes()))
+
+
+@pytest.mark.parametrize("name", [it for it in PYTHON if not it.startswith("debian/")])
+def test_a_script_of_python_runs_no_module_that_somebody_has_put_there(room, name):
+    """Neither from the script's folder nor from PYTHONPATH: some of them have a private key, or are run by root."""
+    copied = shutil.copy(TOP / name, room)
+    shutil.copy(TOP / "setup/setting_up.py", room)
+    for it in ("argparse", "datetime", "hashlib", "subprocess"):
+        (room / f"{it}.py").write_text("print('planted')\nraise SystemExit(9)\n")
+    assert 9 == run(["/usr/bin/python3", "-B", copied, "--help"]).returncode, "it would be run"
+    done = run([copied, "--help"], env=os.environ | {"PYTHONPATH": str(room)})
+    assert (0, run([TOP / name, "--help"]).stdout) == (done.returncode, done.stdout)
+
+
+def test_python_is_isolated_wherever_it_is_named():
+    assert {"debian/vethlumi", "examples/station", "examples/front/authority", "setup/vethlumi-host"} <= {*PYTHON}
+    assert {"#!/usr/bin/python3 -I"} == {(TOP / it).read_text().partition("\n")[0] for it in PYTHON}
+    texts = {it: it.read_text(errors="replace") for folder in ("examples", "setup") for it in (TOP / folder).rglob("*")
+             if it.is_file() and it.suffix != ".md"}
+    assert [] == [str(it) for it, text in texts.items() if re.search(r"python3 -[a-zA-HJ-Z]", text)]
 
 
 # ---- ca-line

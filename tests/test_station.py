@@ -11,6 +11,7 @@ import re
 import shutil
 import signal
 import socket
+import stat
 import subprocess
 import time
 
@@ -20,7 +21,7 @@ from asking import (LAST_SERIAL, LATEST, blob_of, body, department, digest_of, i
                     revoke_range, rollover, string)
 from fetching import Web, response
 from recording import whole_request
-from running import EXAMPLES, free_port, is_listening, run, until
+from running import EXAMPLES, free_port, is_listening, loaded, run, until, write_secret
 from stations import Guard, Station, new_guard, new_station, stopped
 
 WEB = department("web", principals="alice", extensions="permit-pty")
@@ -421,13 +422,23 @@ def silent(address):
 def test_the_time_of_a_request_is_that_of_all_addresses(alone, room):
     """The first address doesn't answer, so the time is over before the second one begins to drip. The library goes on
     to the next address after each OSError."""
-    (room / "sitecustomize.py").write_text(TWO_ADDRESSES)
     with Dripping() as web, silent(("127.0.0.2", web.port)):
         begun = time.monotonic()
         station = Station(alone, f"http://front.test:{web.port}", alone.key)
+        changed_station(room, station, "\nimport requests\n", f"\nimport requests\n{TWO_ADDRESSES}")
         said = f"station: {station.url} doesn't answer: not within 20 seconds"
-        assert (1, [], [said]) == station.once(PYTHONPATH=str(room))
+        assert (1, [], [said]) == station.once()
         assert 19 < time.monotonic() - begun < 60 and [] == web.requests
+
+
+def test_what_is_another_text_each_time_is_left_out():
+    """So that a reason is reported once: the name of a temporary folder, and an object's place in memory."""
+    printable = loaded(EXAMPLES / "station").printable
+    for said, due in {"[Errno 2] No such file: '/tmp/station-ab_cd123/body'": "[Errno 2] No such file: 'body'",
+                      "['openssl', PosixPath('/var/tmp/station-abcd1234/body')]": "['openssl', PosixPath('body')]",
+                      "<Connection object at 0x7f00ab> failed": "<Connection> failed",
+                      "/etc/station-key is \x1b[2J": "/etc/station-key is ?[2J"}.items():
+        assert due == printable(said)
 
 
 def test_the_url_is_taken_as_it_is(alone):
@@ -584,7 +595,7 @@ def test_help(room):
     (["--key", "none"], "can't read none"),
     (["--agent", "none"], "can't read none: No such file or directory"),
     (["--agent", "no-key"], "no-key has another line than those of Ed25519 public keys"),
-    (["--pkcs11", "m", "--id", "01", "--pin-file", "none"], "can't read none: No such file or directory"),
+    (["--pkcs11", "m", "--id", "01", "--pin-file", "none"], "can't read none"),
     (["--pkcs11", "m", "--id", "01", "--pin-file", "no-pin"], "the first line of no-pin is no PIN"),
     (["--key", "no-key", "--other-ca", "no-blob"], "no-blob has another line than those of Ed25519 public keys"),
     (["--key", "no-key", "--cacert", "none"], "can't read none"),
@@ -593,16 +604,48 @@ def test_help(room):
      "no-key has another line than those of Ed25519 public keys"),
 ], ids=lambda it: " ".join(it) if isinstance(it, list) else "")
 def test_a_file_that_cannot_be_read_is_named(alone, room, key, why):
-    (room / "no-key").write_text("no key\n")
-    (room / "no-pin").write_bytes(b"\xff\0\n")
+    write_secret("no-key", "no key\n")
+    write_secret("no-pin", b"\xff\0\n")
     (room / "no-blob").write_text(f"ssh-ed25519 {'A' * 68}\n")
     environment = {"SSH_AUTH_SOCK": "nobody"}
     assert (1, [], [f"station: {why}"]) == Station(alone, "http://127.0.0.1:1", key).once(**environment)
 
 
+SECRETS = {"--key": ["--key", "secret"], "--pin-file": ["--pkcs11", "m", "--id", "01", "--pin-file", "secret"],
+           "--cert": ["--key", "no-key", "--cert", "secret"]}
+
+
+@pytest.mark.parametrize("key", SECRETS.values(), ids=SECRETS)
+@pytest.mark.parametrize("mode", ["640", "604", "620", "644", "400"])
+def test_a_secret_that_others_can_use_is_refused(alone, room, key, mode):
+    write_secret("no-key", "no key\n")
+    write_secret("secret", b"\0\n")
+    (room / "secret").chmod(int(mode, 8))
+    with Web(response(b"")) as web:
+        status, out, errors = Station(alone, web.url, key).once()
+    said = [f"station: secret has mode {mode}, which lets others use it: chmod 600 secret"]
+    assert (status, out, errors == said) == ((1, [], True) if mode != "400" else (status, [], False))
+
+
+@pytest.mark.parametrize("owner, mode, user, is_taken", [
+    (1000, 0o600, 1000, True), (1000, 0o440, 1000, False), (1000, 0o404, 1000, False), (0, 0o600, 0, True),
+    (0, 0o440, 0, False), (0, 0o440, 1000, True), (0, 0o660, 1000, False), (0, 0o444, 1000, False),
+    (1001, 0o440, 1000, False),
+])
+def test_root_may_give_a_service_a_secret_by_its_group(room, monkeypatch, owner, mode, user, is_taken):
+    """So systemd does with a credential, by an access list, which shows as the group's mode."""
+    station = loaded(EXAMPLES / "station")
+    write_secret("secret", "")
+    found = os.stat_result([stat.S_IFREG | mode, 0, 0, 1, owner, owner, *[0] * 4])
+    monkeypatch.setattr(station.os, "stat", lambda path: found)
+    monkeypatch.setattr(station.os, "getuid", lambda: user)
+    with contextlib.nullcontext() if is_taken else pytest.raises(station.Fault, match="lets others use it"):
+        station.check_secret("secret")
+
+
 @pytest.mark.parametrize("missing", ["sshstation", "openssl", "pkcs11-tool"])
 def test_a_program_that_is_missing_is_named(alone, room, missing):
-    (room / "pin").write_text("1234\n")
+    write_secret("pin", "1234\n")
     for program in {"sshstation", "openssl", "pkcs11-tool"} - {missing}:
         (room / "bin").mkdir(exist_ok=True)
         (room / "bin" / program).symlink_to("/bin/true")
@@ -656,6 +699,34 @@ def test_a_station_goes_on(asked, programs, room):
     assert 200 == asked.get("/v1/certs/2").status
     said = ["station: not signed: 1, refused as NotPermitted: 2"]
     assert (0, [], said) == stopped(process)
+
+
+def test_a_station_whose_temporary_files_are_removed_goes_on(alone, programs, room):
+    """A program that looks for old files removes what lies there for long. Without a folder to make any in, nothing is
+    signed, and that is said once."""
+    bodies = {serial: body(serial, ca=alone.blob) for serial in (1, 2)}
+    folder = room / "temporary"
+    folder.mkdir()
+    with FalseOffice(bodies, []) as web:
+        station = Station(alone, web.url, alone.key, ahead=3600)
+        process = station.begin(programs, env=station.environment | {"TMPDIR": str(folder)})
+
+        def pends(serial):
+            web.rows = f"{serial} {digest_of(bodies[serial])}\n"
+        pends(1)
+        until(lambda: web.delivered, seconds=60)
+        web.rows = ""
+        until(lambda: [] == [*folder.iterdir()], seconds=60)
+        folder.rmdir()
+        pends(2)
+        said = b"station: not signed: 1, no temporary folder can be made: No such file or directory: 2\n"
+        assert said == process.stderr.readline()
+        count = len(web.requests)
+        until(lambda: len(web.requests) > count + 3, seconds=60)
+        folder.mkdir()
+        until(lambda: web.delivered[-1].startswith("deliver 2\n"), seconds=60)
+        status, out, errors = stopped(process)
+    assert (0, {"signed 1", "signed 2"}, []) == (status, {*out}, errors)
 
 
 def test_a_station_waits_for_an_office_that_is_away(sshstation, office, programs):
@@ -862,7 +933,7 @@ def token(room):
     # The point is the 32 bytes of the key, as a string of ASN.1.
     point = re.search(r"EC_POINT:\s+0420([0-9a-f]{64})", shown_key)[1]
     blob = string(b"ssh-ed25519") + string(bytes.fromhex(point))
-    (room / "pin").write_text("12345678\n")
+    write_secret("pin", "12345678\n")
     return f"ssh-ed25519 {base64.b64encode(blob).decode()} in a token\n", environment
 
 
@@ -878,7 +949,7 @@ def test_a_key_in_a_token_signs(make_office, sshstation, sshd, token, room):
     ("01", "11111111", "CKR_PIN_INCORRECT")], ids=["no such key", "another PIN"])
 def test_a_token_that_does_not_sign_is_said(sshstation, make_office, token, room, key_id, pin, why):
     line, environment = token
-    (room / "pin").write_text(f"{pin}\n")
+    write_secret("pin", f"{pin}\n")
     guard = new_guard(sshstation, make_office(ca=line), policy=WEB)
     with FalseOffice({1: body(ca=blob_of(line))}) as false:
         made = Station(guard, false.url, ["--pkcs11", MODULE, "--id", key_id, "--pin-file", "pin"])

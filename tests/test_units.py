@@ -47,6 +47,11 @@ def test_no_memory_image_is_written_and_memory_is_limited(unit):
     assert 1 == len(settings(unit, "MemoryMax"))
 
 
+def test_a_station_goes_on_if_a_program_of_its_own_is_killed_for_memory():
+    """Otherwise systemd stops the station with it. If it was the guard, the station ends, and is started again."""
+    assert (["continue"], ["always"]) == tuple(settings("office-station@.service", it) for it in ("OOMPolicy", "Restart"))
+
+
 @pytest.mark.parametrize("unit", ["office.service", "office-door.service"])
 def test_what_is_for_this_machine_alone_reaches_no_address(unit):
     assert (["any"], ["localhost"]) == (settings(unit, "IPAddressDeny"), settings(unit, "IPAddressAllow"))

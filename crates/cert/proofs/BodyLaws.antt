@@ -1,5 +1,5 @@
 -- A fault of the bytes is found, and what holds for the result of reading holds for the returned value.
-use Rattle.cert.proofs.Words.{Bool, CertFault, CertFields, CriticalOptions, Err, Extensions, GivesPart, IsBytes}
+use Rattle.cert.proofs.Words.{Bool, CertFault, CertFields, CriticalOptions, Err, Extensions, GivesRead, IsBytes}
 use Rattle.cert.proofs.Words.{IsCertFields, IsCertFault, LeavesRest, List, None, Ok, Option, Result, Some, [], ap}
 use Rattle.cert.proofs.Words.{arith}
 use Rattle.cert.proofs.Words.{body_text, bytes_eq-Decides, cert_type, check, ends_at, eqb, eqb-true, false, front}
@@ -117,7 +117,7 @@ body_at-fault bytes fault.NoMemory fits other f = absurd (other refl)
 -- ---- from what reading gives to what was returned
 
 -- What was read is valid, and the bytes are its text.
-pub found_from : (bytes : List ℕ) (r : Result CertFields CertFault) → IsBytes bytes → GivesPart r (body_at bytes)
+pub found_from : (bytes : List ℕ) (r : Result CertFields CertFault) → IsBytes bytes → GivesRead r (body_at bytes)
     → IfOk r (λ c. IsCertFields c × (bytes ≡ body_text c))
 found_from bytes (Ok c) fits gives = subst (λ (q : Result CertFields CertFault). Says bytes q) gives
     (body_at-says bytes fits)
@@ -125,12 +125,12 @@ found_from bytes (Err e) fits gives = tt
 
 -- The text of valid fields was read, unless memory was refused.
 pub only_from : (bytes : List ℕ) (r : Result CertFields CertFault) (c : CertFields) → IsCertFields c
-    → bytes ≡ body_text c → GivesPart r (body_at bytes) → GivesPart r (Ok c)
-only_from bytes r c l text gives = subst (λ (read : Result CertFields CertFault). GivesPart r read) (ap body_at text
+    → bytes ≡ body_text c → GivesRead r (body_at bytes) → GivesRead r (Ok c)
+only_from bytes r c l text gives = subst (λ (read : Result CertFields CertFault). GivesRead r read) (ap body_at text
     ∙ body_at-again c l) gives
 
 -- The returned fault is a fault of the bytes.
-pub fault_from : (bytes : List ℕ) (r : Result CertFields CertFault) → IsBytes bytes → GivesPart r (body_at bytes)
+pub fault_from : (bytes : List ℕ) (r : Result CertFields CertFault) → IsBytes bytes → GivesRead r (body_at bytes)
     → IfErr r (IsCertFault bytes)
 fault_from bytes (Ok c) fits gives = tt
 fault_from bytes (Err e) fits gives = at e gives
@@ -138,7 +138,7 @@ fault_from bytes (Err e) fits gives = at e gives
     there : (e : CertFault) → body_at bytes ≡ Err e → IsCertFault bytes e
     there e is = subst (λ (q : Result CertFields CertFault). Says bytes q) is (body_at-says bytes fits)
 
-    at : (e : CertFault) → GivesPart {X = CertFields} (Err e) (body_at bytes) → IsCertFault bytes e
+    at : (e : CertFault) → GivesRead {X = CertFields} (Err e) (body_at bytes) → IsCertFault bytes e
     at fault.Truncated gives = there fault.Truncated gives
     at fault.WrongType gives = there fault.WrongType gives
     at fault.BadNonce gives = there fault.BadNonce gives
@@ -157,8 +157,8 @@ fault_from bytes (Err e) fits gives = at e gives
 
 -- A fault of the bytes was returned, unless memory was refused.
 pub answered_from : (bytes : List ℕ) (r : Result CertFields CertFault) (e : CertFault) → IsBytes bytes
-    → e ≢ fault.NoMemory → IsCertFault bytes e → GivesPart r (body_at bytes) → GivesPart r (Err e)
-answered_from bytes r e fits other there gives = subst (λ (read : Result CertFields CertFault). GivesPart r read)
+    → e ≢ fault.NoMemory → IsCertFault bytes e → GivesRead r (body_at bytes) → GivesRead r (Err e)
+answered_from bytes r e fits other there gives = subst (λ (read : Result CertFields CertFault). GivesRead r read)
     (body_at-fault bytes e fits other there) gives
 
 -- No text belongs to two values.

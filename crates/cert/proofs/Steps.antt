@@ -1,5 +1,5 @@
 -- Steps of reading: if one fails, reading fails with its fault.
-use Rattle.cert.proofs.Words.{CertFault, Err, GivesPart, Kind, List, None, Ok, Option, Result, Some, ap, inl}
+use Rattle.cert.proofs.Words.{CertFault, Err, GivesRead, Kind, List, None, Ok, Option, Result, Some, ap, inl}
 use Rattle.cert.proofs.Words.{inr, option_and_then, or_fault, refl, subst, sym, ℕ, ◌>>=◌, ◌≡◌}
 use Rattle.std.proofs.Common.{◌⊎◌}
 use Rattle.cert.specs.Reading.{GivesRest, both_options_at, end_at, from_key_id_at, names_at, validity_at}
@@ -9,7 +9,7 @@ use Rattle.cert.specs.declared.cert_fault.CertFault.TheVariants as fault
 abbrev pub IsFound : {X : Type 0} → CertFault → Result X CertFault → Type 0
 IsFound e read = (e ≡ fault.NoMemory) ⊎ (read ≡ Err e)
 
-pub found : {X : Type 0} (e : CertFault) (read : Result X CertFault) → GivesPart (Err e) read → IsFound e read
+pub found : {X : Type 0} (e : CertFault) (read : Result X CertFault) → GivesRead (Err e) read → IsFound e read
 found fault.Truncated read h = inr h
 found fault.WrongType read h = inr h
 found fault.BadNonce read h = inr h
@@ -26,7 +26,7 @@ found fault.BadCa read h = inr h
 found fault.TrailingBytes read h = inr h
 found fault.NoMemory read h = inl refl
 
-same : (X : Type 0) (e : CertFault) → GivesPart {X = X} (Err e) (Err e)
+same : (X : Type 0) (e : CertFault) → GivesRead {X = X} (Err e) (Err e)
 same X fault.Truncated = refl
 same X fault.WrongType = refl
 same X fault.BadNonce = refl
@@ -43,13 +43,13 @@ same X fault.BadCa = refl
 same X fault.TrailingBytes = refl
 same X fault.NoMemory = tt
 
-pub gives : {X : Type 0} (e : CertFault) (read : Result X CertFault) → IsFound e read → GivesPart (Err e) read
-gives {X} e read (inl none) = subst (λ (e : CertFault). GivesPart {X = X} (Err e) read) (sym none) tt
-gives {X} e read (inr is) = subst (λ (r : Result X CertFault). GivesPart (Err e) r) (sym is) (same X e)
+pub gives : {X : Type 0} (e : CertFault) (read : Result X CertFault) → IsFound e read → GivesRead (Err e) read
+gives {X} e read (inl none) = subst (λ (e : CertFault). GivesRead {X = X} (Err e) read) (sym none) tt
+gives {X} e read (inr is) = subst (λ (r : Result X CertFault). GivesRead (Err e) r) (sym is) (same X e)
 
 -- the remaining bytes don't matter for a fault
 pub found_rest : {X : Type 0} (e : CertFault) (rest : List ℕ) (read : Result (X × List ℕ) CertFault)
-    → GivesRest {X = X} (Err e) rest read → GivesPart (Err e) read
+    → GivesRest {X = X} (Err e) rest read → GivesRead (Err e) read
 found_rest fault.Truncated rest read h = h
 found_rest fault.WrongType rest read h = h
 found_rest fault.BadNonce rest read h = h
@@ -68,7 +68,7 @@ found_rest fault.NoMemory rest read h = tt
 
 -- the fault of a step is that of the whole
 pub stops : {A B : Type 0} (e : CertFault) (read : Result A CertFault) (next : A → Result B CertFault)
-    → GivesPart (Err e) read → GivesPart (Err e) (read >>= next)
+    → GivesRead (Err e) read → GivesRead (Err e) (read >>= next)
 stops e read next h = gives e (read >>= next) (elim (found e read h) [
   | inl none ↦ inl none
   | inr is ↦ inr (ap (λ r. r >>= next) is)
@@ -80,9 +80,9 @@ pub goes_on : {A B : Type 0} (read : Result A CertFault) (x : A) (next : A → R
 goes_on read x next is = ap (λ r. r >>= next) is
 
 pub stops_behind : {A B : Type 0} (e : CertFault) (read : Result A CertFault) (x : A) (next : A → Result B CertFault)
-    → read ≡ Ok x → GivesPart (Err e) (next x) → GivesPart (Err e) (read >>= next)
+    → read ≡ Ok x → GivesRead (Err e) (next x) → GivesRead (Err e) (read >>= next)
 stops_behind {A} {B} e read x next is h =
-    subst (λ (r : Result B CertFault). GivesPart (Err e) r) (sym (goes_on read x next is)) h
+    subst (λ (r : Result B CertFault). GivesRead (Err e) r) (sym (goes_on read x next is)) h
 
 joined : {A B C : Type 0} (r : Result A CertFault) (f : A → Result B CertFault) (g : B → Result C CertFault)
     → ((r >>= f) >>= g) ≡ (r >>= λ x. f x >>= g)
@@ -113,7 +113,7 @@ in_four nonce key serial kind bytes = simp joined
 
 -- a fault in a part of an option is a fault of the option
 pub passes_on : {A B : Type 0} (bad e : CertFault) (o : Option A) (f : A → Option B)
-    → GivesPart (Err e) (or_fault bad o) → GivesPart (Err e) (or_fault bad (option_and_then f o))
+    → GivesRead (Err e) (or_fault bad o) → GivesRead (Err e) (or_fault bad (option_and_then f o))
 passes_on {A} {B} bad e o f h = gives e _ (elim (found e _ h) [
   | inl none ↦ inl none
   | inr is ↦ inr (at o is)

@@ -5,7 +5,7 @@ pub use Rattle.cert.specs.Faults.{IsCertFault, LeavesRest, ends_at, is_whole}
 pub use Rattle.cert.specs.OptionFaults.{first_fault, options_fault, pair_fault}
 pub use Rattle.cert.specs.Options.{are_for_kind, comes_before, is_ascending, is_option, is_options, listing}
 pub use Rattle.cert.specs.Options.{option_data, option_text, options_text}
-pub use Rattle.cert.specs.Reading.{GivesPart, check, comes_next, kind_of, options_of, options_within, pair_at, pair_of}
+pub use Rattle.cert.specs.Reading.{GivesRead, check, comes_next, kind_of, options_of, options_within, pair_at, pair_of}
 pub use Rattle.cert.specs.Reading.{principals_of, strings_within}
 pub use Rattle.cert.specs.declared.cert_fault.CertFault.{CertFault}
 pub use Rattle.cert.specs.declared.fields.CertFields.{CertFields}

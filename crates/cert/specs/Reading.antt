@@ -61,10 +61,10 @@ abbrev pub check : CertFault → Bool → Result (Unit {0}) CertFault
 check e b = if b then Ok tt else Err e
 
 -- The result is what reading gives, unless memory was refused.
-abbrev pub GivesPart : {X : Type 0} → Result X CertFault → Result X CertFault → Type 0
-GivesPart (Ok x) read = read ≡ Ok x
-GivesPart (Err NoMemory) read = Unit {0}
-GivesPart (Err e) read = read ≡ Err e
+abbrev pub GivesRead : {X : Type 0} → Result X CertFault → Result X CertFault → Type 0
+GivesRead (Ok x) read = read ≡ Ok x
+GivesRead (Err NoMemory) read = Unit {0}
+GivesRead (Err e) read = read ≡ Err e
 
 -- The same with the remaining bytes.
 abbrev pub GivesRest : {X : Type 0} → Result X CertFault → List ℕ → Result (X × List ℕ) CertFault → Type 0

@@ -6,7 +6,7 @@ ghost use Rattle.cert.specs.declared.fields.CertFields.{CertFields};
 ghost use Rattle.cert.specs.Bodies.{IsCertFields, body_text};
 ghost use Rattle.cert.specs.Faults.{IsCertFault};
 ghost use Rattle.cert.specs.Reading.{
-  GivesPart,
+  GivesRead,
   GivesRest,
   type_at,
   bytes_32_at,
@@ -194,7 +194,7 @@ fn read_both_options(
 
 // The reserved field and the CA's key, which end a body.
 fn read_end(cursor: &mut Cursor) -> Result<[u8; 32], CertFault>
-    ensures { GivesPart result (end_at cursor.old) }
+    ensures { GivesRead result (end_at cursor.old) }
 {
     read_reserved(cursor)?;
     let ca = read_ca(cursor)?;
@@ -213,7 +213,7 @@ fn read_from_key_id(
     serial: u64,
     kind: Kind,
 ) -> Result<CertFields, CertFault>
-    ensures { GivesPart result (from_key_id_at nonce key serial kind cursor.old) }
+    ensures { GivesRead result (from_key_id_at nonce key serial kind cursor.old) }
 {
     let (key_id, principals) = read_names(alloc, cursor)?;
     let (after, before) = read_validity(cursor)?;
@@ -236,7 +236,7 @@ fn read_from_key_id(
 
 #[tactic(auto, unfolding(crate::specs::Reading::body_at))]
 fn fields_in(alloc: Global, bytes: &[u8]) -> Result<CertFields, CertFault>
-    ensures { GivesPart result (body_at bytes.now) }
+    ensures { GivesRead result (body_at bytes.now) }
 {
     let mut cursor = Cursor::new(bytes);
     read_type(&mut cursor)?;
@@ -254,17 +254,17 @@ fn fields_in(alloc: Global, bytes: &[u8]) -> Result<CertFields, CertFault>
 /// The first fault from the left, in the order of `CertFault`. Both ends of the validity are judged after both were
 /// read.
 pub fn read_body(alloc: Global, bytes: &[u8]) -> Result<CertFields, CertFault>
-    ensures exact { GivesPart result (body_at bytes.now) }
+    ensures exact { GivesRead result (body_at bytes.now) }
 
     // What is read is valid, and the bytes are its text.
     ensures found { IfOk result (λ c. IsCertFields c × (bytes.now ≡ body_text c)) }
 
     // The text of valid fields is read, or memory is refused. So no text belongs to two values.
-    ensures only { (c : CertFields) → IsCertFields c → bytes.now ≡ body_text c → GivesPart result (Ok c) }
+    ensures only { (c : CertFields) → IsCertFields c → bytes.now ≡ body_text c → GivesRead result (Ok c) }
 
     // The returned fault is a fault of the bytes, and a fault of the bytes is returned, or memory is refused.
     ensures fault { IfErr result (λ e. IsCertFault bytes.now e) }
-    ensures answered { (e : CertFault) → e ≢ CertFault.NoMemory → IsCertFault bytes.now e → GivesPart result (Err e) }
+    ensures answered { (e : CertFault) → e ≢ CertFault.NoMemory → IsCertFault bytes.now e → GivesRead result (Err e) }
 {
     fields_in(alloc, bytes)
 }

@@ -10,7 +10,7 @@ ghost use Rattle.cert.specs.declared.cert_fault.CertFault.TheVariants.{BadPrinci
 ghost use Rattle.cert.specs.Options.{is_option};
 ghost use Rattle.text.specs.Results.{or_fault};
 ghost use Rattle.cert.specs.Reading.{
-  GivesPart,
+  GivesRead,
   GivesPair,
   comes_next,
   field_fault,
@@ -35,7 +35,7 @@ use wire::Cursor;
 
 // Reads at most 16 strings, each of them a principal.
 fn listed_principals(alloc: Global, text: &[u8]) -> Result<Texts, CertFault>
-    ensures { GivesPart result (or_fault BadPrincipals (strings_within 16 is_principal text.now)) }
+    ensures { GivesRead result (or_fault BadPrincipals (strings_within 16 is_principal text.now)) }
 {
     let mut principals = Texts::new(alloc);
     let mut inner = Cursor::new(text);
@@ -65,7 +65,7 @@ fn are_lawful(principals: &Texts) -> bool
 
 /// Reads the principals of a field's text.
 pub(crate) fn principals_in(alloc: Global, text: &[u8]) -> Result<Texts, CertFault>
-    ensures { GivesPart result (or_fault BadPrincipals (principals_of text.now)) }
+    ensures { GivesRead result (or_fault BadPrincipals (principals_of text.now)) }
 {
     let principals = listed_principals(alloc, text)?;
     if !are_lawful(&principals) {
@@ -146,7 +146,7 @@ fn push_pair(alloc: Global, options: &mut Pairs, name: &[u8], value: &[u8]) -> R
 
 // Reads at most six options.
 fn listed_options(alloc: Global, field: OptionField, text: &[u8]) -> Result<Pairs, CertFault>
-    ensures { GivesPart result (or_fault (field_fault field) (options_within 6 field [] text.now)) }
+    ensures { GivesRead result (or_fault (field_fault field) (options_within 6 field [] text.now)) }
 {
     let mut options = Pairs::new(alloc);
     let mut inner = Cursor::new(text);
@@ -178,7 +178,7 @@ pub(crate) fn options_in(
     field: OptionField,
     text: &[u8],
 ) -> Result<Pairs, CertFault>
-    ensures { GivesPart result (or_fault (field_fault field) (options_of field kind text.now)) }
+    ensures { GivesRead result (or_fault (field_fault field) (options_of field kind text.now)) }
 {
     match kind {
         Kind::User => listed_options(alloc, field, text),

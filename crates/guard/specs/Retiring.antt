@@ -5,7 +5,8 @@ use Rattle.guard.specs.State.{State}
 
 -- the row with the least serial of those at or above `from`; or there is none
 abbrev pub IsFirstFrom : ℕ → List Approved → Option Approved → Type 0
-IsFirstFrom from rows (Some a) = Contains rows a × (from ≤ a.serial) × All (λ b. from ≤ b.serial → a.serial ≤ b.serial) rows
+IsFirstFrom from rows (Some a) =
+    Contains rows a × (from ≤ a.serial) × All (λ b. from ≤ b.serial → a.serial ≤ b.serial) rows
 IsFirstFrom from rows None = All (λ b. b.serial < from) rows
 
 -- the same for the rows of a state

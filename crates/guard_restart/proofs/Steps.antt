@@ -6,7 +6,7 @@ use Rattle.std.specs.List.{list_any}
 use Rattle.std.specs.Option.{option_map, option_or}
 use Rattle.std.proofs.lemmas.Bool.{eq-eqb, ltb-false, or_parts}
 use Rattle.std.proofs.lemmas.List.{append-nil}
-use Rattle.std.proofs.lemmas.List.Elements.{All-append, All-cons, All-contains, All-head, All-nil, All-push, All-tail}
+use Rattle.std.proofs.lemmas.List.Elements.{All-append, All-cons, All-contains, All-nil, All-push}
 use Rattle.std.proofs.lemmas.List.Elements.{All-weaker}
 use Rattle.std.proofs.lemmas.List.Folds.{find-append}
 use Rattle.std.proofs.lemmas.List.Sums.{fold-append}
@@ -20,9 +20,9 @@ use Rattle.guard.specs.Retiring.{IsLowered, with_last}
 use Rattle.guard.specs.declared.scope.Scope.{Scope}
 use Rattle.guard.proofs.Allowed.{IsInScope, IsNew, kept_with_row, left_by, signed, signed_again}
 use Rattle.guard.proofs.Retired.{signs_again}
-use Rattle.guard_restart.specs.Steps.{IsLater, IsUncut, Step, WasAskedIn, guard_after, next_guard, stepped}
+use Rattle.guard_restart.specs.Steps.{IsLater, Step, WasAskedIn, guard_after, next_guard, stepped}
 
--- ---- a last serial that is lowered
+-- ---- a retirement
 
 abbrev is_beyond : State → ℕ → Bool
 is_beyond s last = nat_lt last s.scope.first || nat_lt s.scope.last last
@@ -61,11 +61,6 @@ none_above last (row ∷ rows) e =
 -- What holds for a state holds after a step, if it holds with one more body that may be signed, and with a lower last
 -- serial.
 module _ (P : State → Type 0) (s : State) (as_before : P s) where
-  by_lowering : (last : ℕ) → (IsLowered s last → P (with_last s last)) → (b : Bool) → is_beyond s last ≡ b
-      → P (cond b s (with_last s last))
-  by_lowering last lower true e = as_before
-  by_lowering last lower false e = lower (is_lowered s last e)
-
   by_over : (last : ℕ) → P (with_last s last) → (b : Bool)
       → P (if_retired s (cond b (Err SerialApproved) (Ok (with_last s last))))
   by_over last lower true = as_before
@@ -77,13 +72,12 @@ module _ (P : State → Type 0) (s : State) (as_before : P s) where
   by_retiring last lower true e = as_before
   by_retiring last lower false e = by_over last (lower (is_lowered s last e)) (is_approved_over s last)
 
-  after_step : (step : Step)
+  pub after_step : (step : Step)
       → ((q : Question) (c : CertFields) → step ≡ Step.asking q → IsNew s q c → P (with_approved s (row_of q c)))
       → ((last : ℕ) → IsLowered s last → P (with_last s last)) → P (stepped s step)
   after_step (Step.making scope) more lower = as_before
   after_step (Step.asking q) more lower = left_by P s q as_before (λ c new. more q c refl new)
   after_step (Step.retiring last) more lower = by_retiring last (lower last) (is_beyond s last) refl
-  after_step (Step.lowering last) more lower = by_lowering last (lower last) (is_beyond s last) refl
 
 -- ---- any steps
 
@@ -199,7 +193,6 @@ asked_one done step (Some s) is are = asked_next done step s is are
 asked_one done (Step.making scope) None is are = All-nil (WasAskedIn (done ++ Step.making scope ∷ []))
 asked_one done (Step.asking q) None is are = tt
 asked_one done (Step.retiring last) None is are = tt
-asked_one done (Step.lowering last) None is are = tt
 
 asked_all : (done todo : List Step) (p : Option State) → guard_after done ≡ p → AreAsked done p
     → AreAsked (done ++ todo) (fold next_guard p todo)
@@ -252,7 +245,6 @@ found_one (Some s) step are = found_next s step are
 found_one None (Step.making scope) are = All-nil (IsFound (record { scope = scope; approved = [] }))
 found_one None (Step.asking q) are = tt
 found_one None (Step.retiring last) are = tt
-found_one None (Step.lowering last) are = tt
 
 found_all : (p : Option State) (steps : List Step) → FoundIfAny p → FoundIfAny (fold next_guard p steps)
 found_all p [] are = are
@@ -297,9 +289,9 @@ module _ (again : Question) (c : CertFields) (fields : fields_of again.body ≡ 
         signs_again s retired last again c retires fields is.0 is.1,
       )
 
-  signs_next : (s : State) (step : Step) → IsUncut step → Signs s → Signs (stepped s step)
-  signs_next s (Step.making scope) whole is = is
-  signs_next s (Step.asking q) whole is =
+  signs_next : (s : State) (step : Step) → Signs s → Signs (stepped s step)
+  signs_next s (Step.making scope) is = is
+  signs_next s (Step.asking q) is =
       let was = signed s again is.1 in
       let same : was.0 ≡ c = cc in
       left_by Signs s q is
@@ -309,19 +301,15 @@ module _ (again : Question) (c : CertFields) (fields : fields_of again.body ≡ 
         signed_again (with_approved s (row_of q d)) again c fields
             (subst (λ (x : CertFields). IsInScope s.scope x) same was.1.scope) kept,
       ))
-  signs_next s (Step.retiring last) whole is = retired_signs s last is (retirement s last) refl
-  signs_next s (Step.lowering last) whole is = absurd whole
+  signs_next s (Step.retiring last) is = retired_signs s last is (retirement s last) refl
 
-  signs_all : (s : State) (later : List Step) → All IsUncut later → Signs s → Signs (fold stepped s later)
-  signs_all s [] whole is = is
-  signs_all s (step ∷ later) whole is =
-      signs_all (stepped s step) later (All-tail IsUncut step later whole)
-      (signs_next s step (All-head IsUncut step later whole) is)
+  signs_all : (s : State) (later : List Step) → Signs s → Signs (fold stepped s later)
+  signs_all = all_steps Signs signs_next
 
 pub signs : (steps later : List Step) (s t : State) (q again : Question) → guard_after steps ≡ Some s
-    → refusal_of s q ≡ None → again.body ≡ q.body → All IsUncut later
+    → refusal_of s q ≡ None → again.body ≡ q.body
     → guard_after (steps ++ Step.asking q ∷ later) ≡ Some t → refusal_of t again ≡ None
-signs steps later s t q again is none same whole then =
+signs steps later s t q again is none same then =
     let was = signed s q none in
     let c = was.0 in
     let fields : fields_of again.body ≡ Some c = ap fields_of same ∙ was.1.fields in
@@ -331,4 +319,4 @@ signs steps later s t q again is none same whole then =
     signed_again (after s q) again c fields
     (subst (λ (x : Scope). IsInScope x c) (sym scope) was.1.scope) kept in
     subst (λ (x : State). refusal_of x again ≡ None) (is_then steps (Step.asking q ∷ later) s t is then)
-    (signs_all again c fields (after s q) later whole (kept, now)).1
+    (signs_all again c fields (after s q) later (kept, now)).1

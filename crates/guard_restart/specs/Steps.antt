@@ -1,31 +1,23 @@
 -- The steps in the life of a guard, and what holds of it after any list of them.
-use Rattle.std.specs.Prelude.{◌≡◌, ◌≤◌, ◌++◌, ◌∷◌, ◌||◌, ℕ, All, List, fold, if◌then◌else◌, nat_lt, Option, Some, None}
+use Rattle.std.specs.Prelude.{◌≡◌, ◌≤◌, ◌++◌, ◌∷◌, ℕ, All, List, fold, Option, Some, None}
 use Rattle.cert.specs.declared.fields.CertFields.{CertFields}
 use Rattle.guard.specs.declared.approved.Approved.{Approved}
 use Rattle.guard.specs.declared.scope.Scope.{Scope}
 use Rattle.guard.specs.History.{MaySign}
 use Rattle.guard.specs.Machine.{State, Question, after, opened, row_of}
 use Rattle.guard.specs.Retirement.{if_retired, retirement}
-use Rattle.guard.specs.Retiring.{with_last}
 
--- One step: a guard is made with a scope, answers a question, or is retired to a last serial. Or a retirement ended
--- with a fault and a crash left this last serial: it was lowered, but no clause says that no body is approved above it.
+-- One step: a guard is made with a scope, answers a question, or is retired to a last serial.
 pub data Step : Type 0 where
   making : Scope → Step
   asking : Question → Step
   retiring : ℕ → Step
-  lowering : ℕ → Step
-
--- the state with this last serial, unless it is below the first serial or above the last one
-abbrev pub lowered : State → ℕ → State
-lowered s last = if nat_lt last s.scope.first || nat_lt s.scope.last last then s else with_last s last
 
 -- the state after a step; a guard is made only once
 abbrev pub stepped : State → Step → State
 stepped s (Step.making scope) = s
 stepped s (Step.asking q) = after s q
 stepped s (Step.retiring last) = if_retired s (retirement s last)
-stepped s (Step.lowering last) = lowered s last
 
 -- the guard after a step, if there is one
 abbrev pub next_guard : Option State → Step → Option State
@@ -59,8 +51,3 @@ pub record IsLater (s later : State) : Type 0 where
   pub rows : List Approved
   pub approved : later.approved ≡ s.approved ++ rows
   pub within : All (λ a. a.serial ≤ s.scope.last) rows
-
--- a step other than a retirement that ended with a fault
-abbrev pub IsUncut : Step → Type 0
-IsUncut (Step.lowering last) = ⊥
-IsUncut other = Unit {0}

@@ -7,7 +7,7 @@ ghost use Rattle.guard.specs.Machine.{State, Question, refusal_of};
 ghost use Rattle.guard.specs.Retirement.{retirement};
 ghost use Rattle.guard_restart.specs.Lives.{LivesKeep, RunsGoOn};
 ghost use Rattle.guard_restart.specs.Runs.{FoundIsHad, RunKeepsGuard};
-ghost use Rattle.guard_restart.specs.Steps.{IsLater, IsUncut, Step, WasAskedIn, guard_after};
+ghost use Rattle.guard_restart.specs.Steps.{IsLater, Step, WasAskedIn, guard_after};
 
 use sqlite::{Alter, Connection, Files};
 use sqlite_disk::Disk;
@@ -61,9 +61,9 @@ pub fn a_kept_serial_has_one_body()
 {}
 
 /// A body that may be signed may be signed again after that question, whatever is asked in between, under any policy
-/// and at any time, and after any retirement except one that ended with a fault.
+/// and at any time, and after any retirement.
 pub fn a_kept_body_is_signed_again()
     ensures { (steps later : List Step) (s t : State) (q again : Question) → guard_after steps ≡ Some s
-        → refusal_of s q ≡ None → again.body ≡ q.body → All IsUncut later
+        → refusal_of s q ≡ None → again.body ≡ q.body
         → guard_after (steps ++ Step.asking q ∷ later) ≡ Some t → refusal_of t again ≡ None }
 {}

@@ -18,7 +18,8 @@ pub record Shows {X : Type 0} (Shown : State → X → Type 0) (old new : Connec
     pub cause : HasCleanDisk new → (s : State) → Keeps old s → IfErr r (λ e. HasCause e (HasFailed new))
 
 -- the same for a connection
-abbrev pub ShowsOf : {S X : Type 0} → Ghosts S → (State → X → Type 0) → Held S → Held S → Result X RegisterFault → Type 0
+abbrev pub ShowsOf : {S X : Type 0} → Ghosts S → (State → X → Type 0) → Held S → Held S → Result X RegisterFault
+    → Type 0
 ShowsOf g Shown old new r = Shows Shown (state g old) (state g new) r
 
 -- a writing call leads to the state `after`, if `May` holds; there is room for it if `Room` holds

@@ -13,7 +13,8 @@ guard = by_number (codes "guard") (
 
 abbrev pub approved : Table
 approved = by_number (codes "approved") (
-    optional_column (codes "serial") Integer ∷ required_column (codes "moment") Integer ∷ required_column (codes "body") Blob ∷ [])
+    optional_column (codes "serial") Integer ∷ required_column (codes "moment") Integer
+    ∷ required_column (codes "body") Blob ∷ [])
 
 abbrev pub through_guard : Schema
 through_guard = created no_schema guard

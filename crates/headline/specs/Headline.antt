@@ -153,10 +153,10 @@ RunsUnprinted exchanges old new r = r ≡ Err run.Write → OfficeRuns old new e
 -- ---- a list that is not written
 
 -- the writer failed
-abbrev pub is_unwritten : Result (Unit {0}) PublishFault → Bool
-is_unwritten (Ok done) = false
-is_unwritten (Err (Store fault)) = false
-is_unwritten (Err Write) = true
+abbrev pub has_writer_failed : Result (Unit {0}) PublishFault → Bool
+has_writer_failed (Ok done) = false
+has_writer_failed (Err (Store fault)) = false
+has_writer_failed (Err Write) = true
 
 -- a property of the fault, if it is one of the register
 abbrev pub OfStore : (StoreFault → Type 0) → PublishFault → Type 0

@@ -29,7 +29,7 @@ ghost use Rattle.headline.specs.Headline.{AnswersDue, AnswersList, BodiesNameThe
 ghost use Rattle.headline.specs.Headline.{EqualVersionsAreEqualLists, FailsAsRegister, IsAsBeforeWhereOpen};
 ghost use Rattle.headline.specs.Headline.{KeepsTellingOnErr, ListsForgetNothing, OfStore, OfficeStops, PrintsDue};
 ghost use Rattle.headline.specs.Headline.{PrintsWithFaults, PublishFailsAsRegister, RunsUnprinted, StoresWhereFound};
-ghost use Rattle.headline.specs.Headline.{WritesList, is_unwritten};
+ghost use Rattle.headline.specs.Headline.{WritesList, has_writer_failed};
 
 pub use exchanges::RunFault;
 use exchanges::apply_exchanges;
@@ -145,7 +145,8 @@ fn write_found<W: Sink>(revoked: &Revoked, sink: &mut W) -> Result<(), PublishFa
     ensures ok { OnOk result (Appends (W.taken sink.old) (W.taken sink.new)
         (published_text revoked.now.head revoked.now.parts.items revoked.now.key_ids)) }
     ensures unwritten { IfErr result (λ e. e ≢ PublishFault.Write → sink.new ≡ sink.old) }
-    ensures failed { W.failed sink.new ≡ (if is_unwritten result then W.failed sink.old + 1 else W.failed sink.old) }
+    ensures failed { W.failed sink.new
+        ≡ (if has_writer_failed result then W.failed sink.old + 1 else W.failed sink.old) }
     ensures only { IfErr result (OfStore (IsOfAList (length revoked.now.parts.items))) }
 {
     let parts = revoked.parts.as_slice();
@@ -188,7 +189,8 @@ pub fn publish<S: Alter, W: Sink>(
     // After any fault except the writer's, nothing is written. The writer's fault is returned exactly when the writer
     // failed.
     ensures unwritten { IfErr result (λ e. e ≢ PublishFault.Write → sink.new ≡ sink.old) }
-    ensures failed { W.failed sink.new ≡ (if is_unwritten result then W.failed sink.old + 1 else W.failed sink.old) }
+    ensures failed { W.failed sink.new
+        ≡ (if has_writer_failed result then W.failed sink.old + 1 else W.failed sink.old) }
 
     // If the tables represent a history, a fault of the register is `NoMemory` or `Device`. `Device` is returned only
     // if the database failed.

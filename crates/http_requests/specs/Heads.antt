@@ -18,12 +18,12 @@ abbrev pub Line : Type 0
 Line = List ℕ × List ℕ
 
 -- the line has this name, ignoring ASCII case
-abbrev pub has_line_name : List ℕ → Line → Bool
-has_line_name name line = str_eq_ignore_ascii_case line.0 name
+abbrev pub is_line_named : List ℕ → Line → Bool
+is_line_named name line = str_eq_ignore_ascii_case line.0 name
 
 -- the values of the lines with this name, in order
 abbrev pub values : List ℕ → List Line → List (List ℕ)
-values name lines = map (λ line. line.1) (filter (has_line_name name) lines)
+values name lines = map (λ line. line.1) (filter (is_line_named name) lines)
 
 -- the header lines of a head
 abbrev pub lines_of : RequestHead → List Line

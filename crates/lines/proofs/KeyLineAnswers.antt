@@ -3,7 +3,7 @@ use Rattle.std.proofs.Common.{◌≡◌, ◌≢◌, ℕ, List, Result, Ok, Err, 
 use Rattle.std.specs.Prelude.{IsTrue, IsOk, IfErr}
 use Rattle.base64.specs.GeneralPurpose.{IsBytes}
 use Rattle.lines.specs.KeyLines.{is_key_line, key_line_text}
-use Rattle.lines.specs.Reading.{key_line_at, GivesKeyLine, IsLineFault, IsLawfulLine}
+use Rattle.lines.specs.Reading.{key_line_at, GivesKeyLine, IsLineFault, IsKeyLineText}
 use Rattle.lines.specs.declared.key_line.KeyLine.{KeyLine}
 use Rattle.lines.specs.declared.key_line.LineFault.{LineFault}
 use Rattle.lines.specs.declared.key_line.LineFault.TheVariants.{NoMemory}
@@ -20,7 +20,7 @@ pub fault_from : (line : List ℕ) (r : Result KeyLine LineFault) → IsBytes li
 fault_from line (Ok k) fits given = tt
 fault_from line (Err NoMemory) fits given = lawful (key_line_at line) given (key_line_says line fits)
   where
-    lawful : (read : Result KeyLine LineFault) → IsOk read → Says line read → IsLawfulLine line
+    lawful : (read : Result KeyLine LineFault) → IsOk read → Says line read → IsKeyLineText line
     lawful (Ok k) ok says = (k, says.0, says.1)
     lawful (Err e) ok says = absurd cc
 fault_from line (Err e) fits given = subst (Says line) given (key_line_says line fits)

@@ -76,8 +76,8 @@ HasBadComment line = (key : List ℕ) × (comment : List ℕ) × (is_comment com
     × (line ≡ key_line_text (record { key = key; comment = Some comment }))
 
 -- The text is that of a valid line.
-abbrev pub IsLawfulLine : List ℕ → Type 0
-IsLawfulLine line = (k : KeyLine) × IsTrue (is_key_line k) × (line ≡ key_line_text k)
+abbrev pub IsKeyLineText : List ℕ → Type 0
+IsKeyLineText line = (k : KeyLine) × IsTrue (is_key_line k) × (line ≡ key_line_text k)
 
 -- the property of the text for each fault
 abbrev pub IsLineFault : List ℕ → LineFault → Type 0
@@ -85,4 +85,4 @@ IsLineFault line WrongType = HasWrongType line
 IsLineFault line BadBase64 = HasBadBase64 line
 IsLineFault line BadBlob = HasBadBlob line
 IsLineFault line BadComment = HasBadComment line
-IsLineFault line NoMemory = IsLawfulLine line
+IsLineFault line NoMemory = IsKeyLineText line

@@ -65,7 +65,8 @@ IsRead world around remaining cas begins path (Err e) = IsOfAKey e
 -- no guard was looked for or opened, and nothing was printed.
 pub record ListsIn {E F D G : Type 0} (world : surroundings.Ghosts E F) (around : E) (remaining : F → Option (List ℕ))
     (guard : register.Ghosts G) (file : file.Ghosts D G) (db db' : D) (at : List ℕ) (cas : List (List ℕ))
-    (begins : Bool) (path : List ℕ) (held holds : Option (List ℕ)) (result : Result (Unit {0}) StationFault) : Type 0 where
+    (begins : Bool) (path : List ℕ) (held holds : Option (List ℕ)) (result : Result (Unit {0}) StationFault)
+    : Type 0 where
   pub asked : Result Question StationFault
   pub read : IsRead world around remaining cas begins path asked
   pub judged : Follows
@@ -78,4 +79,5 @@ abbrev pub RunsJob : {E F D G : Type 0} → surroundings.Ghosts E F → E → (r
     → Result (Unit {0}) StationFault → Type 0
 RunsJob world around remaining guard file db db' at Init held holds result = InitsIn file db db' at held holds result
 RunsJob world around remaining guard file db db' at (Lists l) held holds result =
-    ListsIn world around remaining guard file db db' at (map string_bytes l.cas.now) l.begins l.list.now held holds result
+    ListsIn world around remaining guard file db db' at (map string_bytes l.cas.now) l.begins l.list.now held holds
+    result

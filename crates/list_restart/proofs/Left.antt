@@ -33,7 +33,7 @@ leaves_what_is_kept c files copied s keeps image may = record {
   kept = (keeps.rows copied.was_open).committed.kept;
 }
 
--- if the files hold trees with one of two rows, they hold one of the two list guards
+-- if the files hold trees with the rows of one of two states, they hold the list guard with one of them
 holds_left : (s t : State) (image : Image) (db : Trees) → HoldsDatabase image db
     → Kept db (list_contents s) ⊎ Kept db (list_contents t) → HoldsOneOf image s t
 holds_left s t image db holds (inl kept) = ∣ inl (record { trees = db; holds = ∣ holds ∣₁; kept = kept }) ∣₁

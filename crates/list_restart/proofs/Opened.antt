@@ -20,7 +20,7 @@ use Rattle.restart.proofs.HalfMade.{found_nothing}
 use Rattle.restart.proofs.OneSchema.{one_schema}
 use Rattle.list_restart.specs.Runs.{FoundIsHad, HasWhatIsHeld, IsBlankIfNone}
 
--- trees with the row of a list guard have the schema of one
+-- trees with the rows of a list guard have the schema of one
 pub found_is_had : (c : Connection) → FoundIsHad c
 found_is_had c opens live s kept =
     let schema = one_schema whole c.committed.schema c.committed.trees refl kept.sound (live opens.is_open).1 in

@@ -9,7 +9,7 @@ use Rattle.list_sql.specs.Keeping.{IsFilled}
 use Rattle.list_sql.specs.Rows.{list_contents}
 use Rattle.restart.specs.Images.{HoldsNone}
 
--- the files hold a database whose table has the row of this state
+-- the files hold a database whose table has the rows of this state
 pub record HoldsList (image : Image) (s : State) : Type 0 where
   pub trees : Trees
   pub holds : ∥ HoldsDatabase image trees ∥₁

@@ -21,7 +21,7 @@ use Rattle.list_restart.specs.Lives.{GoesOn, IsRun, Said}
 
 -- ---- the open
 
--- a new connection has each list guard whose row its trees hold
+-- a new connection has each list guard whose rows its trees hold
 abbrev pub FoundIsHad : Connection → Type 0
 FoundIsHad c = Opens c → IsLive c → (s : State) → Kept c.committed.trees (list_contents s) → HasList s c
 

@@ -6,7 +6,7 @@ ghost use Rattle.list_restart.specs.Runs.{FoundIsHad};
 
 use sqlite::{Alter, Connection};
 
-/// A new connection has each list guard whose row its trees hold.
+/// A new connection has each list guard whose rows its trees hold.
 pub fn what_is_found_is_had<S: Alter>(conn: &Connection<S>)
     ensures { FoundIsHad (state S.Store conn.now) }
 {

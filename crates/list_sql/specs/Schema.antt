@@ -8,7 +8,8 @@ use Rattle.store_sql.specs.Schema.{by_number, no_schema, optional_column, requir
 
 abbrev pub list : Table
 list = by_number (codes "list") (
-    optional_column (codes "id") Integer ∷ required_column (codes "schema") Integer ∷ required_column (codes "bytes") Blob ∷ [])
+    optional_column (codes "id") Integer ∷ required_column (codes "schema") Integer
+    ∷ required_column (codes "bytes") Blob ∷ [])
 
 -- the schema with this table only
 abbrev pub whole : Schema

@@ -1,6 +1,6 @@
 -- Departments put in their places.
 use Rattle.memory_store.proofs.Words.{Bool, Department, Equal, Greater, Less, List, Ordering, [], and_parts, ap}
-use Rattle.memory_store.proofs.Words.{bytes_eq, cond, entries, false, insert, is_department_named, is_eq}
+use Rattle.memory_store.proofs.Words.{bytes_eq, cond, entries, false, insert, is_some_named, is_eq}
 use Rattle.memory_store.proofs.Words.{is_eq-slice_cmp, is_gt, length, list_all, nat_cmp, nat_list_eq_equiv, place_of}
 use Rattle.memory_store.proofs.Words.{put, refl, slice_cmp, slice_get, slice_set, suc, sym, take_while, take_while-cons}
 use Rattle.memory_store.proofs.Words.{true, ℕ, ◌∙◌, ◌∷◌, ◌≡◌}
@@ -23,13 +23,13 @@ same_bytes : (xs ys : List ℕ) → bytes_eq xs ys ≡ true → xs ≡ ys
 same_bytes xs ys e = (bytes_eq-Decides xs ys).0 e
 
 -- if the department at the place has the name, it is replaced
-pub put_replaced : (v : Department) (ds : List Department) → is_department_named (slice_get ds (place_of ds v.name)) v.name ≡ true
+pub put_replaced : (v : Department) (ds : List Department) → is_some_named (slice_get ds (place_of ds v.name)) v.name ≡ true
     → entries (slice_set ds (place_of ds v.name) v) ≡ put (slice_cmp nat_cmp) v.name v (entries ds)
 put_replaced v [] is = absurd cc
 put_replaced v (d ∷ ds) is = by_case (slice_cmp nat_cmp v.name d.name) (put_replaced v ds) refl
   where
     by_case : (o : Ordering)
-        → (is_department_named (slice_get ds (place_of ds v.name)) v.name ≡ true → entries (slice_set ds (place_of ds v.name) v) ≡ put (slice_cmp nat_cmp) v.name v (entries ds))
+        → (is_some_named (slice_get ds (place_of ds v.name)) v.name ≡ true → entries (slice_set ds (place_of ds v.name) v) ≡ put (slice_cmp nat_cmp) v.name v (entries ds))
         → slice_cmp nat_cmp v.name d.name ≡ o → entries (slice_set (d ∷ ds) (place_of (d ∷ ds) v.name) v) ≡ put (slice_cmp nat_cmp) v.name v (entries (d ∷ ds))
     by_case Less rest e =
         let zero : place_of (d ∷ ds) v.name ≡ 0 = place-cons d ds v.name ∙ ap (λ (o : Ordering). cond (is_gt o) (suc (place_of ds v.name)) 0) e in
@@ -44,13 +44,13 @@ put_replaced v (d ∷ ds) is = by_case (slice_cmp nat_cmp v.name d.name) (put_re
         rw (more, e) (ap (λ (es : List (List ℕ × Department)). entry d ∷ es) (rest (rw more at is)))
 
 -- if it doesn't, the new one is inserted before it
-pub put_inserted : (v : Department) (ds : List Department) → is_department_named (slice_get ds (place_of ds v.name)) v.name ≡ false
+pub put_inserted : (v : Department) (ds : List Department) → is_some_named (slice_get ds (place_of ds v.name)) v.name ≡ false
     → entries (insert ds (place_of ds v.name) v) ≡ put (slice_cmp nat_cmp) v.name v (entries ds)
 put_inserted v [] is = refl
 put_inserted v (d ∷ ds) is = by_case (slice_cmp nat_cmp v.name d.name) (put_inserted v ds) refl
   where
     by_case : (o : Ordering)
-        → (is_department_named (slice_get ds (place_of ds v.name)) v.name ≡ false → entries (insert ds (place_of ds v.name) v) ≡ put (slice_cmp nat_cmp) v.name v (entries ds))
+        → (is_some_named (slice_get ds (place_of ds v.name)) v.name ≡ false → entries (insert ds (place_of ds v.name) v) ≡ put (slice_cmp nat_cmp) v.name v (entries ds))
         → slice_cmp nat_cmp v.name d.name ≡ o → entries (insert (d ∷ ds) (place_of (d ∷ ds) v.name) v) ≡ put (slice_cmp nat_cmp) v.name v (entries (d ∷ ds))
     by_case Less rest e =
         let zero : place_of (d ∷ ds) v.name ≡ 0 = place-cons d ds v.name ∙ ap (λ (o : Ordering). cond (is_gt o) (suc (place_of ds v.name)) 0) e in

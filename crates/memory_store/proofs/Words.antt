@@ -31,5 +31,5 @@ pub use Rattle.std.specs.Str.{bytes_eq}
 pub use Rattle.std.specs.declared.cmp.Ordering.{Ordering}
 pub use Rattle.std.specs.declared.cmp.Ordering.TheVariants.{Equal, Greater, Less}
 pub use Rattle.memory_store.specs.Contents.{MemoryContents, state_of}
-pub use Rattle.memory_store.specs.Departments.{entries, has_department_name, is_department_named, place_of}
+pub use Rattle.memory_store.specs.Departments.{entries, has_department_name, is_some_named, place_of}
 pub use Rattle.memory_store.specs.KeyIds.{is_at, place_among}

@@ -24,6 +24,6 @@ place_of ds name = length (take_while (λ d. is_before d name) ds)
 abbrev pub has_department_name : Department → List ℕ → Bool
 has_department_name d name = bytes_eq d.name name
 
-abbrev pub is_department_named : Option Department → List ℕ → Bool
-is_department_named (Some d) name = bytes_eq d.name name
-is_department_named None name = false
+abbrev pub is_some_named : Option Department → List ℕ → Bool
+is_some_named (Some d) name = bytes_eq d.name name
+is_some_named None name = false

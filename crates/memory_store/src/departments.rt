@@ -7,7 +7,7 @@ ghost use Rattle.std.specs.List.{slice_get};
 ghost use Rattle.std.specs.FinMap.Entries.{put};
 ghost use Rattle.std.specs.Cmp.Lexicographic.{slice_cmp};
 ghost use Rattle.std.specs.Ordering.{nat_cmp};
-ghost use Rattle.memory_store.specs.Departments.{entries, is_before, place_of, is_department_named};
+ghost use Rattle.memory_store.specs.Departments.{entries, is_before, place_of, is_some_named};
 ghost use Rattle.memory_store.specs.Departments.{has_department_name};
 
 use message::Department;
@@ -31,7 +31,7 @@ fn place_of(departments: &[Department], name: &[u8]) -> usize
 }
 
 fn is_at(departments: &[Department], place: usize, name: &[u8]) -> bool
-    ensures { result ≡ is_department_named (slice_get departments.now place) name.now }
+    ensures { result ≡ is_some_named (slice_get departments.now place) name.now }
 {
     match departments.get(place) {
         Some(department) => department.name.is(name),

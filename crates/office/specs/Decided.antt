@@ -1,5 +1,6 @@
 -- The meaning of a decision in the reference model.
-use Rattle.std.specs.Prelude.{◌≡◌, ℕ, ◌+◌, ◌<◌, ◌≤◌, List, length, Bool, IsTrue, IsSome, Option, None, option_copied, Result}
+use Rattle.std.specs.Prelude.{◌≡◌, ℕ, ◌+◌, ◌<◌, ◌≤◌, List, length, Bool, IsTrue, IsSome, Option, None, option_copied}
+use Rattle.std.specs.Prelude.{Result}
 use Rattle.std.specs.Prelude.{Ok, Err}
 use Rattle.std.specs.Option.{option_and_then}
 use Rattle.values.specs.Names.{department_of, is_key_id}

@@ -131,7 +131,8 @@ pub trait Registry {
         ensures stays_open { is_honest self.new → OnOk result (is_open self.new) }
         ensures row { is_honest self.new → AnswersBy means self.old result
             (λ o l rows. rows.items ≡ pending_of (state o l)) }
-        ensures cause { is_honest self.new → IfErr result (λ e. HasRegisterCause e (FailsWithin means fails self.old self.new)) }
+        ensures cause { is_honest self.new → IfErr result
+            (λ e. HasRegisterCause e (FailsWithin means fails self.old self.new)) }
         ensures only { is_honest self.new → FailsAsARegister means self.old result }
     {
         let revocations = self.revocations(alloc)?;

@@ -1,8 +1,8 @@
 -- What a job adds to the history that the tables represent.
 use Rattle.office_jobs.proofs.Words.{AddsArrivals, Applies, Arrival, Bool, DoesOfficeJob, Err, Exchange, Given, Heard}
-use Rattle.office_jobs.proofs.Words.{IsReport, IsTrue, JobFault, KeepsTelling, List, ListingEnds, MakingEnds}
-use Rattle.office_jobs.proofs.Words.{MigratingEnds, OfficeJob, OfficePrints, Ok, Opening, Option, Report, Result}
-use Rattle.office_jobs.proofs.Words.{ServingEnds, State, Tells, [], false, subst, sym, true, whole, ℕ, ◌≢◌}
+use Rattle.office_jobs.proofs.Words.{IsReport, IsTrue, JobFault, KeepsTelling, List, PrintsKrl, MakesOffice}
+use Rattle.office_jobs.proofs.Words.{MigratesOffice, OfficeJob, OfficePrints, Ok, Opening, Option, Report, Result}
+use Rattle.office_jobs.proofs.Words.{ServesOffice, State, Tells, [], false, subst, sym, true, whole, ℕ, ◌≢◌}
 use Rattle.std.proofs.Common.{append-nil}
 use Rattle.web.specs.Runs.{Serves as AllServed}
 use Rattle.restart.proofs.Adding.{arrivals_stay}
@@ -29,7 +29,7 @@ module _ (old new : State) (was : IsTrue old.is_open) where
   not_new : old.now.schema ≢ whole → AddsArrivals old new
   not_new none o l told = absurd (none (told.rows was).now.schema)
 
-  made : (opening : Opening) (r : Result Unit JobFault) → MakingEnds opening old new r → AddsArrivals old new
+  made : (opening : Opening) (r : Result Unit JobFault) → MakesOffice opening old new r → AddsArrivals old new
   made opening (Ok done) h = not_new h.unlike
   made opening (Err fault.NoMemory) h = adds_none old new h.tells
   made opening (Err (fault.Store e)) h = adds_none old new h.tells
@@ -44,7 +44,7 @@ module _ (old new : State) (was : IsTrue old.is_open) where
   made opening (Err (fault.List x)) h = absurd h
   made opening (Err fault.Fault) h = absurd h
 
-  moved : (r : Result Unit JobFault) → MigratingEnds old new r → AddsArrivals old new
+  moved : (r : Result Unit JobFault) → MigratesOffice old new r → AddsArrivals old new
   moved (Ok done) h = not_new h.unlike
   moved (Err fault.NoMemory) h = adds_none old new h.tells
   moved (Err (fault.Store e)) h = adds_none old new h.tells
@@ -79,7 +79,7 @@ module _ (old new : State) (was : IsTrue old.is_open) where
   applied exchanges held holds (Err (fault.Opening x)) h = absurd h
   applied exchanges held holds (Err (fault.List x)) h = absurd h
 
-  listed : (held holds : Option (List ℕ)) (r : Result Unit JobFault) → ListingEnds old new held holds r → AddsArrivals old new
+  listed : (held holds : Option (List ℕ)) (r : Result Unit JobFault) → PrintsKrl old new held holds r → AddsArrivals old new
   listed held holds (Ok done) h = adds_none old new (λ o l told. (h.1.2 o l told).1.tells)
   listed held holds (Err fault.Write) h = adds_none old new (λ o l told. (h.1 o l told).tells)
   listed held holds (Err fault.NoMemory) h = adds_none old new h.1.tells
@@ -120,7 +120,7 @@ module _ (old new : State) (was : IsTrue old.is_open) where
   done job.Migrate held holds r h = moved r h.0
 
   pub served : (connections : ℕ) (source : Option (List ℕ)) (heard : Heard) (held holds : Option (List ℕ))
-      (r : Result ℕ JobFault) → ServingEnds connections source heard old new held holds r → AddsArrivals old new
+      (r : Result ℕ JobFault) → ServesOffice connections source heard old new held holds r → AddsArrivals old new
   served connections source heard held holds (Ok status) h =
       λ o l told. let more = h.4.served o l told in (more.more, more.history)
   served connections source heard held holds (Err fault.Socket) h = adds_none old new h.2

@@ -1,9 +1,9 @@
 -- What a job does is what its run was asked to do.
 use Rattle.office_jobs.proofs.Words.{All, Appends, Applies, Arrival, Asked, Asks, AsksExchanges, AsksOffice}
 use Rattle.office_jobs.proofs.Words.{AsksServing, DoesOfficeJob, Err, Exchange, Given, HasCleanDisk, Heard, IsBlank}
-use Rattle.office_jobs.proofs.Words.{IsReport, IsTrue, IsUnmade, JobFault, KeepsTelling, List, ListingEnds, MakingEnds}
-use Rattle.office_jobs.proofs.Words.{MigratingEnds, None, OfficeJob, Ok, Opening, Option, PlainText, Result}
-use Rattle.office_jobs.proofs.Words.{RevocationList, ServingEnds, Signers, State, StoreFault, Table, Tells, [], ap}
+use Rattle.office_jobs.proofs.Words.{IsReport, IsTrue, IsUnmade, JobFault, KeepsTelling, List, PrintsKrl, MakesOffice}
+use Rattle.office_jobs.proofs.Words.{MigratesOffice, None, OfficeJob, Ok, Opening, Option, PlainText, Result}
+use Rattle.office_jobs.proofs.Words.{RevocationList, ServesOffice, Signers, State, StoreFault, Table, Tells, [], ap}
 use Rattle.office_jobs.proofs.Words.{arith, codes, false, get, inl, inr, is_office_table, list_any, refl, response_text}
 use Rattle.office_jobs.proofs.Words.{subst, sym, ℕ, ◌∷◌, ◌≡◌, ◌≢◌}
 use Rattle.std.proofs.Common.{zero, suc}
@@ -204,7 +204,7 @@ module _ (old new : State) where
       unrun (x ∷ []) r refuses tells,
     )
 
-  listed : (held holds : Option (List ℕ)) (r : Result (Unit {0}) JobFault) → Refuses r → ListingEnds old new held holds r
+  listed : (held holds : Option (List ℕ)) (r : Result (Unit {0}) JobFault) → Refuses r → PrintsKrl old new held holds r
       → Shown RevocationList Bytes held holds r
   listed held holds (Ok done) refuses h =
       showed RevocationList Bytes list_get asks_list done held holds h.1.0 h.1.1 refuses (λ o l told.
@@ -282,7 +282,7 @@ module _ (old new : State) where
 
   -- ---- migrated tables
 
-  moved : IsTrue old.is_open → (r : Result (Unit {0}) JobFault) → MigratingEnds old new r → KeepsTelling old new
+  moved : IsTrue old.is_open → (r : Result (Unit {0}) JobFault) → MigratesOffice old new r → KeepsTelling old new
   moved was (Ok done) h = λ o l told. absurd (h.unlike (told.rows was).now.schema)
   moved was (Err fault.NoMemory) h = h.tells
   moved was (Err (fault.Store e)) h = h.tells
@@ -317,7 +317,7 @@ module _ (old new : State) where
       );
     }
 
-    founded : (r : Result (Unit {0}) JobFault) → MakingEnds opening old new r → DoesAsked (founding_asked opening) old new
+    founded : (r : Result (Unit {0}) JobFault) → MakesOffice opening old new r → DoesAsked (founding_asked opening) old new
     founded (Ok done) h = record {
       office = λ o l told. absurd (h.unlike (told.rows was).now.schema);
       none = λ blank. (
@@ -375,7 +375,7 @@ module _ (old new : State) where
 
   pub serves_asked : HasCleanDisk new → (connections : ℕ) (nonces : Option (List ℕ)) (heard : Heard)
       (held holds : Option (List ℕ)) (r : Result ℕ JobFault) → Refuses r
-      → ServingEnds connections nonces heard old new held holds r → DidServe connections nonces heard r
+      → ServesOffice connections nonces heard old new held holds r → DidServe connections nonces heard r
   serves_asked clean n nonces heard held holds (Ok zero) refuses h =
       let met = h.4.met refl in
       let visits = met.2.visits in (

@@ -1,12 +1,12 @@
 -- Connections served over the office that was opened were served over the database as it was given.
 use Rattle.office_jobs.proofs.Words.{Appends, Book, Err, ErrorKind, HasCleanDisk, IsAsBefore, IsTrue, IsUnopened}
-use Rattle.office_jobs.proofs.Words.{JobFault, KeepsTelling, List, MeetsOver, None, Ok, Option, Result, ServingEnds}
+use Rattle.office_jobs.proofs.Words.{JobFault, KeepsTelling, List, MeetsOver, None, Ok, Option, Result, ServesOffice}
 use Rattle.office_jobs.proofs.Words.{Some, State, StoreFault, Tells, heard_of, of_store, refl, subst, sym, ℕ, ◌≡◌, ◌≤◌}
 use Rattle.std.proofs.Common.{map}
 use Rattle.office.specs.declared.registry.Registry.{Ghosts}
 use Rattle.office.specs.declared.store_fault.StoreFault.TheVariants as store
 use Rattle.web.specs.Runs.{Serves as AllServed}
-use Rattle.server.specs.Connections.{AreServed, Extends, Visited, Visit, exchange_of, given_of}
+use Rattle.server.specs.Connections.{AreServed, Extends, ServesConnections, Visit, exchange_of, given_of}
 use Rattle.server.specs.Names.{listening_line}
 use Rattle.office_jobs.proofs.Carried.{before_again}
 use Rattle.office_jobs.specs.declared.job_fault.JobFault.TheVariants as fault
@@ -17,7 +17,7 @@ pub met_over : {S : Type 0} (n : ℕ) (book book' : Option Book) (nonces nonces'
     (old new : State)
     → ((visits : List Visit) → AreServed r a b visits → HasCleanDisk new → AllServed (Tells old) (Tells new)
     (λ o l. Tells new o l × IsTrue new.is_open) (map exchange_of visits) (map given_of visits))
-    → Visited n book book' nonces nonces' r a b → MeetsOver n book book' nonces nonces' old new
+    → ServesConnections n book book' nonces nonces' r a b → MeetsOver n book book' nonces nonces' old new
 met_over n book book' nonces nonces' r a b old new carry x = record {
   visits = x.visits;
   all = x.all;
@@ -47,7 +47,7 @@ pub served_at : (n port status : ℕ) (book book' : Option Book) (source first l
     (held listening holds : Option (List ℕ)) → Appends held listening (listening_line port) → holds ≡ listening
     → first ≡ source → (status ≡ 0 → MeetsOver n book book' first left old new) → (status ≡ 1 → new ≡ old)
     → Extends n (Tells old) (Tells new) → status ≤ 1
-    → ServingEnds n source (Some (Ok (book, port))) old new held holds (Ok status)
+    → ServesOffice n source (Some (Ok (book, port))) old new held holds (Ok status)
 served_at n port status book book' source first left old new held listening holds printed quiet same met unmet served
     low = (
       book,
@@ -69,7 +69,7 @@ served_at n port status book book' source first left old new held listening hold
 -- connections served after an opening are served over the database that was opened
 served_from : (n : ℕ) (source : Option (List ℕ)) (heard : Result (Option Book × ℕ) ErrorKind) (old mid new : State)
     (held holds : Option (List ℕ)) (r : Result ℕ JobFault) → IsAsBefore old mid → KeepsTelling old mid
-    → ServingEnds n source (Some heard) mid new held holds r → ServingEnds n source (Some heard) old new held holds r
+    → ServesOffice n source (Some heard) mid new held holds r → ServesOffice n source (Some heard) old new held holds r
 served_from n source heard old mid new held holds (Ok status) before tells h = (
   h.0,
   h.1,
@@ -104,8 +104,8 @@ served_from n source heard old mid new held holds (Err fault.Fault) before tells
 pub served_of : {Incoming : Type 0} (n : ℕ) (source : Option (List ℕ)) (book : Incoming → Option Book)
     (heard : Result (Incoming × ℕ) ErrorKind) (old mid new : State) (held holds : Option (List ℕ))
     (r : Result ℕ JobFault) → IsAsBefore old mid → KeepsTelling old mid
-    → ServingEnds n source (heard_of book (Some heard)) mid new held holds r
-    → ServingEnds n source (heard_of book (Some heard)) old new held holds r
+    → ServesOffice n source (heard_of book (Some heard)) mid new held holds r
+    → ServesOffice n source (heard_of book (Some heard)) old new held holds r
 served_of n source book (Ok at) old mid new held holds r before tells h =
     served_from n source (Ok (book at.0, at.1)) old mid new held holds r before tells h
 served_of n source book (Err kind) old mid new held holds r before tells h =
@@ -113,7 +113,7 @@ served_of n source book (Err kind) old mid new held holds r before tells h =
 
 -- if the office can't be opened, nobody listens
 unopened : (n : ℕ) (source : Option (List ℕ)) (old new : State) (held holds : Option (List ℕ)) (e : StoreFault)
-    → IsUnopened old new e → holds ≡ held → ServingEnds n source None old new held holds (Err (of_store e))
+    → IsUnopened old new e → holds ≡ held → ServesOffice n source None old new held holds (Err (of_store e))
 unopened n source old new held holds store.NoMemory h same = (refl, h, same)
 unopened n source old new held holds store.Device h same = (refl, h, same)
 unopened n source old new held holds store.NotAnOffice h same = (refl, h, same)
@@ -123,7 +123,7 @@ unopened n source old new held holds store.Damaged h same = (refl, h, same)
 
 pub unheard : (n : ℕ) (source : Option (List ℕ)) (old new : State) (held holds : Option (List ℕ)) (e : StoreFault)
     (f : JobFault) → f ≡ of_store e → IsUnopened old new e → holds ≡ held
-    → ServingEnds n source None old new held holds (Err f)
+    → ServesOffice n source None old new held holds (Err f)
 unheard n source old new held holds e f told h same =
-    subst (λ (f : JobFault). ServingEnds n source None old new held holds (Err f)) (sym told)
+    subst (λ (f : JobFault). ServesOffice n source None old new held holds (Err f)) (sym told)
     (unopened n source old new held holds e h same)

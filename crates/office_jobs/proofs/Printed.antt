@@ -1,6 +1,6 @@
 -- The list and the reports of a database, as they are printed.
 use Rattle.office_jobs.proofs.Words.{Appends, Arrival, Err, IfErr, IsAsBefore, IsOfARegister, IsOpened, IsReport}
-use Rattle.office_jobs.proofs.Words.{IsTrue, IsUnopened, IsUnprinted, JobFault, KeepsTelling, List, ListingEnds}
+use Rattle.office_jobs.proofs.Words.{IsTrue, IsUnopened, IsUnprinted, JobFault, KeepsTelling, List, PrintsKrl}
 use Rattle.office_jobs.proofs.Words.{NoMemory, Ok, OnOk, Opening, Option, Report, Reports, Result, State, StoreFault}
 use Rattle.office_jobs.proofs.Words.{Stores, Tells, Write, of_store, subst, sym, ℕ, ◌≡◌, ◌≢◌}
 use Rattle.office.specs.declared.store_fault.StoreFault.TheVariants as store
@@ -15,7 +15,7 @@ use Rattle.office_jobs.proofs.Carried.{before_again, before_open, left_from, uno
 
 -- what a fault of the register leaves of a database
 of_fault : (e : StoreFault) (old new : State) (held holds : Option (List ℕ)) → IsAsBefore old new
-    → IsUnprinted old new held holds e → ListingEnds old new held holds (Err (of_store e))
+    → IsUnprinted old new held holds e → PrintsKrl old new held holds (Err (of_store e))
 of_fault store.NoMemory old new held holds before left = (before, left)
 of_fault store.Device old new held holds before left = (before, left)
 of_fault store.AlreadyAnOffice old new held holds before left = (before, left)
@@ -24,9 +24,9 @@ of_fault store.WrongSchema old new held holds before left = (before, left)
 of_fault store.Damaged old new held holds before left = (before, left)
 
 pub unlisted : (e : StoreFault) (f : JobFault) (old new : State) (held holds : Option (List ℕ))
-    → f ≡ of_store e → IsUnopened old new e → holds ≡ held → ListingEnds old new held holds (Err f)
+    → f ≡ of_store e → IsUnopened old new e → holds ≡ held → PrintsKrl old new held holds (Err f)
 unlisted e f old new held holds same u silent =
-    subst (λ (f : JobFault). ListingEnds old new held holds (Err f)) (sym same)
+    subst (λ (f : JobFault). PrintsKrl old new held holds (Err f)) (sym same)
     (of_fault e old new held holds u.before (unopened_left old new held holds e u silent))
 
 -- an open office after a fault of the register
@@ -48,28 +48,28 @@ pub listed : (r : Result Unit PublishFault) (done : Result Unit JobFault) (old m
     → (IsTrue new.is_open → IsAsBefore mid new)
     → IfErr r (λ e. e ≢ publish.Write → holds ≡ held)
     → IfErr r (OfStore (λ e. (o : Opening) (l : List Arrival) → Tells mid o l → IsOfARegister e))
-    → ListingEnds old new held holds done
+    → PrintsKrl old new held holds done
 listed (Ok x) done old mid new held holds same opened list tells found before silent only =
-    subst (λ (d : Result Unit JobFault). ListingEnds old new held holds d) (sym same) (
+    subst (λ (d : Result Unit JobFault). PrintsKrl old new held holds d) (sym same) (
       before_again old mid new opened.before (before_open mid new before),
       (list.0, list.1, λ o l m. (list.2 o l (opened.tells o l m), found o l (opened.tells o l m))),
     )
 listed (Err publish.Write) done old mid new held holds same opened list tells found before silent only =
-    subst (λ (d : Result Unit JobFault). ListingEnds old new held holds d) (sym same) (
+    subst (λ (d : Result Unit JobFault). PrintsKrl old new held holds d) (sym same) (
       before_again old mid new opened.before (before_open mid new before),
       λ o l m. found o l (opened.tells o l m),
     )
 listed (Err (publish.Store e)) done old mid new held holds same opened list tells found before silent only =
-    subst (λ (d : Result Unit JobFault). ListingEnds old new held holds d) (sym same)
+    subst (λ (d : Result Unit JobFault). PrintsKrl old new held holds d) (sym same)
     (of_fault e old new held holds (before_again old mid new opened.before (before_open mid new before))
     (left_from old mid new held holds e opened (left mid new held holds e (silent (λ is_write. cc)) tells only)))
 
 pub lists_as : (old new newer : State) (held is_held holds is_holds : Option (List ℕ)) (r : Result Unit JobFault)
-    → newer ≡ new → is_held ≡ held → is_holds ≡ holds → ListingEnds old new held holds r → ListingEnds old newer is_held is_holds r
+    → newer ≡ new → is_held ≡ held → is_holds ≡ holds → PrintsKrl old new held holds r → PrintsKrl old newer is_held is_holds r
 lists_as old new newer held is_held holds is_holds r same before after lists =
-    subst (λ (s : State). ListingEnds old s is_held is_holds r) (sym same)
-    (subst (λ (h : Option (List ℕ)). ListingEnds old new h is_holds r) (sym before)
-    (subst (λ (h : Option (List ℕ)). ListingEnds old new held h r) (sym after) lists))
+    subst (λ (s : State). PrintsKrl old s is_held is_holds r) (sym same)
+    (subst (λ (h : Option (List ℕ)). PrintsKrl old new h is_holds r) (sym before)
+    (subst (λ (h : Option (List ℕ)). PrintsKrl old new held h r) (sym after) lists))
 
 -- ---- reports
 

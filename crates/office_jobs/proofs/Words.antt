@@ -40,12 +40,12 @@ pub use Rattle.office_jobs.specs.Asked.{AsksExchanges, AsksOffice, AsksServing}
 pub use Rattle.office_jobs.specs.Faults.{IsOfATrial, IsOfExchanges, of_store, run_result}
 pub use Rattle.office_jobs.specs.Finding.{OpensFor, OpensThere}
 pub use Rattle.office_jobs.specs.Jobs.{DoesOfficeJob}
-pub use Rattle.office_jobs.specs.Listing.{ListingEnds}
-pub use Rattle.office_jobs.specs.Making.{IsUnmade, MakingEnds, MigratingEnds}
+pub use Rattle.office_jobs.specs.Listing.{PrintsKrl}
+pub use Rattle.office_jobs.specs.Making.{IsUnmade, MakesOffice, MigratesOffice}
 pub use Rattle.office_jobs.specs.Opening.{IsOpened, IsUnopened, IsUnprinted}
 pub use Rattle.office_jobs.specs.Reading.{IsKeyText}
 pub use Rattle.office_jobs.specs.Reporting.{IsReport, Reports, resource_of}
-pub use Rattle.office_jobs.specs.Serving.{Heard, MeetsOver, ServingEnds}
+pub use Rattle.office_jobs.specs.Serving.{Heard, MeetsOver, ServesOffice}
 pub use Rattle.office_jobs.specs.Steps.{Follows}
 pub use Rattle.office_jobs.specs.TrialOffice.{opening_of}
 pub use Rattle.office_jobs.specs.Whole.{heard_of}

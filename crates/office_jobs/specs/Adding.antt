@@ -6,7 +6,7 @@ use Rattle.restart.specs.Runs.{AddsArrivals}
 use Rattle.office_jobs.specs.declared.job.OfficeJob.{OfficeJob}
 use Rattle.office_jobs.specs.declared.job_fault.JobFault.{JobFault}
 use Rattle.office_jobs.specs.Jobs.{DoesOfficeJob}
-use Rattle.office_jobs.specs.Serving.{Heard, ServingEnds}
+use Rattle.office_jobs.specs.Serving.{Heard, ServesOffice}
 
 module _ {S : Type 0} (g : Ghosts S) (new : Held S) where
   -- For a job over an open connection: each history that the tables represented is represented with arrivals after it.
@@ -21,5 +21,5 @@ module _ {S : Type 0} (g : Ghosts S) (new : Held S) where
   ServersAddArrivals =
       (old : Held S) → IsTrue (state g old).is_open
       → (connections : ℕ) (nonces : Option (List ℕ)) (heard : Heard) (held holds : Option (List ℕ))
-      (r : Result ℕ JobFault) → ServingEnds connections nonces heard (state g old) (state g new) held holds r
+      (r : Result ℕ JobFault) → ServesOffice connections nonces heard (state g old) (state g new) held holds r
       → AddsArrivals (state g old) (state g new)

@@ -39,8 +39,8 @@ IsFlushed (Ok done) result = (result ≡ Ok 0) ⊎ (result ≡ Err Write)
 IsFlushed (Err e) result = result ≡ Err e
 
 -- This was done and printed, and then the output was flushed.
-pub record EndsCommand (Did : (between : Option (List ℕ)) → Result (Unit {0}) JobFault → Type 0) (holds : Option (List ℕ))
-    (result : Result ℕ JobFault) : Type 0 where
+pub record EndsCommand (Did : (between : Option (List ℕ)) → Result (Unit {0}) JobFault → Type 0)
+    (holds : Option (List ℕ)) (result : Result ℕ JobFault) : Type 0 where
   pub between : Option (List ℕ)
   pub done : Result (Unit {0}) JobFault
   pub did : Did between done
@@ -83,7 +83,8 @@ module _ {W File Tables Incoming Reader Writer : Type 0} (store : store.Ghosts T
   -- a job that asks the office in a database, which has to exist
   abbrev pub Asks : OfficeJob → (db : List ℕ) → (held holds : Option (List ℕ)) → Result (Unit {0}) JobFault → Type 0
   Asks asked db held holds result =
-      DoesIn store world book w w' (OpensThere world db) (DoesOfficeJob asked) (AsksOffice asked) (told_text asked) held holds result
+      DoesIn store world book w w' (OpensThere world db) (DoesOfficeJob asked) (AsksOffice asked) (told_text asked) held
+      holds result
 
   -- The effect of each job except a server.
   abbrev pub DoesJob : Job → (held holds : Option (List ℕ)) → Result (Unit {0}) JobFault → Type 0

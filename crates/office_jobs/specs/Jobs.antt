@@ -9,8 +9,8 @@ use Rattle.office_jobs.specs.declared.job.OfficeJob.{OfficeJob}
 use Rattle.office_jobs.specs.declared.job.OfficeJob.TheVariants.{Init, Apply, Krl, Signers, Table, Migrate}
 use Rattle.office_jobs.specs.declared.reporting.Report.TheVariants as report
 use Rattle.office_jobs.specs.Applying.{Applies}
-use Rattle.office_jobs.specs.Listing.{ListingEnds}
-use Rattle.office_jobs.specs.Making.{MakingEnds, MigratingEnds, ready_text}
+use Rattle.office_jobs.specs.Listing.{PrintsKrl}
+use Rattle.office_jobs.specs.Making.{MakesOffice, MigratesOffice, ready_text}
 use Rattle.office_jobs.specs.Reporting.{Reports}
 
 -- an office is made with a valid initial configuration
@@ -28,13 +28,14 @@ abbrev pub RefusesNone : {A C : Type 0} → (conn last : C) → Result A JobFaul
 RefusesNone conn last r = (r ≡ Err (Store NotAnOffice)) × (last ≡ conn)
 
 -- The effect of a job on the tables and on the output, with this result.
-abbrev pub DoesOfficeJob : OfficeJob → (old new : State) → (held holds : Option (List ℕ)) → Result (Unit {0}) JobFault → Type 0
-DoesOfficeJob (Init opening) old new held holds r = MakingEnds opening.now old new r × (holds ≡ held)
+abbrev pub DoesOfficeJob : OfficeJob → (old new : State) → (held holds : Option (List ℕ)) → Result (Unit {0}) JobFault
+    → Type 0
+DoesOfficeJob (Init opening) old new held holds r = MakesOffice opening.now old new r × (holds ≡ held)
 DoesOfficeJob (Apply exchanges) old new held holds r = Applies exchanges.now old new held holds r
-DoesOfficeJob Krl old new held holds r = ListingEnds old new held holds r
+DoesOfficeJob Krl old new held holds r = PrintsKrl old new held holds r
 DoesOfficeJob Signers old new held holds r = Reports report.Signers old new held holds r
 DoesOfficeJob Table old new held holds r = Reports report.Table old new held holds r
-DoesOfficeJob Migrate old new held holds r = MigratingEnds old new r × (holds ≡ held)
+DoesOfficeJob Migrate old new held holds r = MigratesOffice old new r × (holds ≡ held)
 
 -- the text that is printed once the job is done and its database is closed
 abbrev pub told_text : OfficeJob → List ℕ

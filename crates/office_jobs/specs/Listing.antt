@@ -23,9 +23,9 @@ abbrev pub IsStored : (old new : State) → Type 0
 IsStored old new = (o : Opening) (l : List Arrival) → Tells old o l → Stores new o l
 
 -- the outcome, in which no table has changed
-abbrev pub ListingEnds : (old new : State) → (held holds : Option (List ℕ)) → Result (Unit {0}) JobFault → Type 0
-ListingEnds old new held holds (Ok done) = IsAsBefore old new × IsListed old new held holds
-ListingEnds old new held holds (Err Write) = IsAsBefore old new × IsStored old new
-ListingEnds old new held holds (Err NoMemory) = IsAsBefore old new × IsUnprinted old new held holds store.NoMemory
-ListingEnds old new held holds (Err (Store e)) = IsAsBefore old new × IsUnprinted old new held holds e
-ListingEnds old new held holds (Err other) = ⊥
+abbrev pub PrintsKrl : (old new : State) → (held holds : Option (List ℕ)) → Result (Unit {0}) JobFault → Type 0
+PrintsKrl old new held holds (Ok done) = IsAsBefore old new × IsListed old new held holds
+PrintsKrl old new held holds (Err Write) = IsAsBefore old new × IsStored old new
+PrintsKrl old new held holds (Err NoMemory) = IsAsBefore old new × IsUnprinted old new held holds store.NoMemory
+PrintsKrl old new held holds (Err (Store e)) = IsAsBefore old new × IsUnprinted old new held holds e
+PrintsKrl old new held holds (Err other) = ⊥

@@ -47,11 +47,11 @@ pub record IsUnmade (opening : Opening) (old new : State) (e : StoreFault) : Typ
   pub tells : KeepsTelling old new
   pub crash : IsMadeWhole opening old new
 
-abbrev pub MakingEnds : Opening → (old new : State) → Result (Unit {0}) JobFault → Type 0
-MakingEnds opening old new (Ok done) = IsOfficeMade opening old new
-MakingEnds opening old new (Err NoMemory) = IsUnmade opening old new store.NoMemory
-MakingEnds opening old new (Err (Store e)) = IsUnmade opening old new e
-MakingEnds opening old new (Err other) = ⊥
+abbrev pub MakesOffice : Opening → (old new : State) → Result (Unit {0}) JobFault → Type 0
+MakesOffice opening old new (Ok done) = IsOfficeMade opening old new
+MakesOffice opening old new (Err NoMemory) = IsUnmade opening old new store.NoMemory
+MakesOffice opening old new (Err (Store e)) = IsUnmade opening old new e
+MakesOffice opening old new (Err other) = ⊥
 
 -- its serials, and the fingerprint of its CA
 abbrev pub ready_text : Opening → List ℕ
@@ -84,8 +84,8 @@ pub record IsUnmoved (old new : State) (e : StoreFault) : Type 0 where
   pub tells : KeepsTelling old new
   pub crash : IsMovedWhole old new
 
-abbrev pub MigratingEnds : (old new : State) → Result (Unit {0}) JobFault → Type 0
-MigratingEnds old new (Ok done) = IsMoved old new
-MigratingEnds old new (Err NoMemory) = IsUnmoved old new store.NoMemory
-MigratingEnds old new (Err (Store e)) = IsUnmoved old new e
-MigratingEnds old new (Err other) = ⊥
+abbrev pub MigratesOffice : (old new : State) → Result (Unit {0}) JobFault → Type 0
+MigratesOffice old new (Ok done) = IsMoved old new
+MigratesOffice old new (Err NoMemory) = IsUnmoved old new store.NoMemory
+MigratesOffice old new (Err (Store e)) = IsUnmoved old new e
+MigratesOffice old new (Err other) = ⊥

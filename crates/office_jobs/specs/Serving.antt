@@ -41,17 +41,17 @@ Heard = Option (Result (Option Book × ℕ) ErrorKind)
 
 -- The outcome. Nobody listens before the office is open. Then the line of the port is printed, and the listener's
 -- connections are served.
-abbrev pub ServingEnds : (connections : ℕ) → (source : Option (List ℕ)) → Heard → (old new : State)
+abbrev pub ServesOffice : (connections : ℕ) → (source : Option (List ℕ)) → Heard → (old new : State)
     → (held holds : Option (List ℕ)) → Result ℕ JobFault → Type 0
-ServingEnds connections source heard old new held holds (Ok status) =
+ServesOffice connections source heard old new held holds (Ok status) =
     (book : Option Book) × (port : ℕ) × (heard ≡ Some (Ok (book, port))) × Appends held holds (listening_line port)
     × IsServed connections book source old new status
-ServingEnds connections source heard old new held holds (Err Socket) =
+ServesOffice connections source heard old new held holds (Err Socket) =
     (kind : ErrorKind) × (heard ≡ Some (Err kind)) × KeepsTelling old new × (holds ≡ held)
-ServingEnds connections source heard old new held holds (Err Write) =
+ServesOffice connections source heard old new held holds (Err Write) =
     (at : Option Book × ℕ) × (heard ≡ Some (Ok at)) × KeepsTelling old new
-ServingEnds connections source heard old new held holds (Err NoMemory) =
+ServesOffice connections source heard old new held holds (Err NoMemory) =
     (heard ≡ None) × IsUnopened old new store.NoMemory × (holds ≡ held)
-ServingEnds connections source heard old new held holds (Err (Store e)) =
+ServesOffice connections source heard old new held holds (Err (Store e)) =
     (heard ≡ None) × IsUnopened old new e × (holds ≡ held)
-ServingEnds connections source heard old new held holds (Err _) = ⊥
+ServesOffice connections source heard old new held holds (Err _) = ⊥

@@ -30,9 +30,9 @@ use Rattle.office_jobs.specs.Asked.{AsksExchanges, AsksServing, founding_asked}
 use Rattle.office_jobs.specs.Ending.{closed}
 use Rattle.office_jobs.specs.Faults.{IsOfAKey, IsOfAnOpening, IsOfExchanges}
 use Rattle.office_jobs.specs.Finding.{OpensNew, OpensThere}
-use Rattle.office_jobs.specs.Making.{MakingEnds, ready_text}
+use Rattle.office_jobs.specs.Making.{MakesOffice, ready_text}
 use Rattle.office_jobs.specs.Reading.{IsKeyText}
-use Rattle.office_jobs.specs.Serving.{Heard, ServingEnds}
+use Rattle.office_jobs.specs.Serving.{Heard, ServesOffice}
 use Rattle.office_jobs.specs.Steps.{Follows}
 
 -- ---- databases
@@ -86,9 +86,10 @@ IsKeyOf file (Ok k) = IfSome file (λ text. IsKeyText text k)
 IsKeyOf file (Err e) = IsOfAKey e
 
 -- the initial configuration that is specified for the key of this file, or why there is none
-abbrev pub BeginsOffice : Option (List ℕ) → (due : List ℕ → Result Opening OpeningFault) → Result Opening JobFault → Type 0
-BeginsOffice file due (Ok o) = (k : KeyLine) × IfSome file (λ text. IsKeyText text k) × (due k.key ≡ Ok o)
-BeginsOffice file due (Err e) =
+abbrev pub GivesOpening : Option (List ℕ) → (due : List ℕ → Result Opening OpeningFault) → Result Opening JobFault
+    → Type 0
+GivesOpening file due (Ok o) = (k : KeyLine) × IfSome file (λ text. IsKeyText text k) × (due k.key ≡ Ok o)
+GivesOpening file due (Err e) =
     IsOfAKey e ⊎ ((k : KeyLine) × IfSome file (λ text. IsKeyText text k) × IsOfAnOpening (due k.key) e)
 
 -- ---- listening
@@ -122,16 +123,16 @@ module _ {W File Tables Incoming Reader Writer : Type 0} (store : store.Ghosts T
       (conn last : Held Tables) (result : Result ℕ JobFault) : Type 0 where
     pub heard : Result (Incoming × ℕ) ErrorKind
     pub listened : Listens world port before heard after
-    pub serves : On store (λ old new. ServingEnds connections nonces (heard_of book (Some heard)) old new held holds) conn
-        last result
+    pub serves : On store (λ old new. ServesOffice connections nonces (heard_of book (Some heard)) old new held holds)
+        conn last result
 
   -- The office was opened, and then served like that. Nobody listened before it was open.
   pub record ServesAt (port connections : ℕ) (nonces held holds : Option (List ℕ)) (before after : W)
       (conn last : Held Tables) (result : Result ℕ JobFault) : Type 0 where
     pub heard : Option (Result (Incoming × ℕ) ErrorKind)
     pub listened : MayListen world port before heard after
-    pub serves : On store (λ old new. ServingEnds connections nonces (heard_of book heard) old new held holds) conn last
-        result
+    pub serves : On store (λ old new. ServesOffice connections nonces (heard_of book heard) old new held holds) conn
+        last result
 
 -- ---- jobs
 
@@ -190,17 +191,17 @@ module _ {W File Tables Incoming Reader Writer : Type 0} (store : store.Ghosts T
       : Type 0 where
     pub exchanges : Result (List Exchange) JobFault
     pub are_of : AreOf file exchanges
-    pub applied : Follows (λ es. DoesIn (OpensThere world db) (Applies es) (AsksExchanges es) [] held holds) ((w' ≡ w) × (holds ≡ held))
-        exchanges result
+    pub applied : Follows (λ es. DoesIn (OpensThere world db) (Applies es) (AsksExchanges es) [] held holds)
+        ((w' ≡ w) × (holds ≡ held)) exchanges result
 
   -- The office with the key of the file was made, and this is reported. Or there is no initial configuration, and then
   -- nothing was made or opened, and nothing is printed.
   pub record FoundsIn (db : List ℕ) (due : List ℕ → Result Opening OpeningFault) (file held holds : Option (List ℕ))
       (result : Result (Unit {0}) JobFault) : Type 0 where
     pub opening : Result Opening JobFault
-    pub begins : BeginsOffice file due opening
+    pub begins : GivesOpening file due opening
     pub made : Follows
-        (λ o. DoesIn (OpensNew world db) (λ old new from to r. MakingEnds o old new r × (to ≡ from))
+        (λ o. DoesIn (OpensNew world db) (λ old new from to r. MakesOffice o old new r × (to ≡ from))
         (λ from to r asked. asked ≡ founding_asked o) (ready_text o) held holds)
         ((w' ≡ w) × (holds ≡ held)) opening result
 

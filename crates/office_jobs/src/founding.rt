@@ -6,7 +6,7 @@ ghost use Rattle.store_sql.specs.Look.{is_office_name};
 ghost use Rattle.store_sql.specs.Honest.{IsOutside, IsUnlimited, On, StaysClean, tables_of};
 ghost use Rattle.office.specs.Openings.{IsOpening, made_opening};
 ghost use Rattle.office_jobs.specs.Faults.{IsOfAnOpening};
-ghost use Rattle.office_jobs.specs.Making.{MakingEnds};
+ghost use Rattle.office_jobs.specs.Making.{MakesOffice};
 
 use crate::job_fault::JobFault;
 use office::{Opening, StoreFault};
@@ -53,7 +53,7 @@ pub fn make_over<S: Alter>(
     requires outside { IsOutside S.Store conn }
     requires unlimited { IsUnlimited S.Store conn }
     requires lawful { IsOpening opening.now }
-    ensures makes { On S.Store (MakingEnds opening.now) conn result.1 result.0 }
+    ensures makes { On S.Store (MakesOffice opening.now) conn result.1 result.0 }
     ensures honest { StaysClean S.Store conn result.1 }
 
     // A database with a table that has one of an office's names is refused and left unchanged.

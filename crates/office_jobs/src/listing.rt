@@ -4,7 +4,7 @@ ghost use Rattle.std.specs.Prelude.{◌≡◌, Err, false};
 ghost use Rattle.std.specs.List.{list_any};
 ghost use Rattle.store_sql.specs.Look.{is_office_table};
 ghost use Rattle.office_jobs.specs.Faults.{publish_result};
-ghost use Rattle.office_jobs.specs.Listing.{ListingEnds};
+ghost use Rattle.office_jobs.specs.Listing.{PrintsKrl};
 ghost use Rattle.store_sql.specs.Honest.{IsOutside, IsUnlimited, On, StaysClean, tables_of};
 
 use crate::job::Done;
@@ -31,7 +31,7 @@ fn of_publishing(done: Result<(), PublishFault>) -> Result<(), JobFault>
 pub fn list_over<S: Alter, W: Write>(alloc: Global, conn: Connection<S>, out: W) -> Done<S, W>
     requires outside { IsOutside S.Store conn }
     requires unlimited { IsUnlimited S.Store conn }
-    ensures lists { On S.Store (λ old new. ListingEnds old new (W.contents out) (W.contents result.out))
+    ensures lists { On S.Store (λ old new. PrintsKrl old new (W.contents out) (W.contents result.out))
         conn result.conn result.outcome }
     ensures honest { StaysClean S.Store conn result.conn }
 

@@ -4,7 +4,7 @@ ghost use Rattle.std.specs.Prelude.{◌≡◌, Err, false, true};
 ghost use Rattle.std.specs.List.{list_any};
 ghost use Rattle.store_sql.specs.Look.{is_ca_name, is_office_table};
 ghost use Rattle.store_sql.specs.Honest.{IsOutside, IsUnlimited, On, StaysClean, tables_of};
-ghost use Rattle.office_jobs.specs.Making.{MigratingEnds};
+ghost use Rattle.office_jobs.specs.Making.{MigratesOffice};
 
 use crate::job_fault::JobFault;
 use office::StoreFault;
@@ -19,7 +19,7 @@ pub fn migrate_over<S: Alter>(
 ) -> (Result<(), JobFault>, Connection<S>)
     requires outside { IsOutside S.Store conn }
     requires unlimited { IsUnlimited S.Store conn }
-    ensures migrates { On S.Store MigratingEnds conn result.1 result.0 }
+    ensures migrates { On S.Store MigratesOffice conn result.1 result.0 }
     ensures honest { StaysClean S.Store conn result.1 }
 
     // A database without an office, or one that was migrated, is refused and left unchanged.

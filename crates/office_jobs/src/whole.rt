@@ -9,7 +9,7 @@ ghost use Rattle.office_jobs.specs.Asked.{AsksOffice};
 ghost use Rattle.office_jobs.specs.Finding.{OpensFor};
 ghost use Rattle.office_jobs.specs.Jobs.{DoesOfficeJob, IsLawfulJob, told_text};
 ghost use Rattle.office_jobs.specs.Making.{due_opening};
-ghost use Rattle.office_jobs.specs.Whole.{AppliesIn, BeginsOffice, DoesIn, FoundsIn, KeepsDatabases, ServesIn};
+ghost use Rattle.office_jobs.specs.Whole.{AppliesIn, GivesOpening, DoesIn, FoundsIn, KeepsDatabases, ServesIn};
 
 use crate::database_opening::{open_for, open_there};
 use crate::ending::{closed, finish};
@@ -72,7 +72,7 @@ fn opening_from<R: Read + Drop>(
     ca: R,
     founding: &Founding<'_>,
 ) -> Result<Opening, JobFault>
-    ensures begins { BeginsOffice (R.remaining ca) (due_opening founding.now) result }
+    ensures begins { GivesOpening (R.remaining ca) (due_opening founding.now) result }
     ensures lawful { IfOk result IsOpening }
 {
     match read_key(alloc, ca) {

@@ -152,14 +152,16 @@ pub record RunsOn (Gave : Asked → Type 0) (image : Image) (end : End) (may_lea
 abbrev pub ClosedRuns : {D : Type 0} (g : Ghosts D) → Files D → Type 0
 ClosedRuns {D} g files =
     (image : Image) (asked : Asked) (opened last : Held (FileStore D g))
-    → (HasCleanDisk (file_state opened) → IsFound image opened) → DoesOver over_files asked opened last → IsCopied last files
+    → (HasCleanDisk (file_state opened) → IsFound image opened) → DoesOver over_files asked opened last
+    → IsCopied last files
     → AreRuns image asked closed (outcomes g files.log files.db)
 
 -- a run that found these files, did this, and whose connection was abandoned
 abbrev pub CutRuns : {D : Type 0} (g : Ghosts D) → FileStore D g → Type 0
 CutRuns {D} g it =
     (image : Image) (asked : Asked) (opened last : Held (FileStore D g))
-    → (HasCleanDisk (file_state opened) → IsFound image opened) → DoesOver over_files asked opened last → IsGivenUp last it
+    → (HasCleanDisk (file_state opened) → IsFound image opened) → DoesOver over_files asked opened last
+    → IsGivenUp last it
     → AreRuns image asked cut (store.state it).may_leave
 
 -- ---- the next run

@@ -1,6 +1,7 @@
 -- Histories that grow connection by connection.
 use Rattle.server.proofs.Words.{AllDue, AreServed, Arrival, Ask, Book, Extends, Fault, Ghosts, LATEST_MOMENT, List}
-use Rattle.server.proofs.Words.{Opening, Option, Result, Talk, Visit, Visited, Visits, [], answered, ap, append-nil}
+use Rattle.server.proofs.Words.{Opening, Option, Result, Talk, Visit, ServesConnections, Visits, [], answered, ap}
+use Rattle.server.proofs.Words.{append-nil}
 use Rattle.server.proofs.Words.{arith, closed, cut, exchange_of, given_of, length, length-append, map, refl, subst, sym}
 use Rattle.server.proofs.Words.{with_ask, ℕ, ◌++◌, ◌∙◌, ◌∷◌, ◌≡◌, ◌≤◌}
 use Rattle.std.proofs.Common.{suc, append_assoc}
@@ -89,7 +90,7 @@ visit_extends result book book' source source' register old new x h =
 
 -- n connections add at most n arrivals.
 pub meets_extends : {S : Type 0} (n : ℕ) (book book' : Option Book) (source source' : Option (List ℕ))
-    (register : Ghosts S) (old new : S) → Visited n book book' source source' register old new
+    (register : Ghosts S) (old new : S) → ServesConnections n book book' source source' register old new
     → register.is_honest new → Extends n (register.means old) (register.means new)
 meets_extends n book book' source source' register old new x h =
     subst (λ (most : ℕ). Extends most (register.means old) (register.means new)) x.all

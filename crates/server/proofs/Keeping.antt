@@ -1,6 +1,6 @@
 -- What was served over a register that caches the pending certificates was served over the register below it.
 use Rattle.server.proofs.Words.{Arrival, Book, Extends, Ghosts, List, MeansKnown, MeetsTold, None, Opening, Option}
-use Rattle.server.proofs.Words.{Visited, [], subst, sym, ℕ, ◌++◌, ◌≡◌}
+use Rattle.server.proofs.Words.{ServesConnections, [], subst, sym, ℕ, ◌++◌, ◌≡◌}
 use Rattle.office.specs.declared.listing.Revocations.{Revocations}
 use Rattle.office.specs.declared.publication.Pending.{Pending}
 use Rattle.office.specs.History.{state}
@@ -30,7 +30,7 @@ known_at_first means below register seen rows revoked same none empty unread o l
 pub met_as : {S T : Type 0} (n : ℕ) (book book' : Option Book) (nonces nonces' : Option (List ℕ)) (r : Ghosts T)
     (q : Ghosts S) (a b : T) (c d : S) → ((o : Opening) (l : List Arrival) → q.means c o l → r.means a o l)
     → ((o : Opening) (l : List Arrival) → r.means b o l → q.means d o l) → (q.is_honest d → r.is_honest b)
-    → (r.is_open b → q.is_open d) → Visited n book book' nonces nonces' r a b → Visited n book book' nonces nonces' q c d
+    → (r.is_open b → q.is_open d) → ServesConnections n book book' nonces nonces' r a b → ServesConnections n book book' nonces nonces' q c d
 met_as n book book' from from' r q a b c d first last honest opened x = record {
   visits = x.visits;
   all = x.all;

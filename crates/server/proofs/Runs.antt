@@ -1,6 +1,7 @@
 -- Connections in succession.
 use Rattle.server.proofs.Words.{AllDue, Appends, Appends-trans, AreServed, Arrival, Book, Consumes, Consumes-nil, Err}
-use Rattle.server.proofs.Words.{Fault, Ghosts, List, MeetsTold, Ok, Opening, Option, Result, TellsVisit, Visit, Visited}
+use Rattle.server.proofs.Words.{Fault, Ghosts, List, MeetsTold, Ok, Opening, Option, Result, TellsVisit, Visit}
+use Rattle.server.proofs.Words.{ServesConnections}
 use Rattle.server.proofs.Words.{Visits, WhereTold, [], answered, ap, append-nil, arith, closed, cut, exchange_of}
 use Rattle.server.proofs.Words.{given_of, inl, inr, length, length-append, map, refl, subst, sym, with_ask, ℕ, ◌++◌}
 use Rattle.server.proofs.Words.{◌+◌, ◌∙◌, ◌∷◌, ◌≡◌, ◌≤◌}
@@ -102,7 +103,7 @@ served_more register visits visit result s0 s1 s2 ends first last back stays = �
 
 -- zero connections change nothing
 pub meets_none : {S : Type 0} (book : Option Book) (source : Option (List ℕ)) (register : Ghosts S) (s : S)
-    → Visited 0 book book source source register s s
+    → ServesConnections 0 book book source source register s s
 meets_none book source register s = record {
   visits = [];
   all = refl;
@@ -113,10 +114,10 @@ meets_none book source register s = record {
 
 -- one more connection
 pub meets_more : {S T : Type 0} (n : ℕ) (result : Result T Fault) (b0 b1 b2 : Option Book) (n0 n1 n2 : Option (List ℕ))
-    (register : Ghosts S) (s0 s1 s2 : S) → Visited n b0 b1 n0 n1 register s0 s1
+    (register : Ghosts S) (s0 s1 s2 : S) → ServesConnections n b0 b1 n0 n1 register s0 s1
     → Visits result b1 b2 n1 n2 register s1 s2 → (register.is_honest s2 → register.is_honest s1)
     → (register.is_honest s2 → IfGiven result (register.is_open s1 → register.is_open s2))
-    → Visited (n + 1) b0 b2 n0 n2 register s0 s2
+    → ServesConnections (n + 1) b0 b2 n0 n2 register s0 s2
 meets_more n result b0 b1 b2 n0 n1 n2 register s0 s1 s2 m v back stays =
     let all : length (m.visits ++ v.visit ∷ []) ≡ n + 1 = omega (arith, length-append m.visits (v.visit ∷ []), m.all) in
     record {

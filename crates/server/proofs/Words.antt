@@ -14,6 +14,7 @@ pub use Rattle.waiting.specs.Knowing.{MeansKnown}
 pub use Rattle.web.specs.Answers.{with_ask}
 pub use Rattle.web.specs.Runs.{AllDue}
 pub use Rattle.server.specs.Books.{Book, WhereTold}
-pub use Rattle.server.specs.Connections.{AreServed, Extends, MeetsTold, Talk, TellsVisit, Visit, Visited, Visits}
+pub use Rattle.server.specs.Connections.{AreServed, Extends, MeetsTold, Talk, TellsVisit, Visit, ServesConnections}
+pub use Rattle.server.specs.Connections.{Visits}
 pub use Rattle.server.specs.Connections.{answered, closed, cut, exchange_of, given_of}
 pub use Rattle.server.specs.declared.connection_fault.Fault.{Fault}

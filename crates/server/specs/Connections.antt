@@ -133,7 +133,7 @@ pub record Visits {A S : Type 0} (result : Result A Fault) (book book' : Option 
 
 -- What `count` connections did, in order. The nonces that they drew, concatenated, are a prefix of the nonce source:
 -- each nonce is the next 32 bytes, none is used twice, and nothing is skipped except what was drawn before a fault.
-pub record Visited {S : Type 0} (count : ℕ) (book book' : Option Book) (nonces nonces' : Option (List ℕ))
+pub record ServesConnections {S : Type 0} (count : ℕ) (book book' : Option Book) (nonces nonces' : Option (List ℕ))
     (register : Ghosts S) (old new : S) : Type 0 where
   pub visits : List Visit
   pub all : length visits ≡ count
@@ -162,7 +162,7 @@ visit_lines number (visit ∷ visits) = visit_line number visit ++ visit_lines (
 -- What `count` connections did. If the second output hasn't failed meanwhile, it has taken exactly their lines.
 pub record MeetsTold {S : Type 0} (count : ℕ) (book book' : Option Book) (nonces nonces' : Option (List ℕ))
     (register : Ghosts S) (old new : S) (failed failed' : ℕ) (taken taken' : Option (List ℕ)) : Type 0 where
-  pub meets : Visited count book book' nonces nonces' register old new
+  pub meets : ServesConnections count book book' nonces nonces' register old new
   pub lines : failed' ≡ failed → Appends taken taken' (visit_lines 1 meets.visits)
 
 -- ---- what is added to the history

@@ -163,8 +163,8 @@ pub fn run<S: Start, O: Write, E: Write>(
 ) -> (u8, O, Option<Files<FileFrom<S>>>)
     // The arguments had this effect in a world whose database is left in these files.
     ensures runs { RunsWordsOver over_files ⟦<Host<'static, S> as World>⟧
-        ⟦<fs::File as Read>⟧.remaining ⟦<Loopback<'static, HostRuntime> as Listener>⟧.book (λ host. host.left ≡ result.2)
-        (map string_bytes words.now) (O.contents out) (O.contents result.1) result.0 }
+        ⟦<fs::File as Read>⟧.remaining ⟦<Loopback<'static, HostRuntime> as Listener>⟧.book
+        (λ host. host.left ≡ result.2) (map string_bytes words.now) (O.contents out) (O.contents result.1) result.0 }
     ensures status { result.0 ≤ 2 }
     ensures bad { result.0 ≡ 2 → AreBad (map string_bytes words.now) }
 {

@@ -1,8 +1,8 @@
-//! The program: its arguments, and what each command does.
+//! The program: its arguments, and the world in which it does its jobs, the system.
 //!
-//! What a command does is proved in `office_jobs`, in any world. Here is the system's world. For a database's files it
-//! is proved what an open finds in them, given what they held, and what a close leaves. Other files, the console and
-//! sockets are the system's, and nothing is proved about them.
+//! What a command does is proved in `office_jobs`, in any world. For a database's files it is proved here what an open
+//! finds in them, given what they held, and what a close leaves. Other files, the console and sockets are the system's,
+//! and nothing is proved about them.
 #![tactic(auto)]
 
 mod files;

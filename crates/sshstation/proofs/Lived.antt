@@ -17,7 +17,6 @@ use Rattle.guard.specs.declared.scope.Scope.{Scope}
 use Rattle.guard.specs.Machine.{State, Question, opened, row_of}
 use Rattle.guard.specs.Retirement.{if_retired}
 use Rattle.guard.specs.Retiring.{with_last}
-use Rattle.guard.proofs.Allowed.{left_by}
 use Rattle.guard_sql.specs.declared.store.GuardStore.{GuardStore}
 use Rattle.guard_sql.specs.Keeping.{IsGuard}
 use Rattle.guard_sql.specs.Opening.{FoundsNone}
@@ -35,13 +34,14 @@ use Rattle.station_jobs.specs.declared.surroundings.Surroundings as surroundings
 use Rattle.station_jobs.specs.Bodies.{ListsBodies, PrintsBody}
 use Rattle.station_jobs.specs.Jobs.{InitsIn}
 use Rattle.station_jobs.specs.Judging.{AsksNow}
-use Rattle.station_jobs.specs.Leaving.{IsNext, OfBodies, OfLowering, OfNone, Step as JobStep}
+use Rattle.station_jobs.specs.Leaving.{IsNext, OfBodies, OfNone, OfRetiring, Step as JobStep}
 use Rattle.station_jobs.specs.Whole.{Begins, ClosesNew, Follows, JudgesGiven, LeavesFiles, MakesIn, Retires, RetiresTo}
 use Rattle.station_jobs.specs.Whole.{RunsIn, RunsOver, is_input}
 use Rattle.guard_restart.specs.Images.{Holds, HoldsGuard, HoldsKept, Standing}
 use Rattle.guard_restart.specs.Lives.{Backs, IsRun, Said}
-use Rattle.guard_restart.specs.Steps.{Step}
+use Rattle.guard_restart.specs.Steps.{Step, stepped}
 use Rattle.guard_restart.proofs.Lives.{runs_on, said_later}
+use Rattle.guard_restart.proofs.Steps.{after_step}
 use Rattle.sshstation.specs.Doing.{BeginsAt, DoesJob, DoesWords, InitsAt}
 use Rattle.sshstation.specs.GuardFiles.{AreSettled, EndsGuard, FindsGuard, HaveGuard, HaveOne, IsOfFiles, IsOfSearch}
 use Rattle.sshstation.specs.GuardFiles.{MakesGuard, OpensNone, SaysAndMisses}
@@ -54,16 +54,21 @@ use Rattle.sshstation.proofs.Saying.{same_lasts, silent, silent_none}
 -- ---- the next state
 
 -- the state after a valid one is valid
+step_lawful : (s : State) (step : Step) → IsGuard s → IsGuard (stepped s step)
+step_lawful s step guard =
+    after_step IsGuard s guard step
+    (λ q c asks new.
+    let most = new.may.to_last in
+    let below = last_below s.scope guard.scope in
+    let low : c.serial < 2 ^ 63 = omega (arith, most, below) in more_lawful (row_of q c) low s guard)
+    (λ last low. lower_lawful last s guard low)
+
 next_lawful : (May : JobStep → Type 0) (s next : State) → IsGuard s → IsNext May s next → IsGuard next
 next_lawful May s next guard (inl same) = subst IsGuard (sym same) guard
 next_lawful May s next guard (inr (inl (q, may, same))) =
-    subst IsGuard (sym same)
-    (left_by IsGuard s q guard (λ c new.
-    let most = new.may.to_last in
-    let below = last_below s.scope guard.scope in
-    let low : c.serial < 2 ^ 63 = omega (arith, most, below) in more_lawful (row_of q c) low s guard))
-next_lawful May s next guard (inr (inr (last, may, low, same))) =
-    subst IsGuard (sym same) (lower_lawful last s guard low)
+    subst IsGuard (sym same) (step_lawful s (Step.asking q) guard)
+next_lawful May s next guard (inr (inr (last, may, retires))) =
+    subst IsGuard (ap (if_retired s) retires) (step_lawful s (Step.retiring last) guard)
 
 -- ---- retiring
 
@@ -371,7 +376,7 @@ module _ (Dk : Type 0) (g : Ghosts Dk) (image : Image) where
 
         -- a job that only reads
         reads : (Taken : Step → Type 0) → Covers OfNone Taken
-        reads Taken = record { asks = λ q may. absurd may; lowers = λ last may. absurd may }
+        reads Taken = record { asks = λ q may. absurd may; retires = λ last may. absurd may }
 
         abbrev MayBe : StationJob → Step → Type 0
         MayBe = MayTake world around remaining
@@ -400,7 +405,7 @@ module _ (Dk : Type 0) (g : Ghosts Dk) (image : Image) where
                 → IfSome (left_of db') (IsLived g image (MayBe (job.Judge j)) (Said.judging held holds))
             by_policy (Ok policy) ran =
                 ran_lived (OfBodies Asked) (MayBe (job.Judge j))
-                (record { asks = λ q may. may; lowers = λ last may. absurd may })
+                (record { asks = λ q may. may; retires = λ last may. absurd may })
                 (λ s L r. JudgesGiven (is_input bodies) s L
                 (AsksNow world around remaining (string_bytes j.policy) j.ahead) bodies input held holds r)
                 (string_bytes j.db) (holds ≡ held) result (Said.judging held holds) (silent held holds)
@@ -420,8 +425,8 @@ module _ (Dk : Type 0) (g : Ghosts Dk) (image : Image) where
             (λ s L r guard did. same_lasts (MayBe (job.Body path serial)) s L (Ok tt) did.1) is
         job_lived (job.Policy path) input held holds result is = same_db (MayBe (job.Policy path)) Said.none is.1
         job_lived (job.Retire path last) input held holds result is =
-            ran_lived (OfLowering last) (MayBe (job.Retire path last))
-            (record { asks = λ q may. absurd may; lowers = λ lower may. may })
+            ran_lived (OfRetiring last) (MayBe (job.Retire path last))
+            (record { asks = λ q may. absurd may; retires = λ lower may. may })
             (Retires last) (string_bytes path) (Unit {0}) is.lowered Said.none
             (λ _. silent_none)
             (λ s L r guard did. retires_to_last (MayBe (job.Retire path last)) last refl s L r

@@ -1,11 +1,10 @@
 -- What a job said about unsigned certificates (bodies), and the guard that backs it.
 use Rattle.std.proofs.Common.{◌≡◌, ◌++◌, ◌∷◌, ◌∙◌, [], ℕ, List, All, Bool, Option, Some, Result, Ok, Err, ap}
 use Rattle.std.proofs.Common.{append_assoc, arith, drop, false, inl, inr, length, map, refl, subst, sym, take, true}
-use Rattle.std.specs.Prelude.{fold, nat_lt}
+use Rattle.std.specs.Prelude.{fold}
 use Rattle.std.specs.List.{flat_map}
 use Rattle.std.specs.Io.KnownBytes.{Appends}
 use Rattle.std.proofs.KnownBytes.{Appends-nil}
-use Rattle.std.proofs.lemmas.Bool.{le-ltb}
 use Rattle.std.proofs.lemmas.List.{take-append-drop, take_all, take_at}
 use Rattle.std.proofs.lemmas.List.Concat.{flat_map-append}
 use Rattle.std.proofs.lemmas.List.Elements.{All-append, All-cons, All-head, All-nil, All-tail, All-weaker}
@@ -15,10 +14,10 @@ use Rattle.guard.specs.declared.judging.Answer.TheVariants as answer
 use Rattle.guard.specs.AnswerLines.{answer_line}
 use Rattle.guard.specs.Judged.{Answers, IsKept}
 use Rattle.guard.specs.Machine.{State, Question, after}
-use Rattle.guard.specs.Retiring.{IsLowered, with_last}
+use Rattle.guard.specs.Retirement.{if_retired}
 use Rattle.guard_restart.specs.Images.{Standing}
 use Rattle.guard_restart.specs.Lives.{Answered, AreBacked, AreSaid, Backs, IsBacked, Said}
-use Rattle.guard_restart.specs.Steps.{Step, lowered, next_guard, stepped}
+use Rattle.guard_restart.specs.Steps.{Step, next_guard, stepped}
 use Rattle.station_jobs.specs.declared.station_fault.StationFault.{StationFault}
 use Rattle.station_jobs.specs.Judging.{AreAnswered, IsPrinted, Judgement, Judges, left_by, lines_of}
 use Rattle.station_jobs.specs.Whole.{JudgesGiven}
@@ -53,22 +52,16 @@ leads_then Taken s t u first second = record {
 -- each step of a job is one that may be taken
 pub record Covers (May : JobStep → Type 0) (Taken : Step → Type 0) : Type 0 where
   pub asks : (q : Question) → May (JobStep.asking q) → Taken (Step.asking q)
-  pub lowers : (last : ℕ) → May (JobStep.lowering last) → Taken (Step.lowering last)
-
-lowered_is : (s : State) (last : ℕ) → IsLowered s last → lowered s last ≡ with_last s last
-lowered_is s last low =
-    let first : nat_lt last s.scope.first ≡ false = le-ltb _ _ low.0 in
-    let beyond : nat_lt s.scope.last last ≡ false = le-ltb _ _ low.1 in
-    rw (first, beyond) refl
+  pub retires : (last : ℕ) → May (JobStep.retiring last) → Taken (Step.retiring last)
 
 pub next_leads : (May : JobStep → Type 0) (Taken : Step → Type 0) → Covers May Taken → (s next : State)
     → IsNext May s next → Leads Taken s next
 next_leads May Taken covers s next (inl same) = subst (Leads Taken s) (sym same) (leads_same Taken s)
 next_leads May Taken covers s next (inr (inl (q, may, same))) =
     subst (Leads Taken s) (sym same) (leads_one Taken s (Step.asking q) (covers.asks q may))
-next_leads May Taken covers s next (inr (inr (last, may, low, same))) =
-    subst (Leads Taken s) (lowered_is s last low ∙ sym same)
-    (leads_one Taken s (Step.lowering last) (covers.lowers last may))
+next_leads May Taken covers s next (inr (inr (last, may, retires))) =
+    subst (Leads Taken s) (ap (if_retired s) retires)
+    (leads_one Taken s (Step.retiring last) (covers.retires last may))
 
 judged_leads : (Taken : Step → Type 0) (s : State) (js : List Judgement)
     → All (λ (j : Judgement). Taken (Step.asking j.question)) js → Leads Taken s (left_by s js)

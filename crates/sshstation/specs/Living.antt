@@ -45,14 +45,13 @@ Left D = Option (Result (Unit {0}) EndFault × Files D)
 
 module _ {E F : Type 0} (world : surroundings.Ghosts E F) (around : E) (remaining : F → Option (List ℕ)) where
   -- The steps that a job may take: a guard is made with the key in a file; it is asked about the content of a file, by
-  -- the policy in its file at that time; or it is retired. A retirement with a fault may leave the last serial lowered.
+  -- the policy in its file at that time; or it is retired to a last serial.
   abbrev pub MayTake : StationJob → Step → Type 0
   MayTake (Init path ca first last) (Step.making scope) =
       (file : F) × world.has around (string_bytes ca) file × Begins (remaining file) first last (Ok scope)
   MayTake (Judge j) (Step.asking q) =
       (path : List ℕ) × AsksNow world around remaining (string_bytes j.policy) j.ahead path q
   MayTake (Retire path last) (Step.retiring lower) = lower ≡ last
-  MayTake (Retire path last) (Step.lowering lower) = lower ≡ last
   MayTake job step = ⊥
 
   -- The words name a job, which was such a run if it opened the files of a guard. Or they name none, and no files were

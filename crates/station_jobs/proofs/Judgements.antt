@@ -262,7 +262,7 @@ asked_next : (Asked : List ℕ → Question → Type 0) (path : List ℕ) (q all
 asked_next Asked path q all asks same t next (inl is) = inl is
 asked_next Asked path q all asks same t next (inr (inl (p, one, is))) =
     inr (inl (all, (path, asks), is ∙ (ap (λ x. after t x) one ∙ same t)))
-asked_next Asked path q all asks same t next (inr (inr (last, none, low, is))) = absurd none
+asked_next Asked path q all asks same t next (inr (inr (last, none, is))) = absurd none
 
 -- a body was read from a file at the path and judged over a register, at a time of the clock
 pub one_weighed : {E F G : Type 0} (guard : register.Ghosts G) (old new : G) (world : Ghosts E F) (around : E)
@@ -316,7 +316,7 @@ steps_now : {E F : Type 0} (world : Ghosts E F) (around : E) (remaining : F → 
 steps_now world around remaining policy at ahead known t next (inl is) = inl is
 steps_now world around remaining policy at ahead known t next (inr (inl (q, (path, asks), is))) =
     inr (inl (q, (path, asks_now world around remaining policy at ahead known path q asks), is))
-steps_now world around remaining policy at ahead known t next (inr (inr (last, none, low, is))) = absurd none
+steps_now world around remaining policy at ahead known t next (inr (inr (last, none, is))) = absurd none
 
 pub judged_now : {E F G : Type 0} (guard : register.Ghosts G) (old new : G) (world : Ghosts E F) (around : E)
     (remaining : F → Option (List ℕ)) (policy : List Department) (at : List ℕ) (ahead : ℕ)

@@ -1,8 +1,7 @@
 -- What calls over a register leave, in sequence.
-use Rattle.std.proofs.Common.{◌≡◌, ◌<◌, ◌^◌, ◌∷◌, ℕ, List, [], Option, Result, Ok, Err, refl, sym, subst, inl, inr}
+use Rattle.std.proofs.Common.{◌≡◌, ◌<◌, ◌^◌, ℕ, List, Option, Result, Ok, Err, refl, sym, subst, inl, inr}
 use Rattle.std.specs.Prelude.{IfErr, OnErr, OnOk}
 use Rattle.std.specs.Io.KnownBytes.{Appends}
-use Rattle.std.proofs.lemmas.List.{append-nil}
 use Rattle.wire.specs.Streams.{AppendsBeginning}
 use Rattle.guard.specs.declared.judging.Answer.{Answer}
 use Rattle.guard.specs.declared.register.Register.{Ghosts}
@@ -10,10 +9,8 @@ use Rattle.guard.specs.declared.register.RegisterFault.{RegisterFault}
 use Rattle.guard.specs.declared.register.RegisterFault.TheVariants as register
 use Rattle.guard.specs.declared.scope.Scope.{Scope}
 use Rattle.guard.specs.AnswerLines.{answer_line}
-use Rattle.guard.specs.History.{IsStill}
 use Rattle.guard.specs.Judged.{Answers, IsKept, HasCause as IsRegisters}
-use Rattle.guard.specs.Machine.{State, Question, after, row_of}
-use Rattle.guard.proofs.Allowed.{left_by}
+use Rattle.guard.specs.Machine.{State, Question, after}
 use Rattle.station_jobs.specs.declared.station_fault.StationFault.{StationFault}
 use Rattle.station_jobs.specs.declared.station_fault.StationFault.TheVariants as fault
 use Rattle.station_jobs.specs.Faults.{IsOfABody, IsOfAFile, IsOfAnAnswer, IsOfAPolicy, of_register}
@@ -51,15 +48,6 @@ register_cause failed register.Damaged h = absurd h
 register_cause failed register.NoMemory h = tt
 
 -- ---- what is left
-
--- each body stays in the next state
-pub next_still : (May : Step → Type 0) (s next : State) → IsNext May s next → IsStill s next
-next_still May s next (inl same) = subst (IsStill s) (sym same) ([], sym (append-nil s.approved))
-next_still May s next (inr (inl (q, may, same))) =
-    subst (IsStill s) (sym same)
-    (left_by (IsStill s) s q ([], sym (append-nil s.approved)) (λ c new. (row_of q c ∷ [], refl)))
-next_still May s next (inr (inr (last, may, low, same))) =
-    subst (IsStill s) (sym same) ([], sym (append-nil s.approved))
 
 outlasts_so : {A : Type 0} (May More : Step → Type 0) (leaves : State → State → Type 0) (t : State)
     (r : Result A StationFault) → ((next : State) → IsNext May t next → IsNext More t next) → Outlasts May leaves t r

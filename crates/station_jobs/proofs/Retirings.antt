@@ -1,39 +1,25 @@
--- Lowering a last serial over a register.
-use Rattle.std.proofs.Common.{◌≡◌, ◌<◌, ◌^◌, ◌||◌, ℕ, Bool, true, false, cond, Result, Ok, Err, inl, inr, refl}
-use Rattle.std.specs.Prelude.{nat_lt}
-use Rattle.std.proofs.lemmas.Bool.{ltb-false}
+-- Retiring a guard over a register.
+use Rattle.std.proofs.Common.{◌≡◌, ℕ, Result, Ok, Err, inl, inr, refl}
 use Rattle.guard.specs.declared.register.Register.{Ghosts}
 use Rattle.guard.specs.declared.register.RegisterFault.{RegisterFault}
 use Rattle.guard.specs.declared.register.RegisterFault.TheVariants as register
 use Rattle.guard.specs.declared.retiring.RetireFault.{RetireFault}
 use Rattle.guard.specs.declared.retiring.RetireFault.TheVariants as retiring
 use Rattle.guard.specs.Machine.{State}
-use Rattle.guard.specs.Retirement.{HasRetireCause, Retires as IsRetired, if_retired, is_approved_over, retirement}
-use Rattle.guard.specs.Retiring.{IsLowered, with_last}
+use Rattle.guard.specs.Retirement.{HasRetireCause, Retires as IsRetired, if_retired, retirement}
+use Rattle.guard.specs.Retiring.{with_last}
 use Rattle.station_jobs.specs.Faults.{of_register, of_retiring}
-use Rattle.station_jobs.specs.Leaving.{HasCause, IsNext, Leaves, OfLowering}
-use Rattle.station_jobs.specs.Whole.{Retires, RetiresTo}
-use Rattle.station_jobs.proofs.Leavings.{fails_same, register_cause}
+use Rattle.station_jobs.specs.Leaving.{HasCause, IsNext, Leaves, OfRetiring}
+use Rattle.station_jobs.specs.Whole.{RetiresTo}
+use Rattle.station_jobs.proofs.Leavings.{register_cause}
 
 -- the state that may be left is a next state
-next_retired : (s : State) (last : ℕ) → IsNext (OfLowering last) s (if_retired s (retirement s last))
-next_retired s last = by_range (nat_lt last s.scope.first) (nat_lt s.scope.last last) refl refl
+next_retired : (s : State) (last : ℕ) → IsNext (OfRetiring last) s (if_retired s (retirement s last))
+next_retired s last = by_result (retirement s last) refl
   where
-    next_of : Result State RetireFault → Type 0
-    next_of r = IsNext (OfLowering last) s (if_retired s r)
-
-    by_over : IsLowered s last → (b : Bool)
-        → next_of (cond b (Err retiring.SerialApproved) (Ok (with_last s last)))
-    by_over low true = inl refl
-    by_over low false = inr (inr (last, refl, low, refl))
-
-    by_range : (under over : Bool) → nat_lt last s.scope.first ≡ under → nat_lt s.scope.last last ≡ over
-        → next_of (cond (under || over) (Err retiring.BadSerials)
-        (cond (is_approved_over s last) (Err retiring.SerialApproved) (Ok (with_last s last))))
-    by_range true over is too = inl refl
-    by_range false true is too = inl refl
-    by_range false false is too = by_over (ltb-false last s.scope.first is, ltb-false s.scope.last last too)
-        (is_approved_over s last)
+    by_result : (r : Result State RetireFault) → retirement s last ≡ r → IsNext (OfRetiring last) s (if_retired s r)
+    by_result (Ok retired) is = inr (inr (last, refl, is))
+    by_result (Err e) is = inl refl
 
 retire_cause : (failed : Type 0) (e : RetireFault) → HasRetireCause failed e → HasCause failed (of_retiring e)
 retire_cause failed (retiring.Register e) h = register_cause failed e h
@@ -57,7 +43,7 @@ told s last keeps Left retiring.SerialApproved is left = (is.0, left)
 module _ {G : Type 0} (guard : Ghosts G) (last : ℕ) (old new : G) (s : State) where
   pub retires_well : (first : ℕ) → first ≡ s.scope.first → IsRetired s last (guard.keeps new) (Ok tt)
       → guard.leaves new (with_last s last) (with_last s last)
-      → RetiresTo last s (λ t. Leaves {A = ℕ} guard (OfLowering last) old new s t (Ok first)) (Ok first)
+      → RetiresTo last s (λ t. Leaves {A = ℕ} guard (OfRetiring last) old new s t (Ok first)) (Ok first)
   retires_well first same is durable = (
     is.0,
     record { kept = is.1; lasts = λ left. durable; cause = λ low. tt },
@@ -66,10 +52,10 @@ module _ {G : Type 0} (guard : Ghosts G) (last : ℕ) (old new : G) (s : State) 
 
   pub retires_not : (e : RetireFault) → IsRetired s last (guard.keeps new) (Err e)
       → (guard.leaves old s s → guard.leaves new s (if_retired s (retirement s last))) → HasRetireCause (guard.has_failed new) e
-      → RetiresTo last s (λ t. Leaves {A = ℕ} guard (OfLowering last) old new s t (Err (of_retiring e)))
+      → RetiresTo last s (λ t. Leaves {A = ℕ} guard (OfRetiring last) old new s t (Err (of_retiring e)))
       (Err (of_retiring e))
   retires_not e is crash cause =
-      told s last (guard.keeps new) (λ t. Leaves {A = ℕ} guard (OfLowering last) old new s t (Err (of_retiring e))) e is
+      told s last (guard.keeps new) (λ t. Leaves {A = ℕ} guard (OfRetiring last) old new s t (Err (of_retiring e))) e is
       (record {
         kept = still_kept s last (guard.keeps new) e is;
         lasts = λ left. (if_retired s (retirement s last), next_retired s last, crash left);
@@ -77,8 +63,8 @@ module _ {G : Type 0} (guard : Ghosts G) (last : ℕ) (old new : G) (s : State) 
       })
 
   -- if the register didn't return its scope
-  pub retires_none : (e : RegisterFault) → Leaves {A = ℕ} guard (OfLowering last) old new s s (Err (of_register e))
-      → RetiresTo last s (λ t. Leaves {A = ℕ} guard (OfLowering last) old new s t (Err (of_register e)))
+  pub retires_none : (e : RegisterFault) → Leaves {A = ℕ} guard (OfRetiring last) old new s s (Err (of_register e))
+      → RetiresTo last s (λ t. Leaves {A = ℕ} guard (OfRetiring last) old new s t (Err (of_register e)))
       (Err (of_register e))
   retires_none register.Device left = left
   retires_none register.Damaged left = left

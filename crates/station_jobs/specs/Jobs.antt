@@ -12,7 +12,7 @@ use Rattle.station_jobs.specs.declared.surroundings.Surroundings as surroundings
 use Rattle.station_jobs.specs.declared.station_fault.StationFault.{StationFault}
 use Rattle.station_jobs.specs.declared.station_fault.StationFault.TheVariants.{NoMemory, Write}
 use Rattle.station_jobs.specs.Bodies.{ListsBodies, PrintsBody}
-use Rattle.station_jobs.specs.Leaving.{OfLowering, OfNone}
+use Rattle.station_jobs.specs.Leaving.{OfNone, OfRetiring}
 use Rattle.station_jobs.specs.Whole.{Follows, JudgesIn, MakesIn, Retires, RunsIn, ready_text, retired_text}
 
 -- a guard is only made with valid serials
@@ -38,7 +38,7 @@ module _ {D G : Type 0} (guard : register.Ghosts G) (file : file.Ghosts D G) (db
   pub record LowersIn (last : ℕ) (held holds : Option (List ℕ)) (result : Result (Unit {0}) StationFault)
       : Type 0 where
     pub lowered : Result ℕ StationFault
-    pub is_lowered : RunsIn guard file db db' path (OfLowering last) (Retires last) (Unit {0}) lowered
+    pub is_lowered : RunsIn guard file db db' path (OfRetiring last) (Retires last) (Unit {0}) lowered
     pub told : Follows (λ first. Prints (retired_text first last) held holds) (holds ≡ held) lowered result
 
 -- the whole job was done, with this result

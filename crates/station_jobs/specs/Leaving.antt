@@ -2,14 +2,14 @@
 use Rattle.std.specs.Prelude.{ℕ, List, ◌≡◌, ◌⊎◌, ◌<◌, ◌^◌, IfErr, Result, Ok, Err}
 use Rattle.guard.specs.declared.register.Register.{Ghosts}
 use Rattle.guard.specs.Machine.{State, Question, after}
-use Rattle.guard.specs.Retiring.{IsLowered, with_last}
+use Rattle.guard.specs.Retirement.{retirement}
 use Rattle.station_jobs.specs.declared.station_fault.StationFault.{StationFault}
 use Rattle.station_jobs.specs.declared.station_fault.StationFault.TheVariants.{Damaged, Device}
 
--- one step of a job over a guard: a question about a body, or a last serial to lower to
+-- one step of a job over a guard: a question about a body, or a retirement to a last serial
 pub data Step : Type 0 where
   asking : Question → Step
-  lowering : ℕ → Step
+  retiring : ℕ → Step
 
 -- a job that only reads
 abbrev pub OfNone : Step → Type 0
@@ -18,24 +18,24 @@ OfNone step = ⊥
 -- one question
 abbrev pub OfQuestion : Question → Step → Type 0
 OfQuestion q (Step.asking p) = p ≡ q
-OfQuestion q (Step.lowering last) = ⊥
+OfQuestion q (Step.retiring last) = ⊥
 
 -- questions that are asked of the bodies at paths
 abbrev pub OfBodies : (Asked : List ℕ → Question → Type 0) → Step → Type 0
 OfBodies Asked (Step.asking q) = (path : List ℕ) × Asked path q
-OfBodies Asked (Step.lowering last) = ⊥
+OfBodies Asked (Step.retiring last) = ⊥
 
--- the last serial is lowered to this one
-abbrev pub OfLowering : ℕ → Step → Type 0
-OfLowering last (Step.asking q) = ⊥
-OfLowering last (Step.lowering lower) = lower ≡ last
+-- one retirement, to this last serial
+abbrev pub OfRetiring : ℕ → Step → Type 0
+OfRetiring last (Step.asking q) = ⊥
+OfRetiring last (Step.retiring lower) = lower ≡ last
 
 -- the same state, or the one after a step that the job may take: each body stays
 abbrev pub IsNext : (May : Step → Type 0) → State → State → Type 0
 IsNext May s next =
     (next ≡ s)
     ⊎ (((q : Question) × May (Step.asking q) × (next ≡ after s q))
-    ⊎ ((last : ℕ) × May (Step.lowering last) × IsLowered s last × (next ≡ with_last s last)))
+    ⊎ ((last : ℕ) × May (Step.retiring last) × (retirement s last ≡ Ok next)))
 
 -- A crash leaves this state, or after a fault perhaps the next one.
 abbrev pub Outlasts : {A : Type 0} → (May : Step → Type 0) → (leaves : State → State → Type 0) → State

@@ -34,7 +34,8 @@ Follows Used Nothing (Ok x) result = Used x result
 Follows Used Nothing (Err e) result = (result ≡ Err e) × Nothing
 
 -- A fault of the job is kept; if the job succeeded, a fault of closing is returned.
-abbrev pub closed : {A : Type 0} → Result A StationFault → (closing : Result (Unit {0}) StationFault) → Result A StationFault
+abbrev pub closed : {A : Type 0} → Result A StationFault → (closing : Result (Unit {0}) StationFault)
+    → Result A StationFault
 closed (Err e) closing = Err e
 closed (Ok x) (Ok done) = Ok x
 closed (Ok x) (Err e) = Err e
@@ -62,7 +63,7 @@ module _ {D G : Type 0} (guard : register.Ghosts G) (file : file.Ghosts D G) whe
         → (s t : State) → guard.keeps g s → guard.leaves g s t → file.has_one db' g s t
 
   -- After a successful close the files hold the guard with this state, whatever a crash leaves of them. If the guard
-  -- was abandoned, they hold this guard, or after a fault perhaps one that still has each of its bodies.
+  -- was abandoned, they hold this guard, or after a fault perhaps the next one, after a step that the job may take.
   abbrev pub LeavesFiles : {A : Type 0} → (May : Step → Type 0) → D → G → (closing : Result (Unit {0}) StationFault)
       → State → Result A StationFault → Type 0
   LeavesFiles May db' last (Ok done) t outcome = file.has db' last t

@@ -1,6 +1,7 @@
 //! Judging unsigned certificates (bodies) in order, and printing the line of each answer.
 
-ghost use Rattle.std.specs.Prelude.{◌≡◌, ◌<◌, ◌≤◌, ◌^◌, ◌∷◌, [], take, map, string_bytes, IfErr, IfOk, IfSome, OnErr, OnOk};
+ghost use Rattle.std.specs.Prelude.{◌≡◌, ◌<◌, ◌≤◌, ◌^◌, ◌∷◌, [], take, map, string_bytes, IfErr, IfOk, IfSome, OnErr};
+ghost use Rattle.std.specs.Prelude.{OnOk};
 ghost use Rattle.std.specs.Io.KnownBytes.{Appends};
 ghost use Rattle.wire.specs.Streams.{AppendsBeginning};
 ghost use Rattle.guard.specs.AnswerLines.{answer_line};

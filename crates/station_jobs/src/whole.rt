@@ -8,7 +8,7 @@ ghost use Rattle.guard.specs.Machine.{State};
 ghost use Rattle.guard.specs.Policies.{policy_at};
 ghost use Rattle.station_jobs.specs.Bodies.{ListsBodies, PrintsBody};
 ghost use Rattle.station_jobs.specs.Judging.{AsksNow, IsPolicyAt, Judges};
-ghost use Rattle.station_jobs.specs.Leaving.{Leaves, OfBodies, OfLowering, OfNone};
+ghost use Rattle.station_jobs.specs.Leaving.{Leaves, OfBodies, OfNone, OfRetiring};
 ghost use Rattle.station_jobs.specs.Whole.{IsReadAs, JudgesGiven, JudgesIn, KeepsFiles, MakesIn, Retires};
 ghost use Rattle.station_jobs.specs.Whole.{RunsIn, departments_of, is_input};
 
@@ -245,7 +245,7 @@ pub fn body_in<G: Register, D: GuardFile<Guard = G>, W: Write>(
 fn retire_over<G: Register>(alloc: Global, register: &mut G, last: u64) -> Result<u64, StationFault>
     ensures honest { G.is_honest register.new → G.is_honest register.old }
     ensures retires { G.is_honest register.new → (s : State) → G.keeps register.old s
-        → Retires last s (Leaves G.Register (OfLowering last) register.old register.new s) result }
+        → Retires last s (Leaves G.Register (OfRetiring last) register.old register.new s) result }
 {
     match register.scope() {
         Ok(scope) => match retire(alloc, register, last) {
@@ -268,7 +268,7 @@ pub fn retire_in<G: Register, D: GuardFile<Guard = G>>(
     last: u64,
 ) -> Result<u64, StationFault>
     requires { KeepsFiles G.Register D.GuardFile }
-    ensures { RunsIn G.Register D.GuardFile db.old db.new path.now (OfLowering last) (Retires last) (Unit {0})
+    ensures { RunsIn G.Register D.GuardFile db.old db.new path.now (OfRetiring last) (Retires last) (Unit {0})
         result }
 {
     match db.open(alloc, path) {

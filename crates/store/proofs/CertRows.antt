@@ -10,7 +10,7 @@ use Rattle.cert.specs.declared.fields.CertFields.{CertFields}
 use Rattle.cert.specs.Bodies.{IsCertFields, body_text}
 use Rattle.cert.specs.Reading.{body_at}
 use Rattle.cert.proofs.BodyAgain.{body_at-again}
-use Rattle.store.specs.Certificates.{certificate_with_row, row_matches}
+use Rattle.store.specs.Certificates.{certificate_from_parts, row_matches}
 use Rattle.store.specs.Certificates.{signature_in}
 use Rattle.store_sql.specs.Changes.{is_cert_within as rows_within}
 
@@ -47,7 +47,7 @@ row_is row serial key_id signature s k g = rw (sym s, sym k, sym g) refl
 -- the certificate built from a row has this row
 with_row : (row : CertRow) (fields : CertFields) (signature : Option Signature) → IsCertFields fields
     → row.body ≡ body_text fields → row_matches row fields ≡ true → signature_in row.signature ≡ Some signature
-    → IsCertificate (certificate_with_row row fields signature) × (row ≡ cert_row (certificate_with_row row fields signature))
+    → IsCertificate (certificate_from_parts row fields signature) × (row ≡ cert_row (certificate_from_parts row fields signature))
 with_row row fields signature lawful text same signed =
     let first = and_parts _ _ same in
     let second = and_parts _ _ first.1 in (
@@ -58,7 +58,7 @@ with_row row fields signature lawful text same signed =
     )
 
 pub found_with : (row : CertRow) (fields : CertFields) (signature : Option Signature) (r : Result Certificate Fault)
-    → IsRead (Some (certificate_with_row row fields signature)) r → IsCertFields fields
+    → IsRead (Some (certificate_from_parts row fields signature)) r → IsCertFields fields
     → row.body ≡ body_text fields → row_matches row fields ≡ true → signature_in row.signature ≡ Some signature
     → IfOk r (λ c. IsCertificate c × (row ≡ cert_row c))
 found_with row fields signature (Ok c) h lawful text same signed =

@@ -20,8 +20,8 @@ signature_in (Some bytes) = if length bytes == 64 then Some (Some (record { byte
 abbrev pub row_matches : CertRow → CertFields → Bool
 row_matches row fields = (fields.serial == row.serial) && (bytes_eq fields.key_id row.key_id && is_name row.department)
 
-abbrev pub certificate_with_row : CertRow → CertFields → Option Signature → Certificate
-certificate_with_row row fields signature = record {
+abbrev pub certificate_from_parts : CertRow → CertFields → Option Signature → Certificate
+certificate_from_parts row fields signature = record {
   department = row.department;
   fields = fields;
   body = row.body;
@@ -30,7 +30,7 @@ certificate_with_row row fields signature = record {
 
 abbrev pub certificate_of_row : CertRow → CertFields → Option Certificate
 certificate_of_row row fields =
-    if row_matches row fields then option_map (certificate_with_row row fields) (signature_in row.signature) else None
+    if row_matches row fields then option_map (certificate_from_parts row fields) (signature_in row.signature) else None
 
 -- the certificate of a row, if there is one
 abbrev pub certificate_in : CertRow → Option Certificate

@@ -17,7 +17,8 @@ use Rattle.store.specs.Rows.{contents_of}
 
 -- For tables with the rows of a valid state and of its stored requests: `Shown` holds of these and the answer, and
 -- nothing has changed; or the call fails, for lack of memory or because the database failed.
-abbrev pub ShowsFromRows : {X : Type 0} → (State → List Kept → X → Type 0) → Connection → Connection → Result X Fault → Type 0
+abbrev pub ShowsFromRows : {X : Type 0} → (State → List Kept → X → Type 0) → Connection → Connection
+    → Result X Fault → Type 0
 ShowsFromRows Shown old new (Ok x) =
     (s : State) (kept : List Kept) → IsLawful s → Means old.now (contents_of s kept)
     → Shown s kept x × IsUnchanged old new

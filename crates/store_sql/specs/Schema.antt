@@ -57,15 +57,17 @@ by_key name columns places = record (keyless name columns)
 abbrev pub office : Table
 office = by_number (codes "office") (
     optional_column (codes "id") Integer ∷ required_column (codes "schema") Integer ∷ required_column (codes "ca") Blob
-    ∷ required_column (codes "root") Text ∷ required_column (codes "station") Text ∷ required_column (codes "first") Integer
-    ∷ required_column (codes "last") Integer ∷ required_column (codes "next") Integer
-    ∷ required_column (codes "version") Integer ∷ required_column (codes "date") Integer ∷ [])
+    ∷ required_column (codes "root") Text ∷ required_column (codes "station") Text
+    ∷ required_column (codes "first") Integer ∷ required_column (codes "last") Integer
+    ∷ required_column (codes "next") Integer ∷ required_column (codes "version") Integer
+    ∷ required_column (codes "date") Integer ∷ [])
 
 abbrev pub department : Table
 department = by_key (codes "department") (
     required_column (codes "name") Text ∷ required_column (codes "kind") Integer ∷ required_column (codes "admins") Text
-    ∷ required_column (codes "rules") Text ∷ required_column (codes "options") Text ∷ required_column (codes "extensions") Text
-    ∷ required_column (codes "maxlife") Integer ∷ required_column (codes "namespaces") Text ∷ []) (1 ∷ [])
+    ∷ required_column (codes "rules") Text ∷ required_column (codes "options") Text
+    ∷ required_column (codes "extensions") Text ∷ required_column (codes "maxlife") Integer
+    ∷ required_column (codes "namespaces") Text ∷ []) (1 ∷ [])
 
 -- REFERENCES department, on the column at this place
 abbrev pub to_department : ℕ → Reference
@@ -80,8 +82,9 @@ to_department place = record {
 
 abbrev pub cert : Table
 cert = record (by_number (codes "cert") (
-    optional_column (codes "serial") Integer ∷ required_column (codes "department") Text ∷ required_column (codes "keyid") Text
-    ∷ required_column (codes "body") Blob ∷ optional_column (codes "signature") Blob ∷ [])) { references = to_department 2 ∷ [] }
+    optional_column (codes "serial") Integer ∷ required_column (codes "department") Text
+    ∷ required_column (codes "keyid") Text ∷ required_column (codes "body") Blob
+    ∷ optional_column (codes "signature") Blob ∷ [])) { references = to_department 2 ∷ [] }
 
 abbrev pub request : Table
 request = by_key (codes "request") (
@@ -96,7 +99,8 @@ revoked_keyid = by_key (codes "revoked_keyid") (required_column (codes "keyid") 
 
 abbrev pub ca : Table
 ca = record (by_number (codes "ca") (
-    optional_column (codes "number") Integer ∷ required_column (codes "ca") Blob ∷ required_column (codes "since") Integer ∷ []))
+    optional_column (codes "number") Integer ∷ required_column (codes "ca") Blob
+    ∷ required_column (codes "since") Integer ∷ []))
     { uniques = (2 ∷ []) ∷ []; orders = plain ∷ [] }
 
 abbrev pub no_schema : Schema

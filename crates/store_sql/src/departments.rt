@@ -103,7 +103,8 @@ pub fn put_department<S: Alter>(
     conn: &mut Connection<S>,
     department: &DepartmentRow,
 ) -> Result<(), Fault>
-    ensures { WritesRows S.Store (with_department_row department.now) (RefusesDepartment department.now) conn.old conn.new result }
+    ensures { WritesRows S.Store (with_department_row department.now) (RefusesDepartment department.now)
+        conn.old conn.new result }
 {
     done(conn.execute(PUT_DEPARTMENT, &department.values()))
 }

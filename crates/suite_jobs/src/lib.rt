@@ -1,7 +1,7 @@
 //! Tests of `office_jobs`: whole jobs in a world in memory, whose answers a test chooses.
 //!
-//! They use only public functions. What the system's world does with files and sockets, the tests of the built program
-//! show, for example `tests/test_command_line.py` and `tests/test_serving.py`.
+//! They use only public functions. Tests of the built program show what the system's world does with files and sockets,
+//! for example `tests/test_command_line.py` and `tests/test_serving.py`.
 #![tactic(auto)]
 
 #[cfg(test)]

@@ -18,7 +18,7 @@ const RANGE: &[u8] = b"SSHKRL\n\0\0\0\0\x01\0\0\0\0\0\0\0\x03\0\0\0\0\0\0\x0b\xb
 \x11\x11\x11\x11\x11\x11\x11\x11\x11\x11\x11\x11\x11\x11\x11\x11\
 \0\0\0\0\x21\0\0\0\x10\0\0\0\0\0\0\0\x05\0\0\0\0\0\0\0\x07";
 
-/// The first exchange of `crates/sshoffice/data/first-issue.exchange`.
+/// The first exchange of `examples/first-issue.exchange`.
 const EXCHANGE: &[u8] =
     b"exchange 1000 3333333333333333333333333333333333333333333333333333333333333333 228\n\
 POST /v1/callers/ana/requests/i1 HTTP/1.1\r\ncontent-length: 162\r\n\r\n\

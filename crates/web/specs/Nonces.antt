@@ -5,20 +5,21 @@ use Rattle.web.specs.declared.serve_fault.ServeFault.{ServeFault}
 use Rattle.web.specs.declared.serve_fault.ServeFault.TheVariants.{Read, Nonces, Store, NoMemory, Write}
 
 -- the source had fewer bytes left than a nonce has
-pub record NoncesEnd (old new : Option (List ℕ)) : Type 0 where
+pub record NoncesRunOut (old new : Option (List ℕ)) : Type 0 where
   pub bytes : List ℕ
   pub consumed : Consumes old new bytes
   pub short : length bytes < 32
   pub ended : IsAtEnd new
 
 -- the source failed or ended if the fault is `Nonces`, and didn't fail otherwise
-abbrev pub NoncesFail : {A : Type 0} → Result A ServeFault → (failed failed' : ℕ) → (old new : Option (List ℕ)) → Type 0
-NoncesFail (Err Nonces) failed failed' old new = (failed' ≡ failed + 1) ⊎ ((failed' ≡ failed) × NoncesEnd old new)
-NoncesFail (Ok a) failed failed' old new = failed' ≡ failed
-NoncesFail (Err Read) failed failed' old new = failed' ≡ failed
-NoncesFail (Err Store) failed failed' old new = failed' ≡ failed
-NoncesFail (Err NoMemory) failed failed' old new = failed' ≡ failed
-NoncesFail (Err Write) failed failed' old new = failed' ≡ failed
+abbrev pub HasNonceCause : {A : Type 0} → Result A ServeFault → (failed failed' : ℕ) → (old new : Option (List ℕ))
+    → Type 0
+HasNonceCause (Err Nonces) failed failed' old new = (failed' ≡ failed + 1) ⊎ ((failed' ≡ failed) × NoncesRunOut old new)
+HasNonceCause (Ok a) failed failed' old new = failed' ≡ failed
+HasNonceCause (Err Read) failed failed' old new = failed' ≡ failed
+HasNonceCause (Err Store) failed failed' old new = failed' ≡ failed
+HasNonceCause (Err NoMemory) failed failed' old new = failed' ≡ failed
+HasNonceCause (Err Write) failed failed' old new = failed' ≡ failed
 
 -- the number of bytes that a call draws: a nonce, or nothing if no request was read, or less if the source failed or
 -- ended. Memory can run out before the nonce or after it.

@@ -7,7 +7,8 @@ ghost use Rattle.office.specs.History.{state};
 ghost use Rattle.office.specs.Faults.{HasRegisterCause};
 ghost use Rattle.office.specs.Registers.{AnswersBy, FailsAsARegister, FailsWithin, Preserves};
 ghost use Rattle.message.specs.Texts.{kind_text};
-ghost use Rattle.web.specs.Reports.{entry_line, gap, moment_places, serial_places, standing_word, table_report, total_line};
+ghost use Rattle.web.specs.Reports.{entry_line, gap, moment_places, serial_places, standing_word, table_report};
+ghost use Rattle.web.specs.Reports.{total_line};
 ghost use Rattle.web.specs.Batches.{table_among};
 
 use crate::batches::put_all;

@@ -147,7 +147,8 @@ pub fn answer_by<R: Registry>(
     ensures reads { R.is_honest registry.new → R.is_open registry.new → AsksNoChange request.now
         → R.is_as_before registry.old registry.new }
     ensures cause { R.is_honest registry.new → IfErr result
-        (λ e. HasRegisterCause e (StopsAt R.means R.fails R.stops request.now moment nonce.now registry.old registry.new)) }
+        (λ e. HasRegisterCause e
+        (StopsAt R.means R.fails R.stops request.now moment nonce.now registry.old registry.new)) }
     ensures only { R.is_honest registry.new → FailsAsARegister R.means registry.old result }
 {
     let request = Request::of(alloc, asks(routes, request))?;
@@ -185,7 +186,8 @@ pub fn answer<R: Registry>(
     ensures reads { R.is_honest registry.new → R.is_open registry.new → AsksNoChange request.now
         → R.is_as_before registry.old registry.new }
     ensures cause { R.is_honest registry.new → IfErr result
-        (λ e. HasRegisterCause e (StopsAt R.means R.fails R.stops request.now moment nonce.now registry.old registry.new)) }
+        (λ e. HasRegisterCause e
+        (StopsAt R.means R.fails R.stops request.now moment nonce.now registry.old registry.new)) }
     ensures only { R.is_honest registry.new → FailsAsARegister R.means registry.old result }
 {
     let routes = Routes::new(alloc)?;

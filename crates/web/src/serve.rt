@@ -9,7 +9,7 @@ ghost use Rattle.office.specs.Registers.{FailuresPersist, MeansTheSame};
 ghost use Rattle.web.specs.Answers.{Keeps};
 ghost use Rattle.web.specs.Causes.{StopsAt};
 ghost use Rattle.web.specs.Faults.{is_read, is_write, IfServed, IfUnserved};
-ghost use Rattle.web.specs.Nonces.{Draws, NoncesFail};
+ghost use Rattle.web.specs.Nonces.{Draws, HasNonceCause};
 ghost use Rattle.web.specs.Served.{KeepsIfRead, Served, Stopped};
 
 use crate::request::answer_request;
@@ -73,7 +73,7 @@ pub fn serve_one<R: Source, W: Sink, S: Registry, N: Source>(
         (λ request nonce. StopsAt S.means S.fails S.stops request moment nonce registry.old registry.new) }
     ensures reader { R.failed reader.new ≡ (if is_read result then R.failed reader.old + 1 else R.failed reader.old) }
     ensures writer { W.failed writer.new ≡ (if is_write result then W.failed writer.old + 1 else W.failed writer.old) }
-    ensures nonces { NoncesFail result (N.failed nonces.old) (N.failed nonces.new)
+    ensures nonces { HasNonceCause result (N.failed nonces.old) (N.failed nonces.new)
         (N.remaining nonces.old) (N.remaining nonces.new) }
 {
     let request = take_request(routes, reader, alloc)?;

@@ -5,7 +5,7 @@ ghost use Rattle.std.specs.Io.KnownBytes.{Consumes};
 ghost use Rattle.http_requests.specs.Plans.{posted_with};
 ghost use Rattle.web.specs.Faults.{is_read, IsOfTaking};
 ghost use Rattle.web.specs.Requests.{IsFront, IsTaken, TakesBody};
-ghost use Rattle.web.specs.Nonces.{Draws, NoncesFail};
+ghost use Rattle.web.specs.Nonces.{Draws, HasNonceCause};
 
 use crate::request::Request;
 use crate::serve_fault::ServeFault;
@@ -101,7 +101,7 @@ pub(crate) fn take_nonce<N: Source>(source: &mut N) -> Result<[u8; 32], ServeFau
     ensures consumed { IfOk result (λ nonce. Consumes (N.remaining source.old) (N.remaining source.new) nonce) }
     ensures size { IfOk result (λ nonce. length nonce ≡ 32) }
     ensures drawn { Draws result (N.remaining source.old) (N.remaining source.new) }
-    ensures fails { NoncesFail result (N.failed source.old) (N.failed source.new)
+    ensures fails { HasNonceCause result (N.failed source.old) (N.failed source.new)
         (N.remaining source.old) (N.remaining source.new) }
     ensures only { IfErr result (λ e. e ≡ ServeFault.Nonces) }
 {

@@ -10,7 +10,7 @@ ghost use Rattle.office.specs.declared.certificate.Certificate.{Certificate};
 ghost use Rattle.office.specs.Certificates.{IsCertificate};
 ghost use Rattle.store.specs.Reading.{IsRead};
 ghost use Rattle.store.specs.Rows.{cert_row};
-ghost use Rattle.store.specs.Certificates.{IsSigned, certificate_in, certificate_of_row, certificate_with_row};
+ghost use Rattle.store.specs.Certificates.{IsSigned, certificate_in, certificate_of_row, certificate_from_parts};
 ghost use Rattle.store.specs.Certificates.{row_matches};
 ghost use Rattle.store.specs.Certificates.{signature_in};
 
@@ -59,7 +59,7 @@ fn certificate_with(
     fields: CertFields,
     signature: Option<Signature>,
 ) -> Result<Certificate, Fault>
-    ensures { IsRead (Some (certificate_with_row row.now fields signature)) result }
+    ensures { IsRead (Some (certificate_from_parts row.now fields signature)) result }
 {
     match both(row.department.copied(alloc), row.body.copied(alloc)) {
         Ok((department, body)) => Ok(Certificate {

@@ -45,8 +45,8 @@ fn add_certificate<S: Alter>(
     certificate: &Certificate,
 ) -> Result<(), Fault>
     requires { IsCertificate certificate.now }
-    ensures { Does S.Store (with_change 0 0 (change.Certificate certificate.now)) (RefusesCert (cert_row certificate.now))
-        conn.old conn.new result }
+    ensures { Does S.Store (with_change 0 0 (change.Certificate certificate.now))
+        (RefusesCert (cert_row certificate.now)) conn.old conn.new result }
 {
     let row = cert_row(alloc, certificate)?;
     insert_cert(conn, &row)

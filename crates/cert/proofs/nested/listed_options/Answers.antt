@@ -1,4 +1,4 @@
-use Rattle.cert.proofs.Words.{CertFault, CriticalOptions, Err, Extensions, GivesPart, List, None, Option, OptionField}
+use Rattle.cert.proofs.Words.{CertFault, CriticalOptions, Err, Extensions, GivesRead, List, None, Option, OptionField}
 use Rattle.cert.proofs.Words.{Pair}
 use Rattle.cert.proofs.Words.{[], ap, arith, or_fault, pair_of, subst, sym, ◌++◌, ◌∙◌, ◌∷◌, ◌≡◌}
 use Rattle.cert.specs.Reading.{field_fault}
@@ -7,13 +7,13 @@ use Rattle.cert.proofs.nested.listed_options.Goals as goal
 
 -- the fault of the field, if nothing was read
 gives_fault : (field : OptionField) (e : CertFault) (total : Option (List Pair)) → e ≡ field_fault field
-    → total ≡ None → GivesPart {X = List Pair} (Err e) (or_fault (field_fault field) total)
+    → total ≡ None → GivesRead {X = List Pair} (Err e) (or_fault (field_fault field) total)
 gives_fault field e total is none =
-    subst (λ (f : CertFault). GivesPart {X = List Pair} (Err f) (or_fault (field_fault field) total)) (sym is)
+    subst (λ (f : CertFault). GivesRead {X = List Pair} (Err f) (or_fault (field_fault field) total)) (sym is)
     (at field (ap (or_fault (field_fault field)) none))
   where
     at : (field : OptionField) → or_fault (field_fault field) total ≡ Err (field_fault field)
-        → GivesPart {X = List Pair} (Err (field_fault field)) (or_fault (field_fault field) total)
+        → GivesRead {X = List Pair} (Err (field_fault field)) (or_fault (field_fault field) total)
     at CriticalOptions e = e
     at Extensions e = e
 

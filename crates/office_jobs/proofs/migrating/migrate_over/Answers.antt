@@ -1,11 +1,12 @@
-use Rattle.office_jobs.proofs.Words.{Err, HasCleanDisk, JobFault, MigratingEnds, State, StoreFault, ap, arith, of_store}
+use Rattle.office_jobs.proofs.Words.{Err, HasCleanDisk, JobFault, MigratesOffice, State, StoreFault, ap, arith}
+use Rattle.office_jobs.proofs.Words.{of_store}
 use Rattle.office_jobs.proofs.Words.{refl, state, subst, sym, ◌≡◌}
 use Rattle.office.specs.declared.store_fault.StoreFault.TheVariants as store
 use Rattle.office_jobs.specs.Making.{IsMoved, IsUnmoved}
 use Rattle.office_jobs.proofs.Unlike.{had_no_cas}
 use Rattle.office_jobs.proofs.migrating.migrate_over.Goals as goal
 
-unmoved : (e : StoreFault) (old new : State) → IsUnmoved old new e → MigratingEnds old new (Err (of_store e))
+unmoved : (e : StoreFault) (old new : State) → IsUnmoved old new e → MigratesOffice old new (Err (of_store e))
 unmoved store.NoMemory old new u = u
 unmoved store.Device old new u = u
 unmoved store.AlreadyAnOffice old new u = u
@@ -17,7 +18,7 @@ pub returns-in-Err-clause-migrates : goal.returns-in-Err-clause-migrates
 returns-in-Err-clause-migrates g c = λ clean.
     let old = state g.S.Store c.args.conn in
     let new = state g.S.Store c.in-Err.conn in
-    subst (λ (f : JobFault). MigratingEnds old new (Err f)) (sym c.from.ensures) (unmoved c.in-Err.fault old new (record {
+    subst (λ (f : JobFault). MigratesOffice old new (Err f)) (sym c.from.ensures) (unmoved c.in-Err.fault old new (record {
       judged = c.in-Err.ensures.judged_back clean;
       only = c.in-Err.ensures.only clean;
       before = c.in-Err.ensures.before clean;

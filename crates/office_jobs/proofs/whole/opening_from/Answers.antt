@@ -3,12 +3,12 @@ use Rattle.office_jobs.proofs.Words.{Result, inl, inr, ℕ, ◌≡◌}
 use Rattle.office_jobs.specs.declared.founding.Founding.{Founding}
 use Rattle.office_jobs.specs.Faults.{IsOfAnOpening}
 use Rattle.office_jobs.specs.Making.{due_opening}
-use Rattle.office_jobs.specs.Whole.{BeginsOffice}
+use Rattle.office_jobs.specs.Whole.{GivesOpening}
 use Rattle.office_jobs.proofs.whole.opening_from.Goals as goal
 
 begun : (file : Option (List ℕ)) (f : Founding) (k : KeyLine) (r : Result Opening JobFault)
     → IfSome file (λ text. IsKeyText text k) → IfOk r (λ o. due_opening f k.key ≡ Ok o)
-    → IfErr r (IsOfAnOpening (due_opening f k.key)) → BeginsOffice file (due_opening f) r
+    → IfErr r (IsOfAnOpening (due_opening f k.key)) → GivesOpening file (due_opening f) r
 begun file f k (Ok o) read made fault = (k, read, made)
 begun file f k (Err e) read made fault = inr (k, read, fault)
 

@@ -1,6 +1,6 @@
 use Rattle.std.proofs.Common.{Err, ap, subst, sym, ℕ}
 use Rattle.station_jobs.specs.declared.station_fault.StationFault.{StationFault}
-use Rattle.station_jobs.specs.Leaving.{Leaves, OfLowering}
+use Rattle.station_jobs.specs.Leaving.{Leaves, OfRetiring}
 use Rattle.station_jobs.specs.Whole.{RetiresTo}
 use Rattle.station_jobs.proofs.Retirings.{retires_not, retires_well}
 use Rattle.station_jobs.proofs.whole.retire_over.Goals as goal
@@ -21,7 +21,7 @@ returns-in-Err-retire-clause-retires g c h s kept low =
     let old = c.args.register.now in
     let new = c.retire.new.register in
     subst (λ (e : StationFault). RetiresTo c.args.last s
-    (λ t. Leaves {A = ℕ} g.G.Register (OfLowering c.args.last) old new s t (Err e)) (Err e))
+    (λ t. Leaves {A = ℕ} g.G.Register (OfRetiring c.args.last) old new s t (Err e)) (Err e))
     (sym c.from.ensures)
     (retires_not g.G.Register c.args.last old new s c.in-Err-retire.fault (is.retired h s mid low)
     (λ left. is.crash h s mid (c.scope.ensures.crash before s kept left) low) (is.cause h s mid))
