@@ -2,9 +2,9 @@
 //
 // An accepted message is answered again as it was, so it may be sent as often as it takes, to whichever office serves.
 // But an office that has lost its file to the other machine goes on giving pages from its memory, until it is ended. So
-// the office here is asked only for some seconds after a sign that this machine has certainly given on the volume. They
-// are over before the other office gets the lock. office-watch writes down when that is, in seconds since this machine
-// was switched on. Nobody sets that clock, and it goes on while the machine hangs.
+// the office here is asked only while this machine has a lease: for some seconds after a sign of it that is certainly on
+// the volume. They are over before the other office gets the lock. office-watch writes down when that is, in seconds
+// since this machine was switched on. Nobody sets that clock, and it goes on while the machine hangs.
 import fs from 'fs';
 
 const RUN = '/run/office-volume/';
