@@ -22,13 +22,14 @@ PAGE, MESSAGE = ("GET", "/v1/krl"), ("POST", "/v1/callers/ana/requests/k-1")
 
 
 class Door(socketserver.ThreadingUnixStreamServer):
-    """An office behind its door, which answers whatever it is asked by its machine's name."""
+    """An office behind its door, which answers whatever it is asked by its machine's name, after some seconds."""
     daemon_threads = True
 
-    def __init__(self, path, name):
+    def __init__(self, path, name, late):
         class Handler(http.server.BaseHTTPRequestHandler):
             def do_GET(self):
                 self.rfile.read(int(self.headers.get("Content-Length", 0)))
+                time.sleep(late)
                 self.send_response(200)
                 self.send_header("Content-Length", str(len(name)))
                 self.end_headers()
@@ -70,8 +71,8 @@ class Machine:
     def hold(self, file, text):
         (self.folder / "run" / file).write_text(text)
 
-    def serve(self):
-        self.door = Door(self.folder / "door.sock", self.name)
+    def serve(self, late=0):
+        self.door = Door(self.folder / "door.sock", self.name, late)
 
     def end(self):
         if self.door:
@@ -87,7 +88,11 @@ class Machine:
         asking.sock = plain
         with contextlib.closing(asking):
             asking.request(method, path)
-            answer = asking.getresponse()
+            try:
+                answer = asking.getresponse()
+            except http.client.RemoteDisconnected:
+                # A front answers by 502, too.
+                return 502
             return answer.read().decode() if answer.status == 200 else answer.status
 
 
@@ -176,3 +181,35 @@ def test_a_message_waits_for_a_lease(machines):
         assert not any(it.done() for it in waiting)
         machines[1].hold("lease", from_now(60))
         assert ["two", "two"] == [it.result(30) for it in waiting]
+
+
+def test_an_answer_that_comes_after_the_lease(machines):
+    """What an office answers later than its machine's lease isn't passed on: its file may be the other machine's."""
+    one, two = machines
+    one.serve(late=1.5)
+    one.hold("lease", from_now(1))
+    with ThreadPoolExecutor(2) as pool:
+        assert [502, 502] == [*pool.map(lambda it: it.ask(*PAGE), machines)]
+    one.hold("lease", from_now(60))
+    assert ["one", "one"] == [it.ask(*PAGE) for it in machines]
+
+
+def test_an_answer_of_an_office_that_is_withheld_meanwhile(machines):
+    one, _ = machines
+    one.serve(late=1.5)
+    one.hold("lease", from_now(60))
+    with ThreadPoolExecutor(1) as pool:
+        asked = pool.submit(one.ask, *PAGE)
+        time.sleep(0.5)
+        one.hold("withheld", from_now(60))
+        assert 502 == asked.result()
+
+
+def test_a_message_whose_answer_comes_after_the_lease(machines):
+    """It is sent again, to the other machine's office, which has a lease."""
+    one, two = machines
+    one.serve(late=1.5)
+    one.hold("lease", from_now(1))
+    two.serve()
+    two.hold("lease", from_now(60))
+    assert "two" == one.ask(*MESSAGE)

@@ -35,12 +35,25 @@ function lent() {
     return isLent() ? 'yes' : '';
 }
 
+// Whether an answer may be passed on. nginx names whom it asked, and the last of them answered.
+function isGood(answer) {
+    const asked = answer.variables.upstream_addr;
+    return answer.status < 500 && (!asked || asked.endsWith('/other.sock') || isLent());
+}
+
+// For way.conf, as a page begins to come: ends the connection instead.
+function pass(r) {
+    if (r.status < 500 && !isGood(r)) {
+        throw new Error('the lease is over');
+    }
+}
+
 async function ask(r) {
     const begun = Date.now();
     for (;;) {
         // This isn't a variable of nginx, which would stay as it was when this request began.
         const answer = await r.subrequest(`/${asked()}${r.uri}`, {method: r.method});
-        if (answer.status < 500) {
+        if (isGood(answer)) {
             r.headersOut['Content-Type'] = answer.headersOut['Content-Type'];
             r.return(answer.status, answer.responseBuffer);
             return;
@@ -54,4 +67,4 @@ async function ask(r) {
     }
 }
 
-export default {ask, asked, lent};
+export default {ask, asked, lent, pass};
