@@ -5,6 +5,7 @@ import http.server
 import os
 import pathlib
 import pwd
+import re
 import shutil
 import socket
 import socketserver
@@ -213,3 +214,58 @@ def test_a_message_whose_answer_comes_after_the_lease(machines):
     two.serve()
     two.hold("lease", from_now(60))
     assert "two" == one.ask(*MESSAGE)
+
+
+@pytest.fixture
+def volume(tmp_path):
+    """Runs a command of office-volume with a mount in memory, and programs in place of those of the machine. Returns what
+    is written down, and the programs that were called."""
+    run, programs, called = tmp_path / "run", tmp_path / "programs", tmp_path / "called"
+    for it in (run, programs):
+        it.mkdir()
+    text = (EXAMPLES / "volume/office-volume").read_text()
+    functions, last = text.rsplit("\ncase ", 1)
+    for old, new in [("mount=/var/lib/office", "mount=/dev/shm"), ("run=/run/office-volume", f"run={run}")]:
+        assert f"\n{old}\n" in functions
+        functions = functions.replace(f"\n{old}\n", f"\n{new}\n")
+
+    def command(words, **bodies):
+        for name, body in bodies.items():
+            (programs / name).write_text(f'#!/bin/bash\necho {name} "$@" >>{called}\n{body}\n')
+            (programs / name).chmod(0o755)
+        subprocess.run(["bash", "-c", f"PATH={programs}:$PATH\n{functions}\n{words}"], check=True)
+        return {it.name: it.read_text() for it in run.iterdir()}, called.read_text().splitlines()
+
+    yield command
+    name = subprocess.run(["hostname", "-s"], check=True, capture_output=True, text=True).stdout.strip()
+    pathlib.Path(f"/dev/shm/.lease-of-{name}").unlink(missing_ok=True)
+
+
+def test_a_lease_begins_with_its_sign(volume):
+    """Not once the copies have it. The sign is a write that ends after that: of data, synced in the same program."""
+    now = float(from_now(0))
+    held, [called] = volume("renew_lease", dd='sleep 1.5; exec /usr/bin/dd "$@"')
+    assert now <= float(held["lease"]) - 5 < now + 1
+    assert ["lease"] == [*held]
+    assert re.search(r" of=\.lease-of-\S+ .*\bfsync\b", called)
+
+
+def test_a_sign_that_is_refused_ends_the_lease(volume):
+    held, called = volume("hold lease 5; renew_lease", dd="exit 1")
+    assert {} == held and 1 == len(called)
+
+
+def test_who_is_evicted_by_his_own_machine_answers_nobody_first(volume):
+    """The office is killed, and the lease is over, before its lock is released."""
+    held, called = volume("hold lease 5; evict_sessions $(hostname -s) 11 12", pkill="", ceph="")
+    assert {} == held
+    assert ["pkill -KILL -u office -x sshoffice", "ceph tell mds.office:0 client evict id=11",
+            "ceph tell mds.office:0 client evict id=12"] == called
+
+
+def test_a_machine_that_evicts_the_other_is_withheld(volume):
+    """Before the other one's lock is released, and for six seconds after."""
+    held, called = volume("evict_sessions elsewhere 11", pgrep="exit 1", ceph="sleep 1")
+    now = float(from_now(0))
+    assert 5 < float(held["withheld"]) - now <= 6
+    assert "ceph tell mds.office:0 client evict id=11" in called and not any(it.startswith("pkill") for it in called)
