@@ -218,8 +218,8 @@ def test_a_message_whose_answer_comes_after_the_lease(machines):
 
 @pytest.fixture
 def volume(tmp_path):
-    """Runs a command of office-volume with a mount in memory, and programs in place of those of the machine. Returns what
-    is written down, and the programs that were called."""
+    """Runs a command of office-volume with a mount in memory, and programs in place of those of the machine. Returns
+    what is written down, and the programs that were called."""
     run, programs, called = tmp_path / "run", tmp_path / "programs", tmp_path / "called"
     for it in (run, programs):
         it.mkdir()
