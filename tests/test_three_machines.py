@@ -680,14 +680,32 @@ def test_who_gives_no_sign_answers_nobody(site, silence):
     over = time.time()
     print(f"the other one serves after {over - moment:.1f} s")
     until(lambda: gives_page(box, "/run/office-way/way.sock"), seconds=60)
-    said = box.run("office-volume check", check=False)
+    if silence is stop_watch:
+        assert "this machine has no lease" in box.run("office-volume check", check=False).stdout
     back()
-    assert 1 == said.returncode and "this machine gives no sign" in said.stdout
     late = moment + LEASE
     assert any(given for when, given in itself if when > late), "no page in memory"
     assert not any(given for when, given in led[:-1] if when > late)
     until_well(site, site.is_well)
     assert not [it for it in site.answers if it.machine == box.name and late < it.asked < over]
+    assert not site.intruders()
+
+
+def test_the_machine_that_waits_hangs(site, request):
+    """The one that serves has its lease all the time, until it evicts the other one and later."""
+    until_well(site, site.is_well)
+    box = until(site.serving, seconds=60)
+    back = site.freeze_mount(site.other(box))
+    begun, longest = time.time(), 0
+    while time.time() < begun + 40:
+        asked = time.time()
+        until(lambda: gives_page(box, "/run/office-way/way.sock"), seconds=60, pause=0.2)
+        longest = max(longest, time.time() - asked)
+        time.sleep(0.2)
+    back()
+    print(f"the longest that a page took: {longest:.1f} s")
+    assert longest < 3 * request.config.getoption("--patience")
+    until_well(site, site.is_well)
     assert not site.intruders()
 
 

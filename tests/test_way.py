@@ -5,6 +5,7 @@ import http.server
 import os
 import pathlib
 import pwd
+import re
 import shutil
 import socket
 import socketserver
@@ -22,13 +23,14 @@ PAGE, MESSAGE = ("GET", "/v1/krl"), ("POST", "/v1/callers/ana/requests/k-1")
 
 
 class Door(socketserver.ThreadingUnixStreamServer):
-    """An office behind its door, which answers whatever it is asked by its machine's name."""
+    """An office behind its door, which answers whatever it is asked by its machine's name, after some seconds."""
     daemon_threads = True
 
-    def __init__(self, path, name):
+    def __init__(self, path, name, late):
         class Handler(http.server.BaseHTTPRequestHandler):
             def do_GET(self):
                 self.rfile.read(int(self.headers.get("Content-Length", 0)))
+                time.sleep(late)
                 self.send_response(200)
                 self.send_header("Content-Length", str(len(name)))
                 self.end_headers()
@@ -70,8 +72,8 @@ class Machine:
     def hold(self, file, text):
         (self.folder / "run" / file).write_text(text)
 
-    def serve(self):
-        self.door = Door(self.folder / "door.sock", self.name)
+    def serve(self, late=0):
+        self.door = Door(self.folder / "door.sock", self.name, late)
 
     def end(self):
         if self.door:
@@ -87,7 +89,11 @@ class Machine:
         asking.sock = plain
         with contextlib.closing(asking):
             asking.request(method, path)
-            answer = asking.getresponse()
+            try:
+                answer = asking.getresponse()
+            except http.client.RemoteDisconnected:
+                # A front answers by 502, too.
+                return 502
             return answer.read().decode() if answer.status == 200 else answer.status
 
 
@@ -176,3 +182,90 @@ def test_a_message_waits_for_a_lease(machines):
         assert not any(it.done() for it in waiting)
         machines[1].hold("lease", from_now(60))
         assert ["two", "two"] == [it.result(30) for it in waiting]
+
+
+def test_an_answer_that_comes_after_the_lease(machines):
+    """What an office answers later than its machine's lease isn't passed on: its file may be the other machine's."""
+    one, two = machines
+    one.serve(late=1.5)
+    one.hold("lease", from_now(1))
+    with ThreadPoolExecutor(2) as pool:
+        assert [502, 502] == [*pool.map(lambda it: it.ask(*PAGE), machines)]
+    one.hold("lease", from_now(60))
+    assert ["one", "one"] == [it.ask(*PAGE) for it in machines]
+
+
+def test_an_answer_of_an_office_that_is_withheld_meanwhile(machines):
+    one, _ = machines
+    one.serve(late=1.5)
+    one.hold("lease", from_now(60))
+    with ThreadPoolExecutor(1) as pool:
+        asked = pool.submit(one.ask, *PAGE)
+        time.sleep(0.5)
+        one.hold("withheld", from_now(60))
+        assert 502 == asked.result()
+
+
+def test_a_message_whose_answer_comes_after_the_lease(machines):
+    """It is sent again, to the other machine's office, which has a lease."""
+    one, two = machines
+    one.serve(late=1.5)
+    one.hold("lease", from_now(1))
+    two.serve()
+    two.hold("lease", from_now(60))
+    assert "two" == one.ask(*MESSAGE)
+
+
+@pytest.fixture
+def volume(tmp_path):
+    """Runs a command of office-volume with a mount in memory, and programs in place of those of the machine. Returns
+    what is written down, and the programs that were called."""
+    run, programs, called = tmp_path / "run", tmp_path / "programs", tmp_path / "called"
+    for it in (run, programs):
+        it.mkdir()
+    text = (EXAMPLES / "volume/office-volume").read_text()
+    functions, last = text.rsplit("\ncase ", 1)
+    for old, new in [("mount=/var/lib/office", "mount=/dev/shm"), ("run=/run/office-volume", f"run={run}")]:
+        assert f"\n{old}\n" in functions
+        functions = functions.replace(f"\n{old}\n", f"\n{new}\n")
+
+    def command(words, **bodies):
+        for name, body in bodies.items():
+            (programs / name).write_text(f'#!/bin/bash\necho {name} "$@" >>{called}\n{body}\n')
+            (programs / name).chmod(0o755)
+        subprocess.run(["bash", "-c", f"PATH={programs}:$PATH\n{functions}\n{words}"], check=True)
+        return {it.name: it.read_text() for it in run.iterdir()}, called.read_text().splitlines()
+
+    yield command
+    name = subprocess.run(["hostname", "-s"], check=True, capture_output=True, text=True).stdout.strip()
+    pathlib.Path(f"/dev/shm/.lease-of-{name}").unlink(missing_ok=True)
+
+
+def test_a_lease_begins_with_its_sign(volume):
+    """Not once the copies have it. The sign is a write that ends after that: of data, synced in the same program."""
+    now = float(from_now(0))
+    held, [called] = volume("renew_lease", dd='sleep 1.5; exec /usr/bin/dd "$@"')
+    assert now <= float(held["lease"]) - 5 < now + 1
+    assert ["lease"] == [*held]
+    assert re.search(r" of=\.lease-of-\S+ .*\bfsync\b", called)
+
+
+def test_a_sign_that_is_refused_ends_the_lease(volume):
+    held, called = volume("hold lease 5; renew_lease", dd="exit 1")
+    assert {} == held and 1 == len(called)
+
+
+def test_who_is_evicted_by_his_own_machine_answers_nobody_first(volume):
+    """The office is killed, and the lease is over, before its lock is released."""
+    held, called = volume("hold lease 5; evict_sessions $(hostname -s) 11 12", pkill="", ceph="")
+    assert {} == held
+    assert ["pkill -KILL -u office -x sshoffice", "ceph tell mds.office:0 client evict id=11",
+            "ceph tell mds.office:0 client evict id=12"] == called
+
+
+def test_a_machine_that_evicts_the_other_is_withheld(volume):
+    """Before the other one's lock is released, and for six seconds after."""
+    held, called = volume("evict_sessions elsewhere 11", pgrep="exit 1", ceph="sleep 1")
+    now = float(from_now(0))
+    assert 5 < float(held["withheld"]) - now <= 6
+    assert "ceph tell mds.office:0 client evict id=11" in called and not any(it.startswith("pkill") for it in called)
