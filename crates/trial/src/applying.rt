@@ -23,8 +23,7 @@ fn of_a_run(done: Result<(), RunFault>) -> Result<(), TrialFault>
 }
 
 /// Runs the exchanges from a file's reader over the in-memory office, and prints what each one got.
-#[tactic(auto, using(crate::proofs::Causes::not_run, crate::proofs::Causes::no_fault,
-    crate::proofs::Causes::no_record))]
+#[tactic(auto, using(crate::proofs::Causes::not_run, crate::proofs::Causes::no_fault, crate::proofs::Causes::no_record))]
 pub(crate) fn apply_to_trial<R: Read + Drop, W: Write>(
     alloc: Global,
     file: R,
