@@ -131,7 +131,7 @@ class Site(boxes.Rack):
         """The callers of these tests are more than a front lets through, and the answers are written down."""
         box.run("sed -i 's/rate=20r/rate=2000r/' /etc/vethlumi/front/nginx.conf; systemctl reload office-front")
         box.run(f"sed -i 's#access_log off;#access_log {LOG} way; log_subrequest on;#' /etc/vethlumi/way/way.conf; "
-                "systemctl restart office-way")
+                "systemctl reload office-way")
 
     def pair(self):
         return [self.boxes[it] for it in ("one", "two")]
