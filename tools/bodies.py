@@ -1,4 +1,4 @@
-"""The wrong bodies of a crate as they are written: tables of wrong-bodies.toml, and files of wrong/ and alone/."""
+"""The wrong bodies of a crate as they are written: the tables of its wrong-bodies.toml."""
 
 import os
 import re
@@ -8,8 +8,6 @@ from dataclasses import dataclass, field
 from edits import Pair
 
 TABLE = "wrong-bodies.toml"
-# The folders of those that are files of their own, below the folder of a crate: each is tried alone, or with others.
-ALONE, TOGETHER = "alone", "wrong"
 NAME = re.compile(r"[a-z0-9-]+")
 KEYS = {"file", "old", "new", "changes", "clause", "alone", "functions"}
 
@@ -47,61 +45,15 @@ class Body:
         return texts
 
     def as_edit(self):
-        """Its text as a file of its own."""
+        """Its text as a file of must-fail/, which the toolchain reads."""
         lines = [f"function: {it}" for it in self.functions]
         for pair in self.pairs:
             lines += [f"file: {pair.path}", f"old: {pair.old}", f"new: {pair.new}"]
         return "\n".join([*lines, ""])
 
-    def as_table(self):
-        """Its text as a table of wrong-bodies.toml."""
-        lines = [f"[{self.name}]"]
-        if len(self.pairs) == 1:
-            lines += [f"{key} = {quoted(it)}" for key, it in keys_of(self.pairs[0])]
-        else:
-            lines += ["changes = ["]
-            lines += ["    { " + ", ".join(f"{key} = {quoted(it)}" for key, it in keys_of(pair)) + " },"
-                      for pair in self.pairs]
-            lines += ["]"]
-        if self.functions:
-            lines.append(f"functions = [{', '.join(map(quoted, self.functions))}]")
-        if self.is_alone:
-            lines.append("alone = true")
-        if self.clause:
-            lines.append(f"clause = {quoted(self.clause)}")
-        return "\n".join([*lines, ""])
-
 
 class Mistake(Exception):
     """Why a crate's wrong bodies can't be read."""
-
-
-def keys_of(pair):
-    return ("file", pair.path), ("old", pair.old), ("new", pair.new)
-
-
-def quoted(text):
-    """A string of TOML, with as few quotes and backslashes as it needs."""
-    if "'" not in text:
-        return f"'{text}'"
-    if "'''" not in text and not text.startswith("'") and not text.endswith("'"):
-        return f"'''{text}'''"
-    return '"' + text.replace("\\", "\\\\").replace('"', '\\"').replace("\t", "\\t") + '"'
-
-
-def of_file(name, text, is_alone=False):
-    """The wrong body that a file of its own says."""
-    path, old, pairs, functions = "", "", [], []
-    for line in text.split("\n"):
-        if line.startswith("file: "):
-            path = line[len("file: ") :].strip()
-        elif line.startswith("old: "):
-            old = line[len("old: ") :]
-        elif line.startswith("new:"):
-            pairs.append(Pair(path, old, line[len("new:") :].removeprefix(" ")))
-        elif line.startswith("function: "):
-            functions.append(line[len("function: ") :].strip())
-    return Body(name, pairs, functions, is_alone)
 
 
 def of_table(name, said):
@@ -121,13 +73,6 @@ def of_table(name, said):
     return Body(name, pairs, said.get("functions", []), said.get("alone", False), said.get("clause", ""))
 
 
-def files_of(folder):
-    """The files of the wrong bodies that are files of their own, those that are tried alone first."""
-    for part in (ALONE, TOGETHER):
-        at = f"{folder}/{part}"
-        yield from (f"{at}/{file}" for file in (sorted(os.listdir(at)) if os.path.isdir(at) else []))
-
-
 def of_text(text):
     """The wrong bodies that a table says, by their names."""
     try:
@@ -137,25 +82,16 @@ def of_text(text):
 
 
 def of_crate(folder):
-    """The wrong bodies of the crate in this folder, by their names, in both forms. Raises Mistake."""
-    found = []
-    for file in files_of(folder):
-        name, end = os.path.splitext(os.path.basename(file))
-        if end != ".edit":
-            raise Mistake(f"{file}: the name of an edit ends in .edit")
-        with open(file, encoding="utf-8") as it:
-            found.append(of_file(name, it.read(), os.path.basename(os.path.dirname(file)) == ALONE))
+    """The wrong bodies of the crate in this folder, by their names. Raises Mistake."""
     table = f"{folder}/{TABLE}"
-    if os.path.isfile(table):
-        with open(table, encoding="utf-8") as it:
-            try:
-                found += of_text(it.read()).values()
-            except Mistake as fault:
-                raise Mistake(f"{table}: {fault}") from fault
-    names = [it.name for it in found]
-    for name in names:
+    if not os.path.isfile(table):
+        return {}
+    with open(table, encoding="utf-8") as it:
+        try:
+            found = of_text(it.read())
+        except Mistake as fault:
+            raise Mistake(f"{table}: {fault}") from fault
+    for name in found:
         if not NAME.fullmatch(name):
-            raise Mistake(f"{folder}: {name}: the name of a wrong body is of a-z, 0-9 and -")
-        if names.count(name) > 1:
-            raise Mistake(f"{folder} has two wrong bodies named {name}")
-    return {it.name: it for it in found}
+            raise Mistake(f"{table}: {name}: the name of a wrong body is of a-z, 0-9 and -")
+    return found

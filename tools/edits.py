@@ -9,6 +9,14 @@ HOLE = """use Rattle.{crate}.proofs.{path}.Statement.{{statement}}
 pub {name}_spec : {{M : Type 1}} → statement M
 {name}_spec = ?
 """
+# A clause that a call owes, with its name, where it has one.
+OWED = re.compile(r"\bensures(?:\s*\*)?(?:\s+(\w+))?\s*\{")
+# A function, and the clauses of it that an edit's table names.
+NAMED = re.compile(r"([\w:]+) \(([\w, ]+)\)")
+# A clause that says nothing.
+BESIDE = "ensures beside { Unit {0} }"
+# A contract with fewer clauses is tried whole.
+FEWEST = 4
 TYPE = re.compile(r"\b(?:struct|enum|union)\s+(\w+)")
 ITEM = re.compile(r"\b(?:fn\s+(?P<fn>\w+)|impl\b(?P<impl>[^{;]*)|trait\s+(?P<trait>\w+)[^{;]*|const\s+(?P<const>\w+)\s*:)")
 
@@ -68,6 +76,15 @@ def body_of(text, at):
             return at, closing(text, at)
         at += 1
     return None
+
+
+def without_clauses(text, names):
+    """Files of answers without those for the clauses of these names, or None where another part of it names one."""
+    goal, kept = rf"[^\s:]*clause-(?:{'|'.join(names)})(?![^\s:.)])", []
+    for part in text.split("\n\n"):
+        if not re.match(rf"(?:--.*\n)*(?:pub )?{goal}\s*:", part):
+            kept.append(part)
+    return None if re.search(goal, "\n\n".join(kept)) else "\n\n".join(kept)
 
 
 def last_name(path):
@@ -192,6 +209,26 @@ class Sources:
         items = {self.item_of(it) for it in edit.pairs}
         return len(items) == 1 and items.pop().can_have_twins
 
+    def clauses(self, item, path):
+        """The clauses that a function owes: the name of each, or an empty one, and where it lies in the blank text."""
+        found, text = [], self.blank[path]
+        for it in OWED.finditer(text, item.head, item.start):
+            found.append((it[1] or "", it.start(), closing(text, it.end() - 1) + 1))
+        return found
+
+    def left_out(self, edit):
+        """The names of the clauses that the function which an edit changes needn't have for its trial: where there are
+        many, all but those that the edit's table names. There are none where its proof files can't do without them."""
+        named = NAMED.fullmatch(edit.clause)
+        if not named or self.constant(edit) or len(self.changed(edit)) != 1 or not self.can_have_twins(edit):
+            return ()
+        item, path = self.item_of(edit.pairs[0]), edit.pairs[0].path
+        names, wanted = [it for it, *_ in self.clauses(item, path)], named[2].split(", ")
+        if named[1] != item.name or len(names) < FEWEST or "" in names or not {*wanted} < {*names}:
+            return ()
+        left = tuple(it for it in names if it not in wanted)
+        return () if self.proofs_of_twin(item.name, "", left) is None else left
+
     def users(self, constant):
         """The names of the functions whose bodies name a constant."""
         users = []
@@ -221,20 +258,29 @@ class Sources:
 
         Where several edits change one function, each behind the first is put into a twin of the function, which has
         the function's contract and proof files under a name of its own. One more twin is as the function was: as long
-        as that one is proved, what refuses the others is what was changed in them."""
-        places, texts, changed, unchanged, seen = {}, {}, {}, {}, {}
+        as that one is proved, what refuses the others is what was changed in them. An edit that is tried by some
+        clauses of a contract alone has a twin too, which lacks the others: their goals are as they were."""
+        places, texts, changed, unchanged, plain, twins = {}, {}, {}, {}, {}, {}
+
+        def add(item, path, pairs, left=()):
+            twins[item.name] = twins.get(item.name, 0) + 1
+            twin = f"_twin{twins[item.name]}"
+            places.setdefault(path, []).append(self.twin(item, path, pairs, twin, left))
+            texts.update(self.proofs_of_twin(item.name, twin, left))
+            return item.name + twin
+
         for edit in edits:
-            changed[edit], pairs = self.changed(edit), edit.pairs
-            number = seen[tuple(changed[edit])] = seen.get(tuple(changed[edit]), 0) + 1
-            if number == 1:
-                for pair in pairs:
+            changed[edit], left = self.changed(edit), self.left_out(edit)
+            function = tuple(changed[edit])
+            if function not in plain and not left:
+                plain[function] = None
+                for pair in edit.pairs:
                     places.setdefault(pair.path, []).append((pair.place(self.texts), len(pair.old), pair.new))
                 continue
-            item, path = self.item_of(pairs[0]), pairs[0].path
-            for of, count in [([], 1)] * (number == 2) + [(pairs, number)]:
-                places.setdefault(path, []).append(self.twin(item, path, of, f"_twin{count}"))
-                texts |= self.proofs_of_twin(item.name, f"_twin{count}")
-            changed[edit], unchanged[edit] = [f"{item.name}_twin{number}"], f"{item.name}_twin1"
+            item, path = self.item_of(edit.pairs[0]), edit.pairs[0].path
+            if not left:
+                unchanged[edit] = plain[function] = plain[function] or add(item, path, [])
+            changed[edit] = [add(item, path, edit.pairs, left)]
         for path, found in places.items():
             text = self.texts[path]
             for at, length, new in sorted(found, key=lambda it: -it[0]):
@@ -242,23 +288,37 @@ class Sources:
             texts[path] = text
         return texts, changed, unchanged
 
-    def twin(self, item, path, pairs, twin):
-        """Where a twin is put into the function's file, the length that it replaces, and its text with these pairs."""
+    def twin(self, item, path, pairs, twin, left=()):
+        """Where a twin is put into the function's file, the length that it replaces, and its text with these pairs and
+        without the clauses that are left out."""
         start, end = (len(self.texts[path].encode()[:at].decode()) for at in (item.head, item.end + 1))
         text = self.texts[path][start:end]
         for pair in sorted(pairs, key=lambda it: -it.place(self.texts)):
             at = pair.place(self.texts) - start
             text = text[:at] + pair.new + text[at + len(pair.old) :]
+        for name, *places in reversed(self.clauses(item, path)):
+            if name in left:
+                first, last = (len(self.texts[path].encode()[:at].decode()) - start for at in places)
+                # One of them stays, and says nothing: goals have the name of their clause if there are several.
+                text = text[:first] + BESIDE * (name == left[0]) + text[last:]
         name = item.name.split("::")[-1]
         return end, 0, "\n\n" + re.sub(rf"\bfn {name}\b", f"fn {name}{twin}", text, count=1)
 
-    def proofs_of_twin(self, name, twin):
-        """The proof files of a twin: those of the function, in which the function's name is the twin's."""
+    def proofs_of_twin(self, name, twin, left=()):
+        """The proof files of a twin: those of the function, in which the function's name is the twin's, without answers
+        for the clauses that are left out. Or None where they can't be without these."""
         folder, texts = f"proofs/{name.replace('::', '/')}", {}
-        at = f"{self.folder}/{folder}"
+        at, own = f"{self.folder}/{folder}", re.escape("." + name.replace("::", "."))
         for file in sorted(os.listdir(at)) if os.path.isdir(at) else []:
-            if file.endswith(".antt"):
-                with open(f"{at}/{file}", encoding="utf-8") as it:
-                    own = re.escape("." + name.replace("::", "."))
-                    texts[f"{folder}{twin}/{file}"] = re.sub(rf"({own})(?=[.\s]|$)", rf"\1{twin}", it.read())
+            if not file.endswith(".antt"):
+                continue
+            with open(f"{at}/{file}", encoding="utf-8") as it:
+                text = it.read()
+            if left:
+                text = without_clauses(text, left) if file in ("Answers.antt", "Invariants.antt") else None
+                if text is None:
+                    return None
+                if not re.search(r"^[^\s:]+ .*=", text, re.M):
+                    continue
+            texts[f"{folder}{twin}/{file}"] = re.sub(rf"({own})(?=[.\s]|$)", rf"\1{twin}", text)
         return texts

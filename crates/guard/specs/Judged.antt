@@ -3,6 +3,8 @@ use Rattle.std.specs.Prelude.{◌≡◌, ◌<◌, ◌≤◌, ◌^◌, ℕ, List,
 use Rattle.std.specs.Option.{option_map}
 use Rattle.lines.specs.Digests.{digest_text}
 use Rattle.guard.specs.declared.approved.Approved.{Approved}
+use Rattle.guard.specs.declared.body.BodyFault.{BodyFault}
+use Rattle.guard.specs.declared.body.BodyFault.TheVariants as body
 use Rattle.guard.specs.declared.judging.Answer.{Answer}
 use Rattle.guard.specs.declared.judging.Answer.TheVariants as answer
 use Rattle.guard.specs.declared.register.RegisterFault.{RegisterFault}
@@ -11,12 +13,18 @@ use Rattle.guard.specs.declared.refusal.Refusal.TheVariants.{NotABody}
 use Rattle.guard.specs.Machine.{State, Question, body_of, fields_of, refusal_of}
 use Rattle.guard.specs.Reading.{IsFault}
 
+-- the fault of these bytes, in an answer: a lack of memory is never one
+abbrev pub IsToldFault : List ℕ → BodyFault → Type 0
+IsToldFault bytes body.NoMemory = ⊥
+IsToldFault bytes body.TooLong = IsFault bytes body.TooLong
+IsToldFault bytes (body.NotOfTheProfile e) = IsFault bytes (body.NotOfTheProfile e)
+
 -- the answer is the reference model's
 abbrev pub Answers : Answer → State → Question → Type 0
 Answers (answer.Sign serial digest) s q =
     (refusal_of s q ≡ None) × (option_map (λ c. c.serial) (fields_of q.body) ≡ Some serial)
     × (digest ≡ digest_text q.body)
-Answers (answer.NotABody e) s q = (refusal_of s q ≡ Some NotABody) × IsFault q.body e
+Answers (answer.NotABody e) s q = (refusal_of s q ≡ Some NotABody) × IsToldFault q.body e
 Answers (answer.Refuse r) s q = refusal_of s q ≡ Some r
 
 -- a signed body is kept under its serial

@@ -51,15 +51,17 @@ leaves_one_of c it numbered sound fewer s t left image may =
 pub ends_well : {D : Type 0} {g : Ghosts D} → SeenMayStay g → (c : Held (FileStore D g)) (r : Result Unit EndFault)
     (files : Files D) → AreEnded c r files → EndsWell c r files
 ends_well {D} {g} stays c (Ok done) files ended = λ clean.
-    let copied = ended.1 clean in (copied.was_clean, leaves_what_is_kept c files copied)
+    let copied = ended.1 clean in (copied, leaves_what_is_kept c files copied)
 ends_well {D} {g} stays c (Err (GivenUp error)) files ended = λ clean.
-    let it = (ended clean).given in (
+    let up = ended clean in
+    let it = up.given in (
       it.up.clean,
       λ s t left image may.
           let now : (state it.it).may_leave image =
           may_leave_is it.it.pool image (subst (λ (p : D × D). AreClean g p.0 p.1) (sym it.are_its) clean)
           (subst (λ (p : D × D). outcomes g p.0 p.1 image) (sym it.are_its) may) in
           leaves_one_of c it.it it.up.numbered it.up.sound it.up.fewer s t left image now,
+      up,
     )
 ends_well stays c (Err (Uncopied error)) files ended = ended
 

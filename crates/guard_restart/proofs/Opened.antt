@@ -11,7 +11,6 @@ use Rattle.sqlite.specs.Start.{FindsIn}
 use Rattle.sqlite.proofs.ListingLemmas.{empty_is_sound}
 use Rattle.store_sql.specs.Calls.{IsBare}
 use Rattle.store_sql.specs.Schema.{no_schema}
-use Rattle.guard.specs.State.{State}
 use Rattle.guard_sql.specs.Contents.{Kept, Means}
 use Rattle.guard_sql.specs.Rows.{guard_contents}
 use Rattle.guard_sql.specs.Schema.{whole}

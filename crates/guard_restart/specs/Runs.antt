@@ -17,7 +17,7 @@ use Rattle.guard_sql.specs.Keeping.{HasGuard, IsBlank, IsGuard, Keeps, Leaves}
 use Rattle.guard_sql.specs.Rows.{guard_contents}
 use Rattle.restart.specs.declared.ending.EndFault.{EndFault}
 use Rattle.restart.specs.declared.ending.EndFault.TheVariants.{GivenUp, Uncopied}
-use Rattle.restart.specs.Ending.{AreClosed}
+use Rattle.restart.specs.Ending.{AreClosed, AreGivenUp}
 use Rattle.restart.specs.Images.{HoldsNone}
 use Rattle.guard_restart.specs.Images.{Holds, HoldsGuard, HoldsOneOf, Standing}
 use Rattle.guard_restart.specs.Lives.{GoesOn, IsRun, Said, SomeRun}
@@ -53,16 +53,18 @@ abbrev pub LeavesOneOf : Connection → (Image → Type 0) → Type 0
 LeavesOneOf c may_leave =
     (s t : State) → Leaves c s t → (image : Image) → may_leave image → HoldsOneOf image s t
 
--- How the connection ended, if its disk has been faithful: it was closed, and whatever a crash makes of the files, they
--- hold the guard that was kept. Or it was abandoned, and they hold one of the two guards that a crash left. If its log
--- couldn't be copied, a crash leaves nothing that it couldn't leave before, and the error has its cause.
+-- How the connection ended, if its disk has been faithful: it was closed, and the last commit is in the database file
+-- alone, so whatever a crash makes of the files, they hold the guard that was kept. Or it was abandoned, for an error
+-- that has its cause, and they hold one of the two guards that a crash left. If its log couldn't be copied, a crash
+-- leaves nothing that it couldn't leave before, and the error has its cause.
 abbrev pub EndsWell : {D : Type 0} {g : Ghosts D} → Held (FileStore D g) → Result (Unit {0}) EndFault → Files D
     → Type 0
 EndsWell {D} {g} conn (Ok done) files =
-    AreClean g files.log files.db → HasCleanDisk (file_state conn) × LeavesWhatIsKept g (file_state conn) files
+    AreClean g files.log files.db → IsCopied conn files × LeavesWhatIsKept g (file_state conn) files
 EndsWell {D} {g} conn (Err (GivenUp error)) files =
     AreClean g files.log files.db
     → HasCleanDisk (file_state conn) × LeavesOneOf (file_state conn) (outcomes g files.log files.db)
+    × AreGivenUp conn error files
 EndsWell {D} {g} conn (Err (Uncopied error)) files = AreClosed conn (Some error) files
 
 -- ---- the whole run

@@ -12,7 +12,7 @@ pub fn end_at<D: Disk + Drop>(conn: Connection<FileStore<D>>) -> (Result<(), End
     ensures ended { AreEnded conn result.0 result.1 }
 
     // Whatever a crash makes of the files from now on, they hold the guard that was kept. If the connection was
-    // abandoned, they hold one of the two guards that a crash left before.
+    // abandoned, the error has its cause, and they hold one of the two guards that a crash left before.
     ensures well { EndsWell conn result.0 result.1 }
 {
     restart::end_at(conn)

@@ -5,7 +5,7 @@
 pub enum OpeningFault {
     /// The database has a table with a name that a guard needs.
     AlreadyAGuard,
-    /// The guard's own table is missing, or has no row or several.
+    /// The guard's own table is missing, or has no row or several; or a new guard was to be made beside other tables.
     NotAGuard,
     /// The tables are those of another version.
     WrongSchema,

@@ -2,17 +2,18 @@
 
 ghost use Rattle.std.specs.Prelude.{◌≡◌, false, Err, IfErr, IfOk, IsTrue, Ok};
 ghost use Rattle.std.specs.List.{list_any};
+ghost use Rattle.sqlite.specs.Held.{state};
 ghost use Rattle.store_sql.specs.Honest.{Between, IsOutside, IsUnlimited, On, Outlives, OutlivesBy, StaysClean};
 ghost use Rattle.store_sql.specs.Honest.{tables_of};
 ghost use Rattle.guard_sql.specs.Calls.{Never};
 ghost use Rattle.guard_sql.specs.Keeping.{IsScope};
-ghost use Rattle.guard_sql.specs.Look.{is_guard_name, is_guard_table};
+ghost use Rattle.guard_sql.specs.Look.{IsRefused, is_empty, is_guard_name, is_guard_table};
 ghost use Rattle.guard_sql.specs.Opening.{Finds, Founds, FoundsNone, LeavesNew, Misses, SaysUnless};
 
 use crate::creating::create;
 use crate::faults::opening_fault;
 use crate::finding::find_scope;
-use crate::look::has_any_table;
+use crate::look::{has_any_table, is_empty};
 use crate::opening_fault::OpeningFault;
 use guard::Scope;
 use sqlite::{Alter, Connection};
@@ -27,14 +28,14 @@ pub struct GuardStore<S: Alter> {
 }
 
 impl<S: Alter> GuardStore<S> {
-    /// A guard with this scope that has approved nothing yet, in a database without tables. Both tables are made, or
-    /// none and the fault returns the connection. No transaction may be open, and the connection may have no limit on
-    /// the steps of a query, since a call that reaches it fails.
+    /// A guard with this scope that has approved nothing yet, in an empty database. Both tables are made, or none and
+    /// the fault returns the connection. No transaction may be open, and the connection may have no limit on the steps
+    /// of a query, since a call that reaches it fails.
     ///
     /// # Errors
     ///
-    /// `AlreadyAGuard` if the database has a table with a name that a guard needs, `Device` if the database fails, and
-    /// `NoMemory` for lack of memory.
+    /// `AlreadyAGuard` if the database has a table with a name that a guard needs, `NotAGuard` if it has no such table
+    /// but others, or views, `Device` if the database fails, and `NoMemory` for lack of memory.
     pub fn init(
         alloc: Global,
         conn: Connection<S>,
@@ -47,6 +48,12 @@ impl<S: Alter> GuardStore<S> {
         ensures scope { IfOk result (λ g. g.scope ≡ scope.now) }
         ensures already { IsTrue (list_any is_guard_name (tables_of S.Store conn)) → result ≡ Err
             (record { 0 = OpeningFault.AlreadyAGuard; 1 = conn }) }
+        ensures foreign { list_any is_guard_name (tables_of S.Store conn) ≡ false
+            → is_empty (state S.Store conn).now.schema ≡ false → result ≡ Err
+            (record { 0 = OpeningFault.NotAGuard; 1 = conn }) }
+
+        // Each of these two comes for no other database.
+        ensures cause { IfErr result (λ e. IsRefused (state S.Store conn).now.schema e.0) }
 
         // An empty database stays empty after a fault, which is a lack of memory or a failure of the database.
         ensures none { IfErr result (λ e. On S.Store FoundsNone conn e.1 e.0) }
@@ -58,6 +65,9 @@ impl<S: Alter> GuardStore<S> {
         let mut conn = conn;
         if has_any_table(&conn) {
             return Err((OpeningFault::AlreadyAGuard, conn));
+        }
+        if !is_empty(&conn) {
+            return Err((OpeningFault::NotAGuard, conn));
         }
         match create(alloc, &mut conn, scope) {
             Ok(()) => Ok(GuardStore {

@@ -1,5 +1,5 @@
 -- Whole jobs, from opening a list guard's file to closing it.
-use Rattle.std.specs.Prelude.{◌≡◌, ◌⊎◌, ℕ, List, Bool, codes, map, string_bytes, Option, Result, Ok, Err}
+use Rattle.std.specs.Prelude.{◌≡◌, ◌⊎◌, ℕ, List, Bool, codes, map, string_bytes, IfErr, Option, Result, Ok, Err}
 use Rattle.list_guard.specs.declared.register.ListRegister as register
 use Rattle.list_guard.specs.Machine.{Question}
 use Rattle.list_jobs.specs.declared.job.ListJob.{ListJob}
@@ -7,8 +7,8 @@ use Rattle.list_jobs.specs.declared.job.ListJob.TheVariants.{Init, List as Lists
 use Rattle.list_jobs.specs.declared.list_file.ListFile as file
 use Rattle.station_jobs.specs.declared.surroundings.Surroundings as surroundings
 use Rattle.station_jobs.specs.declared.station_fault.StationFault.{StationFault}
-use Rattle.station_jobs.specs.Faults.{IsOfAKey}
-use Rattle.list_jobs.specs.Asking.{Asks}
+use Rattle.station_jobs.specs.declared.station_fault.StationFault.TheVariants.{Write}
+use Rattle.list_jobs.specs.Asking.{Asks, IsFaultOf}
 use Rattle.list_jobs.specs.Stating.{IsPrinted, States}
 
 -- Two steps: the second used the result of the first. If the first failed, its fault is the result of both.
@@ -49,17 +49,18 @@ module _ {D G : Type 0} (file : file.Ghosts D G) (db db' : D) (at : List ℕ) wh
     pub is_made : file.makes db at found opened
     pub ran : Follows (λ guard r. file.closes opened guard r db') (db' ≡ opened) found result
 
-  -- it was made, and this was reported
+  -- it was made, and this was reported, or a prefix of it if the output failed
   pub record InitsIn (held holds : Option (List ℕ)) (result : Result (Unit {0}) StationFault) : Type 0 where
     pub made : Result (Unit {0}) StationFault
     pub is_made : MakesIn made
-    pub told : Follows (λ _. IsPrinted (codes "lists ready\n") held holds) (holds ≡ held) made result
+    pub told : Follows (λ _ r. IsPrinted (codes "lists ready\n") held holds r × IfErr r (λ e. e ≡ Write))
+        (holds ≡ held) made result
 
 -- the question was read from these files, or it is a fault of reading them
 abbrev pub IsRead : {E F : Type 0} → surroundings.Ghosts E F → E → (remaining : F → Option (List ℕ))
     → (cas : List (List ℕ)) → Bool → (path : List ℕ) → Result Question StationFault → Type 0
 IsRead world around remaining cas begins path (Ok q) = Asks world around remaining cas begins path q
-IsRead world around remaining cas begins path (Err e) = IsOfAKey e
+IsRead world around remaining cas begins path (Err e) = IsFaultOf world around remaining cas e
 
 -- The question was read, and then the guard was opened and the list judged. Or the question couldn't be read, and then
 -- no guard was looked for or opened, and nothing was printed.

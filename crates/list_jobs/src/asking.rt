@@ -1,7 +1,8 @@
 //! Reading a question from files: the keys of the CAs, and the list.
 
-ghost use Rattle.std.specs.Prelude.{◌≡◌, IfErr, IfOk, map, string_bytes};
-ghost use Rattle.list_jobs.specs.Asking.{AreKeysAt, IsKeyAt, IsListAt};
+ghost use Rattle.std.specs.Prelude.{◌≡◌, Err, IfErr, IfOk, map, string_bytes};
+ghost use Rattle.list_jobs.specs.Asking.{AreKeysAt, HasFaultAt, IsFaultOf, IsKeyAt, IsListAt};
+ghost use Rattle.lines.specs.declared.key_line.LineFault.{LineFault};
 ghost use Rattle.station_jobs.specs.Faults.{IsOfAFile, IsOfAKey};
 
 use crate::file_reader::read_whole;
@@ -30,6 +31,8 @@ fn key_at<F: Read + Drop, P: Surroundings<File = F>>(
 ) -> Result<[u8; 32], StationFault>
     ensures key { IfOk result (IsKeyAt P.Surroundings around.now F.remaining path.now) }
     ensures only { IfErr result IsOfAKey }
+    ensures fault { (e : LineFault) → result ≡ Err (StationFault.Line e)
+        → HasFaultAt P.Surroundings around.now F.remaining path.now e }
 {
     match around.open(path) {
         Ok(file) => match scope_from(alloc, file, 1, 1) {
@@ -48,15 +51,17 @@ pub fn keys_at<F: Read + Drop, P: Surroundings<File = F>>(
 ) -> Result<Vec<[u8; 32]>, StationFault>
     ensures keys { IfOk result (λ keys. AreKeysAt P.Surroundings around.now F.remaining
         (map string_bytes paths.now) keys.items) }
-    ensures only { IfErr result IsOfAKey }
+    ensures fault { IfErr result (IsFaultOf P.Surroundings around.now F.remaining (map string_bytes paths.now)) }
 {
     let mut keys = Vec::new(alloc);
     for path in paths {
         let path = path.as_str();
-        let key = key_at(alloc, around, path)?;
-        match keys.push(key) {
-            Ok(()) => {}
-            Err(_) => return Err(StationFault::NoMemory),
+        match key_at(alloc, around, path) {
+            Ok(key) => match keys.push(key) {
+                Ok(()) => {}
+                Err(_) => return Err(StationFault::NoMemory),
+            },
+            Err(fault) => return Err(fault),
         }
     }
     Ok(keys)

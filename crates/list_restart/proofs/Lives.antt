@@ -1,13 +1,13 @@
 -- The lists that are stated over every sequence of runs.
-use Rattle.std.proofs.Common.{◌≡◌, ◌++◌, ◌∷◌, ◌∙◌, [], ℕ, List, Option, Some, None, ap, append_assoc, inl, inr, refl}
+use Rattle.std.proofs.Common.{◌≡◌, ◌++◌, ◌∷◌, ◌∙◌, [], ℕ, List, Option, Some, None, ap, inl, inr, refl}
 use Rattle.std.proofs.Common.{subst, sym}
 use Rattle.std.proofs.Math.Logic.{∥∥₁_elim, ∥∥₁_map}
 use Rattle.sqlite_wal.specs.Recovery.{Image}
 use Rattle.list_guard.specs.State.{State, opened}
-use Rattle.list_guard.specs.History.{Call, Comes, Grow, Lives, before, stated}
+use Rattle.list_guard.specs.History.{Call, Grow, Lives, before, stated}
 use Rattle.list_guard.proofs.ListLaws.{live}
-use Rattle.list_restart.specs.Images.{Holds, HoldsKept, Standing}
-use Rattle.list_restart.specs.Lives.{AreSaid, AreSaidBy, Follow, Goes, GrowFrom, IsRun, LivesGrow, Run, RunsGoOn, Said}
+use Rattle.list_restart.specs.Images.{Holds, HoldsKept}
+use Rattle.list_restart.specs.Lives.{AreSaid, AreSaidBy, Follow, GrowFrom, IsRun, LivesGrow, Run, RunsGoOn, Said}
 use Rattle.list_restart.specs.Runs.{AreRuns, RunsOn}
 
 -- ---- calls after calls

@@ -11,7 +11,6 @@ use Rattle.sqlite.specs.Start.{FindsIn}
 use Rattle.sqlite.proofs.ListingLemmas.{empty_is_sound}
 use Rattle.store_sql.specs.Calls.{IsBare}
 use Rattle.store_sql.specs.Schema.{no_schema}
-use Rattle.list_guard.specs.State.{State}
 use Rattle.list_sql.specs.Contents.{Kept, Means}
 use Rattle.list_sql.specs.Rows.{list_contents}
 use Rattle.list_sql.specs.Schema.{whole}

@@ -5,7 +5,7 @@
 pub enum OpeningFault {
     /// The database has a table with the name that a list guard needs.
     AlreadyAGuard,
-    /// The table of the list is missing, or has no row.
+    /// The table of the list is missing, or has no row; or a new list guard was to be made beside other tables.
     NotAGuard,
     /// A row has a different schema number, that of another version of this program.
     WrongSchema,

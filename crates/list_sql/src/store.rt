@@ -2,14 +2,17 @@
 
 ghost use Rattle.std.specs.Prelude.{◌≡◌, false, Err, IfErr, IfOk, IsTrue, None, Ok};
 ghost use Rattle.std.specs.List.{list_any};
-ghost use Rattle.store_sql.specs.Honest.{Between, IsOutside, IsUnlimited, On, OutlivesBy, StaysClean, tables_of};
-ghost use Rattle.list_sql.specs.Look.{is_list_name, is_list_table};
+ghost use Rattle.sqlite.specs.Held.{state};
+ghost use Rattle.store_sql.specs.Honest.{Between, IsOutside, IsUnlimited, On, Outlives, OutlivesBy, StaysClean};
+ghost use Rattle.store_sql.specs.Honest.{tables_of};
+ghost use Rattle.list_sql.specs.Calls.{Never};
+ghost use Rattle.list_sql.specs.Look.{IsRefused, is_empty, is_list_name, is_list_table};
 ghost use Rattle.list_sql.specs.Opening.{Finds, Founds, FoundsNone, LeavesNew, Misses, SaysUnless};
 
 use crate::creating::create;
 use crate::faults::opening_fault;
 use crate::finding::find_last;
-use crate::look::has_any_table;
+use crate::look::{has_any_table, is_empty};
 use crate::opening_fault::OpeningFault;
 use sqlite::{Alter, Connection};
 use std::alloc::Global;
@@ -24,14 +27,14 @@ pub struct ListStore<S: Alter> {
 }
 
 impl<S: Alter> ListStore<S> {
-    /// Makes a list guard that has approved nothing yet, in a database without tables: its table with a row or, after
-    /// a fault, nothing. A fault returns the connection. No transaction may be open. The connection may have no limit
-    /// on the steps of a query, since a call that reaches one fails.
+    /// Makes a list guard that has approved nothing yet, in an empty database: its table with a row or, after a fault,
+    /// nothing. A fault returns the connection. No transaction may be open. The connection may have no limit on the
+    /// steps of a query, since a call that reaches one fails.
     ///
     /// # Errors
     ///
-    /// `AlreadyAGuard` if the database has a table with the name that a list guard needs, `Device` if the database
-    /// fails, and `NoMemory` if memory is refused.
+    /// `AlreadyAGuard` if the database has a table with the name that a list guard needs, `NotAGuard` if it has no such
+    /// table but others, or views, `Device` if the database fails, and `NoMemory` if memory is refused.
     pub fn init(
         alloc: Global,
         conn: Connection<S>,
@@ -42,6 +45,12 @@ impl<S: Alter> ListStore<S> {
         ensures last { IfOk result (λ g. g.last ≡ None) }
         ensures already { IsTrue (list_any is_list_name (tables_of S.Store conn)) → result ≡ Err
             (record { 0 = OpeningFault.AlreadyAGuard; 1 = conn }) }
+        ensures foreign { list_any is_list_name (tables_of S.Store conn) ≡ false
+            → is_empty (state S.Store conn).now.schema ≡ false → result ≡ Err
+            (record { 0 = OpeningFault.NotAGuard; 1 = conn }) }
+
+        // Each of these two comes for no other database.
+        ensures cause { IfErr result (λ e. IsRefused (state S.Store conn).now.schema e.0) }
 
         // A database without tables fails only for lack of memory or because it failed, and still has no tables.
         ensures none { IfErr result (λ e. On S.Store FoundsNone conn e.1 e.0) }
@@ -53,6 +62,9 @@ impl<S: Alter> ListStore<S> {
         let mut conn = conn;
         if has_any_table(&conn) {
             return Err((OpeningFault::AlreadyAGuard, conn));
+        }
+        if !is_empty(&conn) {
+            return Err((OpeningFault::NotAGuard, conn));
         }
         match create(alloc, &mut conn) {
             Ok(()) => Ok(ListStore { conn, last: None }),
@@ -91,6 +103,9 @@ impl<S: Alter> ListStore<S> {
         // A disk that has been faithful when the call ends had been so when it began.
         ensures honest { IfOk result (λ g. StaysClean S.Store conn g.conn) }
         ensures honest_back { IfErr result (λ e. StaysClean S.Store conn e.1) }
+
+        // After a fault a crash leaves only what it could have left before.
+        ensures crash_back { IfErr result (λ e. Outlives S.Store Never conn e.1) }
     {
         let mut conn = conn;
         match find_last(alloc, &mut conn) {

@@ -1,5 +1,5 @@
 -- What a job adds to the history that the tables represent.
-use Rattle.office_jobs.proofs.Words.{AddsArrivals, Applies, Arrival, Bool, DoesOfficeJob, Err, Exchange, Given, Heard}
+use Rattle.office_jobs.proofs.Words.{AddsArrivals, Applies, Arrival, Bool, DoesOfficeJob, Err, Exchange, Given, HasCleanDisk, Heard}
 use Rattle.office_jobs.proofs.Words.{IsReport, IsTrue, JobFault, KeepsTelling, List, PrintsKrl, MakesOffice}
 use Rattle.office_jobs.proofs.Words.{MigratesOffice, OfficeJob, OfficePrints, Ok, Opening, Option, Report, Result}
 use Rattle.office_jobs.proofs.Words.{ServesOffice, State, Tells, [], false, subst, sym, true, whole, ℕ, ◌≢◌}
@@ -119,19 +119,21 @@ module _ (old new : State) (was : IsTrue old.is_open) where
   done job.Table held holds r h = reported report.Table held holds r h.came
   done job.Migrate held holds r h = moved r h.0
 
-  pub served : (connections : ℕ) (source : Option (List ℕ)) (heard : Heard) (held holds : Option (List ℕ))
-      (r : Result ℕ JobFault) → ServesOffice connections source heard old new held holds r → AddsArrivals old new
-  served connections source heard held holds (Ok status) h =
-      λ o l told. let more = h.4.served o l told in (more.more, more.history)
-  served connections source heard held holds (Err fault.Socket) h = adds_none old new h.2
-  served connections source heard held holds (Err fault.Write) h = adds_none old new h.2
-  served connections source heard held holds (Err fault.NoMemory) h = adds_none old new h.1.tells
-  served connections source heard held holds (Err (fault.Store e)) h = adds_none old new h.1.tells
-  served connections source heard held holds (Err fault.File) h = absurd h
-  served connections source heard held holds (Err (fault.Connection x)) h = absurd h
-  served connections source heard held holds (Err fault.Mismatch) h = absurd h
-  served connections source heard held holds (Err (fault.BadExchange k)) h = absurd h
-  served connections source heard held holds (Err (fault.Line x)) h = absurd h
-  served connections source heard held holds (Err (fault.Opening x)) h = absurd h
-  served connections source heard held holds (Err (fault.List x)) h = absurd h
-  served connections source heard held holds (Err fault.Fault) h = absurd h
+  pub served : (connections : ℕ) (source : Option (List ℕ)) (heard : Heard) (said : List ℕ)
+      (held holds : Option (List ℕ)) (r : Result ℕ JobFault)
+      → ServesOffice connections source heard said old new held holds r → HasCleanDisk new → AddsArrivals old new
+  served connections source heard said held holds (Ok status) h clean =
+      λ o l told. let more = h.4.served clean o l told in (more.more, more.history)
+  served connections source heard said held holds (Err fault.Socket) h clean = adds_none old new (h.4 clean)
+  served connections source heard said held holds (Err fault.Write) h clean = adds_none old new (h.3 clean)
+  served connections source heard said held holds (Err fault.NoMemory) h clean = adds_none old new (h.3 clean).tells
+  served connections source heard said held holds (Err (fault.Store e)) h clean =
+      adds_none old new (h.3 clean).tells
+  served connections source heard said held holds (Err fault.File) h clean = absurd h
+  served connections source heard said held holds (Err (fault.Connection x)) h clean = absurd h
+  served connections source heard said held holds (Err fault.Mismatch) h clean = absurd h
+  served connections source heard said held holds (Err (fault.BadExchange k)) h clean = absurd h
+  served connections source heard said held holds (Err (fault.Line x)) h clean = absurd h
+  served connections source heard said held holds (Err (fault.Opening x)) h clean = absurd h
+  served connections source heard said held holds (Err (fault.List x)) h clean = absurd h
+  served connections source heard said held holds (Err fault.Fault) h clean = absurd h

@@ -2,10 +2,14 @@
 use Rattle.office_jobs.proofs.Words.{Applies, Bool, DiskFailed, Err, Exchange, IsAsBefore, IsExcused, IsOfARegister}
 use Rattle.office_jobs.proofs.Words.{IsOpened, IsTrue, IsUnopened, IsUnprinted, JobFault, KeepsTelling, List}
 use Rattle.office_jobs.proofs.Words.{OfficePrints, Ok, OnOk, Option, Result, RunFault, State, StoreFault, false}
-use Rattle.office_jobs.proofs.Words.{of_store, refl, run_result, subst, sym, true, ℕ, ◌∙◌, ◌≡◌}
+use Rattle.office_jobs.proofs.Words.{inl, inr, of_store, refl, run_result, subst, sym, true, ℕ, ◌∙◌, ◌≡◌}
 use Rattle.office.specs.declared.store_fault.StoreFault.TheVariants as store
+use Rattle.store_sql.specs.declared.offices.OfficeRow.{OfficeRow}
+use Rattle.store.specs.Meaning.{Looks, opened_by}
 use Rattle.exchanges.specs.declared.running.RunFault.TheVariants as run
 use Rattle.headline.specs.Headline.{OfficeRuns}
+use Rattle.office_jobs.specs.declared.job_fault.JobFault.TheVariants as fault
+use Rattle.office_jobs.specs.Opening.{IsOfRows}
 
 -- ---- unchanged databases
 
@@ -54,6 +58,31 @@ left_from old mid new held holds e opened left = record {
   tells = λ o l m. left.tells o l (opened.tells o l m);
   only = λ is_open o l m. left.only opened.is_open o l (opened.tells o l m);
 }
+
+-- ---- rows of the office's table
+
+-- an office of this schema was there, whatever came of the job
+pub of_an_office : {A : Type 0} (rows : List OfficeRow) (failed : Type 0) (r : Result A JobFault)
+    → opened_by rows ≡ Ok tt → IsOfRows rows failed r
+of_an_office rows failed (Ok x) is = is
+of_an_office rows failed (Err fault.NoMemory) is = tt
+of_an_office rows failed (Err (fault.Store e)) is = inl is
+of_an_office rows failed (Err other) is = is
+
+-- it wasn't opened because of these rows, or the database failed
+of_rows_refused : (A : Type 0) (rows : List OfficeRow) (failed : Type 0) (e : StoreFault) → Looks rows failed (Err e)
+    → IsOfRows {A = A} rows failed (Err (of_store e))
+of_rows_refused A rows failed store.NoMemory h = tt
+of_rows_refused A rows failed store.Device h = inr h
+of_rows_refused A rows failed store.AlreadyAnOffice h = inr h
+of_rows_refused A rows failed store.NotAnOffice h = inr h
+of_rows_refused A rows failed store.WrongSchema h = inr h
+of_rows_refused A rows failed store.Damaged h = inr h
+
+pub of_refused_rows : (A : Type 0) (rows : List OfficeRow) (failed : Type 0) (e : StoreFault) (f : JobFault)
+    → f ≡ of_store e → Looks rows failed (Err e) → IsOfRows {A = A} rows failed (Err f)
+of_refused_rows A rows failed e f same h =
+    subst (λ (f : JobFault). IsOfRows {A = A} rows failed (Err f)) (sym same) (of_rows_refused A rows failed e h)
 
 -- ---- exchanges
 

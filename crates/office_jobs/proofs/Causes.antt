@@ -1,26 +1,42 @@
 -- Which faults can occur.
-use Rattle.office_jobs.proofs.Words.{BadExchange, Err, ErrorKind, Fault, File, IfErr, IsOfATrial, IsOfExchanges}
-use Rattle.office_jobs.proofs.Words.{JobFault, NoMemory, Ok, Result, RunFault, StoreFault, Write, of_store, refl}
-use Rattle.office_jobs.proofs.Words.{run_result, subst, sym, ◌≡◌, ◌≢◌}
+use Rattle.office_jobs.proofs.Words.{BadExchange, Err, Fault, File, IfErr, IfSome, IsOfATrial, IsOfExchanges}
+use Rattle.office_jobs.proofs.Words.{JobFault, List, NoMemory, None, Ok, Option, Result, RunFault, Some, StoreFault}
+use Rattle.office_jobs.proofs.Words.{Write, of_store, refl, run_result, subst, sym, ℕ, ◌≡◌, ◌≢◌}
 use Rattle.std.specs.declared.io.ErrorKind.TheVariants.{OutOfMemory}
 use Rattle.lines.specs.declared.key_line.LineFault.{LineFault}
-use Rattle.lines.specs.declared.key_line.LineFault.TheVariants as line
+use Rattle.lines.specs.declared.key_line.LineFault.TheVariants as bad
 use Rattle.office.specs.declared.store_fault.StoreFault.TheVariants as store
 use Rattle.exchanges.specs.declared.running.RunFault.TheVariants as run
 use Rattle.office_jobs.specs.declared.file_reader.ReadFault.{ReadFault}
 use Rattle.office_jobs.specs.declared.file_reader.ReadFault.TheVariants.{Failed, TooLong}
-use Rattle.office_jobs.specs.Faults.{IsOfAKey, IsOfChecking, of_line, of_reading}
+use Rattle.lines.specs.Reading.{IsLineFault}
+use Rattle.office_jobs.specs.declared.job_fault.JobFault.TheVariants.{Line}
+use Rattle.office_jobs.specs.Faults.{IsOfChecking, of_line, of_reading}
+use Rattle.office_jobs.specs.Reading.{HasNoKey, IsLineOf}
 
 -- ---- reading a key
 
-pub key_file : (e : ReadFault) → IsOfAKey (of_reading e)
-key_file TooLong = tt
-key_file (Failed OutOfMemory) = tt
-key_file (Failed other) = tt
+-- a file that isn't read has no key
+pub key_file : (file : Option (List ℕ)) (e : ReadFault) → HasNoKey file (of_reading e)
+key_file file TooLong = tt
+key_file file (Failed OutOfMemory) = tt
+key_file file (Failed other) = tt
 
-pub key_line : (e : LineFault) → IsOfAKey (of_line e)
-key_line line.NoMemory = tt
-key_line other = tt
+-- nor has one whose line has a fault
+pub key_line : (text line : List ℕ) → IsLineOf text line → (e : LineFault) → IsLineFault line e
+    → HasNoKey (Some text) (of_line e)
+key_line text line cut bad.NoMemory h = tt
+key_line text line cut other h = (line, cut, h)
+
+-- the text is that of the file, if that is known
+pub key_text : (text : List ℕ) (file : Option (List ℕ)) (e : JobFault) → IfSome file (λ bytes. text ≡ bytes)
+    → HasNoKey (Some text) e → HasNoKey file e
+key_text text (Some bytes) e same h = subst (λ t. HasNoKey (Some t) e) same h
+key_text text None File same h = tt
+key_text text None NoMemory same h = tt
+key_text text None (Line bad.NoMemory) same h = absurd h
+key_text text None (Line fault) same h = tt
+key_text text None other same h = absurd h
 
 -- ---- checking a list
 

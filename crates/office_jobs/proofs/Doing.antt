@@ -373,10 +373,10 @@ module _ (old new : State) where
   DidServe connections nonces heard r =
       (asked : Asked) × AsksServing connections nonces heard r asked × DoesAsked asked old new
 
-  pub serves_asked : HasCleanDisk new → (connections : ℕ) (nonces : Option (List ℕ)) (heard : Heard)
+  pub serves_asked : HasCleanDisk new → (connections : ℕ) (nonces : Option (List ℕ)) (heard : Heard) (said : List ℕ)
       (held holds : Option (List ℕ)) (r : Result ℕ JobFault) → Refuses r
-      → ServesOffice connections nonces heard old new held holds r → DidServe connections nonces heard r
-  serves_asked clean n nonces heard held holds (Ok zero) refuses h =
+      → ServesOffice connections nonces heard said old new held holds r → DidServe connections nonces heard r
+  serves_asked clean n nonces heard said held holds (Ok zero) refuses h =
       let met = h.4.met refl in
       let visits = met.2.visits in (
         asked_in_visits visits,
@@ -398,7 +398,7 @@ module _ (old new : State) where
         ran (asked_in_visits visits).exchanges (asked_in_visits visits).given
             (λ o l told. let s = met.2.served clean o l told in (s.0, s.1, s.2)) (not_blank zero refuses),
       )
-  serves_asked clean n nonces heard held holds (Ok (suc k)) refuses h =
+  serves_asked clean n nonces heard said held holds (Ok (suc k)) refuses h =
       let low = h.4.lawful in
       let one : suc k ≡ 1 = omega (arith, low) in (
         nothing_asked,
@@ -409,21 +409,21 @@ module _ (old new : State) where
           met = λ done. absurd (omega (arith, done));
           unmet = λ failed. refl;
         },
-        stays (Ok (suc k)) refuses (h.4.unmet one).1,
+        stays (Ok (suc k)) refuses (h.4.unmet one clean).1,
       )
-  serves_asked clean n nonces heard held holds (Err fault.Socket) refuses h =
-      (nothing_asked, refl, stays {A = ℕ} (Err fault.Socket) refuses h.2)
-  serves_asked clean n nonces heard held holds (Err fault.Write) refuses h =
-      (nothing_asked, refl, stays {A = ℕ} (Err fault.Write) refuses h.2)
-  serves_asked clean n nonces heard held holds (Err fault.NoMemory) refuses h =
-      (nothing_asked, refl, stays {A = ℕ} (Err fault.NoMemory) refuses h.1.tells)
-  serves_asked clean n nonces heard held holds (Err (fault.Store e)) refuses h =
-      (nothing_asked, refl, stays {A = ℕ} (Err (fault.Store e)) refuses h.1.tells)
-  serves_asked clean n nonces heard held holds (Err fault.File) refuses h = absurd h
-  serves_asked clean n nonces heard held holds (Err (fault.Connection x)) refuses h = absurd h
-  serves_asked clean n nonces heard held holds (Err fault.Mismatch) refuses h = absurd h
-  serves_asked clean n nonces heard held holds (Err (fault.BadExchange k)) refuses h = absurd h
-  serves_asked clean n nonces heard held holds (Err (fault.Line x)) refuses h = absurd h
-  serves_asked clean n nonces heard held holds (Err (fault.Opening x)) refuses h = absurd h
-  serves_asked clean n nonces heard held holds (Err (fault.List x)) refuses h = absurd h
-  serves_asked clean n nonces heard held holds (Err fault.Fault) refuses h = absurd h
+  serves_asked clean n nonces heard said held holds (Err fault.Socket) refuses h =
+      (nothing_asked, refl, stays {A = ℕ} (Err fault.Socket) refuses (h.4 clean))
+  serves_asked clean n nonces heard said held holds (Err fault.Write) refuses h =
+      (nothing_asked, refl, stays {A = ℕ} (Err fault.Write) refuses (h.3 clean))
+  serves_asked clean n nonces heard said held holds (Err fault.NoMemory) refuses h =
+      (nothing_asked, refl, stays {A = ℕ} (Err fault.NoMemory) refuses (h.3 clean).tells)
+  serves_asked clean n nonces heard said held holds (Err (fault.Store e)) refuses h =
+      (nothing_asked, refl, stays {A = ℕ} (Err (fault.Store e)) refuses (h.3 clean).tells)
+  serves_asked clean n nonces heard said held holds (Err fault.File) refuses h = absurd h
+  serves_asked clean n nonces heard said held holds (Err (fault.Connection x)) refuses h = absurd h
+  serves_asked clean n nonces heard said held holds (Err fault.Mismatch) refuses h = absurd h
+  serves_asked clean n nonces heard said held holds (Err (fault.BadExchange k)) refuses h = absurd h
+  serves_asked clean n nonces heard said held holds (Err (fault.Line x)) refuses h = absurd h
+  serves_asked clean n nonces heard said held holds (Err (fault.Opening x)) refuses h = absurd h
+  serves_asked clean n nonces heard said held holds (Err (fault.List x)) refuses h = absurd h
+  serves_asked clean n nonces heard said held holds (Err fault.Fault) refuses h = absurd h

@@ -17,3 +17,4 @@ pub mod Reported
 pub mod Telling
 pub mod Told
 pub mod Unlike
+pub mod Said

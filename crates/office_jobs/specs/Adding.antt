@@ -2,6 +2,7 @@
 use Rattle.std.specs.Prelude.{ℕ, List, IsTrue, Option, Result}
 use Rattle.sqlite_trees.specs.declared.store.Store.{Ghosts}
 use Rattle.sqlite.specs.Held.{Held, state}
+use Rattle.sqlite.specs.State.{HasCleanDisk}
 use Rattle.restart.specs.Runs.{AddsArrivals}
 use Rattle.office_jobs.specs.declared.job.OfficeJob.{OfficeJob}
 use Rattle.office_jobs.specs.declared.job_fault.JobFault.{JobFault}
@@ -16,10 +17,10 @@ module _ {S : Type 0} (g : Ghosts S) (new : Held S) where
       → (job : OfficeJob) (held holds : Option (List ℕ)) (r : Result (Unit {0}) JobFault)
       → DoesOfficeJob job (state g old) (state g new) held holds r → AddsArrivals (state g old) (state g new)
 
-  -- the same for a server
+  -- the same for a server, if the disk has been faithful
   abbrev pub ServersAddArrivals : Type 0
   ServersAddArrivals =
       (old : Held S) → IsTrue (state g old).is_open
-      → (connections : ℕ) (nonces : Option (List ℕ)) (heard : Heard) (held holds : Option (List ℕ))
-      (r : Result ℕ JobFault) → ServesOffice connections nonces heard (state g old) (state g new) held holds r
-      → AddsArrivals (state g old) (state g new)
+      → (connections : ℕ) (nonces : Option (List ℕ)) (heard : Heard) (said : List ℕ) (held holds : Option (List ℕ))
+      (r : Result ℕ JobFault) → ServesOffice connections nonces heard said (state g old) (state g new) held holds r
+      → HasCleanDisk (state g new) → AddsArrivals (state g old) (state g new)

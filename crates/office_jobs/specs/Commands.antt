@@ -1,6 +1,7 @@
 -- The complete effect of a job: which files are opened and in which order, what is done in the database, what is
 -- printed, and the status.
-use Rattle.std.specs.Prelude.{◌≡◌, ◌⊎◌, ℕ, List, codes, Option, Some, None, Result, Ok, Err, string_bytes}
+use Rattle.std.specs.Prelude.{◌≡◌, ◌⊎◌, ◌++◌, ◌∷◌, ℕ, List, [], codes, Option, Some, None, Result, Ok, Err}
+use Rattle.std.specs.Prelude.{string_bytes}
 use Rattle.std.specs.Io.KnownBytes.{Keeps}
 use Rattle.sqlite_trees.specs.declared.store.Store as store
 use Rattle.sqlite.specs.Held.{Held}
@@ -22,9 +23,11 @@ use Rattle.office_jobs.specs.Asked.{AsksOffice}
 use Rattle.office_jobs.specs.Checking.{ChecksFile}
 use Rattle.office_jobs.specs.Faults.{of_store, test_result}
 use Rattle.office_jobs.specs.Finding.{OpensThere, WithFile}
-use Rattle.office_jobs.specs.Jobs.{DoesOfficeJob, told_text}
+use Rattle.office_jobs.specs.Jobs.{DoesOfficeJob, Wants, told_text}
+use Rattle.office_jobs.specs.Names.{result_line}
 use Rattle.office_jobs.specs.Steps.{Follows}
 use Rattle.office_jobs.specs.Trial.{TriesFile}
+use Rattle.office_jobs.specs.TrialOffice.{opening_of, trial_arrival}
 use Rattle.office_jobs.specs.Words.{AnswersWords}
 use Rattle.office_jobs.specs.Whole.{AppliesIn, DoesIn, FoundsIn, IsKeyOf, PrintsText, ServesIn}
 
@@ -55,11 +58,13 @@ status_by (Err e) = 1
 -- The world is `w` before and `w'` after.
 module _ {W File Conn Incoming Reader Writer : Type 0} (world : Ghosts W File Conn Incoming Reader Writer) (w w' : W)
   where
-    -- The in-memory office served itself a request, and the outcome is reported. Or that office couldn't be made.
+    -- The in-memory office, with its one department, served itself a request, and the outcome is reported. Or that
+    -- office couldn't be made.
     abbrev pub TestsItself : (held holds : Option (List ℕ)) → Result (Unit {0}) JobFault → Type 0
     TestsItself held holds result =
         ((e : StoreFault) × (result ≡ Err (of_store e)) × (w' ≡ w) × (holds ≡ held))
-        ⊎ ((tested : Result (Unit {0}) SelftestFault) × world.tests w tested w'
+        ⊎ ((tested : Result (Unit {0}) SelftestFault)
+        × world.tests w (opening_of 1 9223372036854775806) (trial_arrival ∷ []) tested w'
         × Follows (λ _. PrintsText (codes "selftest ok\n") held holds) (holds ≡ held) (test_result tested) result)
 
 -- The same, with `remaining` for the bytes that a file has left to read.
@@ -83,8 +88,8 @@ module _ {W File Tables Incoming Reader Writer : Type 0} (store : store.Ghosts T
   -- a job that asks the office in a database, which has to exist
   abbrev pub Asks : OfficeJob → (db : List ℕ) → (held holds : Option (List ℕ)) → Result (Unit {0}) JobFault → Type 0
   Asks asked db held holds result =
-      DoesIn store world book w w' (OpensThere world db) (DoesOfficeJob asked) (AsksOffice asked) (told_text asked) held
-      holds result
+      DoesIn store world book w w' (OpensThere world db) (Wants store asked) (DoesOfficeJob asked) (AsksOffice asked)
+      (told_text asked) held holds result
 
   -- The effect of each job except a server.
   abbrev pub DoesJob : Job → (held holds : Option (List ℕ)) → Result (Unit {0}) JobFault → Type 0
@@ -110,33 +115,38 @@ module _ {W File Tables Incoming Reader Writer : Type 0} (store : store.Ghosts T
   DoesJob job.Selftest held holds result = TestsItself world w w' held holds result
   DoesJob other held holds result = ⊥
 
-  -- The effect of each job.
-  abbrev pub Runs : Job → (held holds : Option (List ℕ)) → Result ℕ JobFault → Type 0
-  Runs (job.Serve db port connections nonces) held holds result =
+  -- The effect of each job. `said` has the lines of the faults of connections: only a server has any.
+  abbrev pub Runs : Job → (held holds : Option (List ℕ)) → (said : List ℕ) → Result ℕ JobFault → Type 0
+  Runs (job.Serve db port connections nonces) held holds said result =
       WithFile world remaining w w' (string_bytes nonces)
-      (λ source opened. ServesIn store world book opened w' (string_bytes db) port connections source held holds)
-      (holds ≡ held) result
-  Runs other held holds result = EndsCommand (DoesJob other held) holds result
+      (λ source opened. ServesIn store world book opened w' (string_bytes db) port connections source held holds said)
+      ((holds ≡ held) × (said ≡ [])) result
+  Runs other held holds said result = EndsCommand (DoesJob other held) holds result × (said ≡ [])
 
-  -- the same, with the status
-  pub record RunsJob (job : Job) (held holds : Option (List ℕ)) (status : ℕ) : Type 0 where
+  -- The same, with the status, and with what the second output takes: the lines of the connections' faults, and then
+  -- that of the job's fault.
+  pub record RunsJob (job : Job) (held holds : Option (List ℕ)) (Told : List ℕ → Type 0) (status : ℕ) : Type 0 where
     pub result : Result ℕ JobFault
-    pub runs : Runs job held holds result
+    pub said : List ℕ
+    pub runs : Runs job held holds said result
     pub is_its : status ≡ status_by result
+    pub told : Told (said ++ result_line result)
 
   -- The arguments name a job, and this was its effect. Or they name none, nothing was asked of the world, and this is
-  -- what they were answered with.
-  abbrev pub RunsWords : (words : List (List ℕ)) → (held holds : Option (List ℕ)) → (status : ℕ) → Type 0
-  RunsWords words held holds status =
-      ((job : Job) × Names words job × RunsJob job held holds status)
-      ⊎ ((fault : WordsFault) × IsFaultOf words fault × (w' ≡ w) × AnswersWords fault held holds status)
+  -- what they were answered with. `Told` says which text the second output takes.
+  abbrev pub RunsWords : (words : List (List ℕ)) → (held holds : Option (List ℕ)) → (Told : List ℕ → Type 0)
+      → (status : ℕ) → Type 0
+  RunsWords words held holds Told status =
+      ((job : Job) × Names words job × RunsJob job held holds Told status)
+      ⊎ ((fault : WordsFault) × IsFaultOf words fault × (w' ≡ w) × AnswersWords fault held holds Told status)
 
--- The same in a world with this property afterwards.
+-- The same in a world that had this property before, and has that one afterwards.
 pub record RunsWordsOver {W File Tables Incoming Reader Writer : Type 0} (store : store.Ghosts Tables)
     (world : Ghosts W File (Held Tables) Incoming Reader Writer) (remaining : File → Option (List ℕ))
-    (book : Incoming → Option Book) (Left : W → Type 0) (words : List (List ℕ)) (held holds : Option (List ℕ))
-    (status : ℕ) : Type 0 where
+    (book : Incoming → Option Book) (Begins Left : W → Type 0) (words : List (List ℕ)) (held holds : Option (List ℕ))
+    (Told : List ℕ → Type 0) (status : ℕ) : Type 0 where
   pub before : W
   pub after : W
+  pub begins : Begins before
   pub left : Left after
-  pub runs : RunsWords store world remaining book before after words held holds status
+  pub runs : RunsWords store world remaining book before after words held holds Told status

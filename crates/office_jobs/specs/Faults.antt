@@ -99,13 +99,6 @@ IsOfExchanges NoMemory = Unit {0}
 IsOfExchanges (BadExchange k) = Unit {0}
 IsOfExchanges other = ⊥
 
--- The faults of reading a key.
-abbrev pub IsOfAKey : JobFault → Type 0
-IsOfAKey File = Unit {0}
-IsOfAKey NoMemory = Unit {0}
-IsOfAKey (Line fault) = Unit {0}
-IsOfAKey other = ⊥
-
 -- The faults of checking a list for a certificate.
 abbrev pub IsOfChecking : JobFault → Type 0
 IsOfChecking File = Unit {0}

@@ -1,4 +1,5 @@
 pub mod Faults
+pub mod Names
 pub mod Opening
 pub mod Applying
 pub mod Listing

@@ -1,5 +1,5 @@
 -- A database opened as an office, and what faults leave.
-use Rattle.std.specs.Prelude.{◌≡◌, ℕ, List, IsTrue, Option, Ok, Err}
+use Rattle.std.specs.Prelude.{◌≡◌, ◌⊎◌, ℕ, List, IsTrue, Option, Result, Ok, Err}
 use Rattle.sqlite.specs.State.{State}
 use Rattle.office.specs.declared.opening.Opening.{Opening}
 use Rattle.office.specs.declared.arrival.Arrival.{Arrival}
@@ -10,6 +10,8 @@ use Rattle.store_sql.specs.Contents.{HasOffices}
 use Rattle.store.specs.Transactions.{IsAsBefore}
 use Rattle.store.specs.Migrating.{IsExcused}
 use Rattle.store.specs.Meaning.{DiskFailed, KeepsTelling, Looks, Tells, opened_by}
+use Rattle.office_jobs.specs.declared.job_fault.JobFault.{JobFault}
+use Rattle.office_jobs.specs.declared.job_fault.JobFault.TheVariants.{NoMemory, Store}
 
 -- The tables have the one row of an office of this schema. The connection is open, and nothing has changed.
 pub record IsOpened (old new : State) : Type 0 where
@@ -31,3 +33,14 @@ pub record IsUnprinted (old new : State) (held holds : Option (List ℕ)) (e : S
   pub unprinted : holds ≡ held
   pub tells : KeepsTelling old new
   pub only : IsTrue old.is_open → (o : Opening) (l : List Arrival) → Tells old o l → IsOfARegister e
+
+-- A result over an `office` table with these rows. Unless memory was refused, they are the one row of an office of this
+-- schema, or they or a failure of the database are the fault.
+abbrev pub IsOfRows : {A : Type 0} → List OfficeRow → (failed : Type 0) → Result A JobFault → Type 0
+IsOfRows rows failed (Err NoMemory) = Unit {0}
+IsOfRows rows failed (Err (Store e)) = (opened_by rows ≡ Ok tt) ⊎ Looks rows failed (Err e)
+IsOfRows rows failed other = opened_by rows ≡ Ok tt
+
+-- the same for each `office` table that is the first of the tables
+abbrev pub HeedsRows : {A : Type 0} → (old new : State) → Result A JobFault → Type 0
+HeedsRows old new r = (rows : List OfficeRow) → HasOffices rows old.now → IsOfRows rows (DiskFailed old new) r

@@ -1,6 +1,7 @@
 -- The complete effect on a world: what is opened, made, listened at and closed, in which order, and what is done in
 -- between.
-use Rattle.std.specs.Prelude.{◌≡◌, ◌⊎◌, ◌∷◌, ℕ, List, [], Option, Some, None, Result, Ok, Err, IfOk, IfSome, IsTrue}
+use Rattle.std.specs.Prelude.{◌≡◌, ◌⊎◌, ◌∷◌, ℕ, List, [], Option, Some, None, Result, Ok, Err, IfOk, IfSome}
+use Rattle.std.specs.Prelude.{IsTrue}
 use Rattle.std.specs.declared.io.ErrorKind.{ErrorKind}
 use Rattle.std.specs.declared.net.socket_addr.SocketAddrV4.{SocketAddrV4}
 use Rattle.std.specs.Io.KnownBytes.{Appends}
@@ -28,10 +29,11 @@ use Rattle.office_jobs.specs.declared.job_fault.JobFault.TheVariants.{BadExchang
 use Rattle.office_jobs.specs.Applying.{Applies}
 use Rattle.office_jobs.specs.Asked.{AsksExchanges, AsksServing, founding_asked}
 use Rattle.office_jobs.specs.Ending.{closed}
-use Rattle.office_jobs.specs.Faults.{IsOfAKey, IsOfAnOpening, IsOfExchanges}
+use Rattle.office_jobs.specs.Faults.{IsOfAnOpening, IsOfExchanges}
 use Rattle.office_jobs.specs.Finding.{OpensNew, OpensThere}
+use Rattle.office_jobs.specs.Jobs.{WantsNone, WantsOffice}
 use Rattle.office_jobs.specs.Making.{MakesOffice, ready_text}
-use Rattle.office_jobs.specs.Reading.{IsKeyText}
+use Rattle.office_jobs.specs.Reading.{HasNoKey, IsKeyText}
 use Rattle.office_jobs.specs.Serving.{Heard, ServesOffice}
 use Rattle.office_jobs.specs.Steps.{Follows}
 
@@ -83,14 +85,14 @@ AreOf file (Err e) = IsOfExchanges e × ((k : ℕ) → e ≡ BadExchange k → I
 -- the key of this file, or why it has none
 abbrev pub IsKeyOf : Option (List ℕ) → Result KeyLine JobFault → Type 0
 IsKeyOf file (Ok k) = IfSome file (λ text. IsKeyText text k)
-IsKeyOf file (Err e) = IsOfAKey e
+IsKeyOf file (Err e) = HasNoKey file e
 
 -- the initial configuration that is specified for the key of this file, or why there is none
 abbrev pub GivesOpening : Option (List ℕ) → (due : List ℕ → Result Opening OpeningFault) → Result Opening JobFault
     → Type 0
 GivesOpening file due (Ok o) = (k : KeyLine) × IfSome file (λ text. IsKeyText text k) × (due k.key ≡ Ok o)
 GivesOpening file due (Err e) =
-    IsOfAKey e ⊎ ((k : KeyLine) × IfSome file (λ text. IsKeyText text k) × IsOfAnOpening (due k.key) e)
+    HasNoKey file e ⊎ ((k : KeyLine) × IfSome file (λ text. IsKeyText text k) × IsOfAnOpening (due k.key) e)
 
 -- ---- listening
 
@@ -118,21 +120,21 @@ module _ {W File Conn Incoming Reader Writer : Type 0} (world : Ghosts W File Co
 
 module _ {W File Tables Incoming Reader Writer : Type 0} (store : store.Ghosts Tables)
     (world : Ghosts W File (Held Tables) Incoming Reader Writer) (book : Incoming → Option Book) where
-  -- An open office was served at this port of the loopback interface.
-  pub record ServesOpen (port connections : ℕ) (nonces held holds : Option (List ℕ)) (before after : W)
+  -- An open office was served at this port of the loopback interface. `said` has the lines of the connections' faults.
+  pub record ServesOpen (port connections : ℕ) (nonces held holds : Option (List ℕ)) (said : List ℕ) (before after : W)
       (conn last : Held Tables) (result : Result ℕ JobFault) : Type 0 where
     pub heard : Result (Incoming × ℕ) ErrorKind
     pub listened : Listens world port before heard after
-    pub serves : On store (λ old new. ServesOffice connections nonces (heard_of book (Some heard)) old new held holds)
-        conn last result
+    pub serves : ServesOffice connections nonces (heard_of book (Some heard)) said (state store conn)
+        (state store last) held holds result
 
   -- The office was opened, and then served like that. Nobody listened before it was open.
-  pub record ServesAt (port connections : ℕ) (nonces held holds : Option (List ℕ)) (before after : W)
+  pub record ServesAt (port connections : ℕ) (nonces held holds : Option (List ℕ)) (said : List ℕ) (before after : W)
       (conn last : Held Tables) (result : Result ℕ JobFault) : Type 0 where
     pub heard : Option (Result (Incoming × ℕ) ErrorKind)
     pub listened : MayListen world port before heard after
-    pub serves : On store (λ old new. ServesOffice connections nonces (heard_of book heard) old new held holds) conn
-        last result
+    pub serves : ServesOffice connections nonces (heard_of book heard) said (state store conn) (state store last) held
+        holds result
 
 -- ---- jobs
 
@@ -169,19 +171,23 @@ module _ {W File Tables Incoming Reader Writer : Type 0} (store : store.Ghosts T
     pub is_opened : Opens w found opened
     pub ran : Follows (RunsOver Did Asks opened) ((w' ≡ opened) × Nothing) found result
 
-  -- this was done between the tables, and nothing else was asked of the world
-  abbrev pub Quietly : (State → State → Result (Unit {0}) JobFault → Type 0) → W → W → Held Tables → Held Tables
+  -- This was done between the tables, and nothing else was asked of the world. Other databases than those that are
+  -- wanted are refused, whatever the disk has returned.
+  abbrev pub Quietly : (Wants : Held Tables → Held Tables → Result (Unit {0}) JobFault → Type 0)
+      → (Did : State → State → Result (Unit {0}) JobFault → Type 0) → W → W → Held Tables → Held Tables
       → Result (Unit {0}) JobFault → Type 0
-  Quietly Did before after conn last result = (after ≡ before) × On store Did conn last result
+  Quietly Wants Did before after conn last result =
+      (after ≡ before) × On store Did conn last result × Wants conn last result
 
   -- The same, and after the database was closed, the job's message is printed.
   pub record DoesIn (Opens : W → Result (Held Tables) JobFault → W → Type 0)
+      (Wants : Held Tables → Held Tables → Result (Unit {0}) JobFault → Type 0)
       (Did : State → State → Option (List ℕ) → Option (List ℕ) → Result (Unit {0}) JobFault → Type 0)
       (Asks : Option (List ℕ) → Option (List ℕ) → Result (Unit {0}) JobFault → Asked → Type 0)
       (told : List ℕ) (held holds : Option (List ℕ)) (result : Result (Unit {0}) JobFault) : Type 0 where
     pub between : Option (List ℕ)
     pub done : Result (Unit {0}) JobFault
-    pub ran : RunsIn Opens (Quietly (λ old new. Did old new held between)) (λ _ _ _ _ r _.
+    pub ran : RunsIn Opens (Quietly Wants (λ old new. Did old new held between)) (λ _ _ _ _ r _.
         Asks held between r) (between ≡ held) done
     pub told_of : Follows (λ _. PrintsText told between holds) (holds ≡ between) done result
 
@@ -191,7 +197,7 @@ module _ {W File Tables Incoming Reader Writer : Type 0} (store : store.Ghosts T
       : Type 0 where
     pub exchanges : Result (List Exchange) JobFault
     pub are_of : AreOf file exchanges
-    pub applied : Follows (λ es. DoesIn (OpensThere world db) (Applies es) (AsksExchanges es) [] held holds)
+    pub applied : Follows (λ es. DoesIn (OpensThere world db) (WantsOffice store) (Applies es) (AsksExchanges es) [] held holds)
         ((w' ≡ w) × (holds ≡ held)) exchanges result
 
   -- The office with the key of the file was made, and this is reported. Or there is no initial configuration, and then
@@ -201,14 +207,17 @@ module _ {W File Tables Incoming Reader Writer : Type 0} (store : store.Ghosts T
     pub opening : Result Opening JobFault
     pub begins : GivesOpening file due opening
     pub made : Follows
-        (λ o. DoesIn (OpensNew world db) (λ old new from to r. MakesOffice o old new r × (to ≡ from))
+        (λ o. DoesIn (OpensNew world db) (WantsNone store) (λ old new from to r. MakesOffice o old new r × (to ≡ from))
         (λ from to r asked. asked ≡ founding_asked o) (ready_text o) held holds)
         ((w' ≡ w) × (holds ≡ held)) opening result
 
-  -- The office was served, with nonces from this source. Or it wasn't opened, and nothing is printed.
+  -- The office was served, with nonces from this source. Or it wasn't opened, and nothing is printed. `said` has the
+  -- lines of the connections' faults.
   abbrev pub ServesIn : (db : List ℕ) → (port connections : ℕ) → (nonces held holds : Option (List ℕ))
-      → Result ℕ JobFault → Type 0
-  ServesIn db port connections nonces held holds result =
-      RunsIn (OpensThere world db) (ServesAt store world book port connections nonces held holds)
-      (λ _ _ _ _ r did. AsksServing connections nonces (heard_of book did.heard) r)
-      (holds ≡ held) result
+      → (said : List ℕ) → Result ℕ JobFault → Type 0
+  ServesIn db port connections nonces held holds said result =
+      RunsIn (OpensThere world db)
+      (λ before after conn last r. ServesAt store world book port connections nonces held holds said before after conn
+      last r × WantsOffice store conn last r)
+      (λ _ _ _ _ r did. AsksServing connections nonces (heard_of book did.0.heard) r)
+      ((holds ≡ held) × (said ≡ [])) result

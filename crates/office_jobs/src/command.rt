@@ -1,15 +1,16 @@
 //! Doing jobs, in a world.
 
-ghost use Rattle.std.specs.Prelude.{◌≡◌, ◌≤◌, ℕ, List, Option, IfOk, map, string_bytes};
-ghost use Rattle.std.specs.Io.KnownBytes.{Appends, Keeps};
+ghost use Rattle.std.specs.Prelude.{◌≡◌, ◌≤◌, ℕ, List, [], IfOk, map, string_bytes};
+ghost use Rattle.std.specs.Io.KnownBytes.{Keeps};
 ghost use Rattle.command_line.specs.Answers.{AreBad};
 ghost use Rattle.office_jobs.specs.Commands.{ChecksIn, DoesJob, IsFlushed, IsServing, Runs, RunsJob, RunsWords};
 ghost use Rattle.office_jobs.specs.Commands.{TestsItself};
 ghost use Rattle.office_jobs.specs.Finding.{WithFile};
 ghost use Rattle.office_jobs.specs.Making.{due_opening};
+ghost use Rattle.office_jobs.specs.Names.{Takes};
 ghost use Rattle.office_jobs.specs.Trial.{TriesFile};
 ghost use Rattle.office_jobs.specs.Whole.{AppliesIn, FoundsIn, KeepsDatabases, ServesIn};
-ghost use Rattle.office_jobs.specs.Words.{AnswersWords, IsOfBadWords, status_of_no_words};
+ghost use Rattle.office_jobs.specs.Words.{AnswersWords, IsOfBadWords, Shows, no_words_line, status_of_no_words};
 
 use crate::applying::apply_to_trial;
 use crate::checking::check_in;
@@ -19,12 +20,14 @@ use crate::founding::Founding;
 use crate::job::OfficeJob;
 use crate::job_fault::JobFault;
 use crate::output::write_out;
+use crate::second_output::tell_text;
 use crate::trial::trial_office;
 use crate::whole::{apply_in, do_in, found_in, serve_in};
 use crate::world::World;
 use command_line::{Job, WordsFault, read_words};
 use sqlite::{Alter, Connection};
 use std::io::{ErrorKind, Write};
+use wire::Sink;
 
 /// The status for invalid arguments.
 const BAD_WORDS: u8 = 2;
@@ -117,7 +120,7 @@ fn test_itself<W: World + AllocGlobal, O: Write>(world: &mut W, out: &mut O) -> 
 }
 
 // Serves an office with the nonces of the file at a path.
-fn serve_at<S: Alter, W: World<Conn = Connection<S>> + AllocGlobal, O: Write, E: Write>(
+fn serve_at<S: Alter, W: World<Conn = Connection<S>> + AllocGlobal, O: Write, E: Sink>(
     world: &mut W,
     db: &str,
     nonces: &str,
@@ -126,10 +129,14 @@ fn serve_at<S: Alter, W: World<Conn = Connection<S>> + AllocGlobal, O: Write, E:
     out: &mut O,
     err: &mut E,
 ) -> Result<u8, JobFault>
-    requires { KeepsDatabases S.Store W.World }
-    ensures serves { WithFile W.World W.File.remaining world.old world.new nonces.now
+    requires keeps { KeepsDatabases S.Store W.World }
+    requires tells { E.failed err.old ≡ 0 }
+    ensures serves { (said : List ℕ)
+        × Takes (E.failed err.old) (E.failed err.new) (E.taken err.old) (E.taken err.new) said
+        × WithFile W.World W.File.remaining world.old world.new nonces.now
         (λ source opened. ServesIn S.Store W.World W.Incoming.book opened world.new db.now port connections source
-        (O.contents out.old) (O.contents out.new)) (O.contents out.new ≡ O.contents out.old) result }
+        (O.contents out.old) (O.contents out.new) said) ((O.contents out.new ≡ O.contents out.old) × (said ≡ []))
+        result }
     ensures status { IfOk result (λ status. status ≤ 1) }
 {
     match open_file(world, nonces) {
@@ -207,15 +214,18 @@ fn done_by<S: Alter, W: World<Conn = Connection<S>> + AllocGlobal, O: Write>(
 }
 
 // Does a job in a world, or serves.
-fn run_job<S: Alter, W: World<Conn = Connection<S>> + AllocGlobal, O: Write, E: Write>(
+fn run_job<S: Alter, W: World<Conn = Connection<S>> + AllocGlobal, O: Write, E: Sink>(
     world: &mut W,
     job: &Job,
     out: O,
     err: &mut E,
 ) -> (Result<u8, JobFault>, O)
-    requires { KeepsDatabases S.Store W.World }
-    ensures runs { Runs S.Store W.World W.File.remaining W.Incoming.book world.old world.new job.now (O.contents out)
-        (O.contents result.1) result.0 }
+    requires keeps { KeepsDatabases S.Store W.World }
+    requires tells { E.failed err.old ≡ 0 }
+    ensures runs { (said : List ℕ)
+        × Takes (E.failed err.old) (E.failed err.new) (E.taken err.old) (E.taken err.new) said
+        × Runs S.Store W.World W.File.remaining W.Incoming.book world.old world.new job.now (O.contents out)
+        (O.contents result.1) said result.0 }
     ensures status { IfOk result.0 (λ status. status ≤ 1) }
     ensures silent { (IsServing job.now → ⊥) → err.new ≡ err.old }
 {
@@ -239,16 +249,18 @@ fn run_job<S: Alter, W: World<Conn = Connection<S>> + AllocGlobal, O: Write, E: 
 }
 
 /// Does a job in a world: opens its files, then its database, does the job, closes the database, and prints the result
-/// to `out`, or the name of a fault to `err`. Returns the status and `out`.
-pub fn do_job<S: Alter, W: World<Conn = Connection<S>> + AllocGlobal, O: Write, E: Write>(
+/// to `out`, or the line of a fault to `err`. Returns the status and `out`. What `err` doesn't take is lost.
+pub fn do_job<S: Alter, W: World<Conn = Connection<S>> + AllocGlobal, O: Write, E: Sink>(
     world: &mut W,
     job: &Job,
     out: O,
     err: &mut E,
 ) -> (u8, O)
-    requires { KeepsDatabases S.Store W.World }
+    requires keeps { KeepsDatabases S.Store W.World }
+    requires tells { E.failed err.old ≡ 0 }
     ensures runs { RunsJob S.Store W.World W.File.remaining W.Incoming.book world.old world.new job.now (O.contents out)
-        (O.contents result.1) result.0 }
+        (O.contents result.1) (Takes (E.failed err.old) (E.failed err.new) (E.taken err.old) (E.taken err.new))
+        result.0 }
     ensures status { result.0 ≤ 1 }
 
     // If a job was done, only a server prints anything to `err`.
@@ -261,9 +273,10 @@ pub fn do_job<S: Alter, W: World<Conn = Connection<S>> + AllocGlobal, O: Write, 
 }
 
 // Prints a text that was asked for.
-fn show<O: Write, E: Write>(text: &String, out: &mut O, err: &mut E) -> u8
-    ensures shown { result ≡ 0 → (between : Option (List ℕ)) × Appends (O.contents out.old) between
-        (string_bytes text.now) × Keeps between (O.contents out.new) }
+fn show<O: Write, E: Sink>(text: &String, out: &mut O, err: &mut E) -> u8
+    requires { E.failed err.old ≡ 0 }
+    ensures shown { Shows (string_bytes text.now) (O.contents out.old) (O.contents out.new)
+        (Takes (E.failed err.old) (E.failed err.new) (E.taken err.old) (E.taken err.new)) result }
     ensures status { result ≤ 1 }
 {
     let shown = write_out(out, text.as_bytes());
@@ -271,15 +284,17 @@ fn show<O: Write, E: Write>(text: &String, out: &mut O, err: &mut E) -> u8
 }
 
 // The answer to arguments that ask for no job: clap's text, or a fault.
-fn answer_words<O: Write, E: Write>(fault: WordsFault, out: &mut O, err: &mut E) -> u8
-    ensures answers { AnswersWords fault (O.contents out.old) (O.contents out.new) result }
+fn answer_words<O: Write, E: Sink>(fault: WordsFault, out: &mut O, err: &mut E) -> u8
+    requires { E.failed err.old ≡ 0 }
+    ensures answers { AnswersWords fault (O.contents out.old) (O.contents out.new)
+        (Takes (E.failed err.old) (E.failed err.new) (E.taken err.old) (E.taken err.new)) result }
     ensures status { result ≤ 2 }
     ensures bad { result ≡ 2 → IsOfBadWords fault }
 {
     match fault {
         WordsFault::Help(text) => show(&text, out, err),
         WordsFault::BadWords(text) => {
-            let _ = write_out(err, text.as_bytes());
+            tell_text(err, text.as_bytes());
             BAD_WORDS
         }
         WordsFault::NoMemory => status_of(err, Err(JobFault::NoMemory)),
@@ -287,15 +302,17 @@ fn answer_words<O: Write, E: Write>(fault: WordsFault, out: &mut O, err: &mut E)
 }
 
 /// Does the job that the arguments ask for, or prints clap's text. Returns the status and `out`.
-pub fn do_words<S: Alter, W: World<Conn = Connection<S>> + AllocGlobal, O: Write, E: Write>(
+pub fn do_words<S: Alter, W: World<Conn = Connection<S>> + AllocGlobal, O: Write, E: Sink>(
     world: &mut W,
     words: &[String],
     out: O,
     err: &mut E,
 ) -> (u8, O)
-    requires { KeepsDatabases S.Store W.World }
+    requires keeps { KeepsDatabases S.Store W.World }
+    requires tells { E.failed err.old ≡ 0 }
     ensures runs { RunsWords S.Store W.World W.File.remaining W.Incoming.book world.old world.new
-        (map string_bytes words.now) (O.contents out) (O.contents result.1) result.0 }
+        (map string_bytes words.now) (O.contents out) (O.contents result.1)
+        (Takes (E.failed err.old) (E.failed err.new) (E.taken err.old) (E.taken err.new)) result.0 }
     ensures status { result.0 ≤ 2 }
     ensures bad { result.0 ≡ 2 → AreBad (map string_bytes words.now) }
 {
@@ -309,13 +326,16 @@ pub fn do_words<S: Alter, W: World<Conn = Connection<S>> + AllocGlobal, O: Write
 }
 
 /// The status if the arguments can't be read: memory was refused, or one isn't UTF-8.
-pub fn do_no_words<E: Write>(fault: ErrorKind, err: &mut E) -> u8
-    ensures { result ≡ status_of_no_words fault }
+pub fn do_no_words<E: Sink>(fault: ErrorKind, err: &mut E) -> u8
+    requires { E.failed err.old ≡ 0 }
+    ensures status { result ≡ status_of_no_words fault }
+    ensures told { Takes (E.failed err.old) (E.failed err.new) (E.taken err.old) (E.taken err.new)
+        (no_words_line fault) }
 {
     match fault {
         ErrorKind::OutOfMemory => status_of(err, Err(JobFault::NoMemory)),
         _ => {
-            let _ = write_out(err, b"error: a word is not UTF-8\n");
+            tell_text(err, b"error: a word is not UTF-8\n");
             BAD_WORDS
         }
     }

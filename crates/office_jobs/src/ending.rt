@@ -1,22 +1,25 @@
 //! The end of a job.
 
-ghost use Rattle.std.specs.Prelude.{◌≡◌, Err, IfErr, IsOk, Ok, OnOk};
+ghost use Rattle.std.specs.Prelude.{◌≡◌, ◌≤◌, ◌<◌, Err, IfErr, IsOk, Ok, OnOk};
 ghost use Rattle.std.specs.Io.KnownBytes.{Appends, Keeps};
 ghost use Rattle.std.specs.Prelude.{codes};
 ghost use Rattle.office_jobs.specs.Ending.{closed, of_database, of_end, status};
 ghost use Rattle.office_jobs.specs.Faults.{IsOfADatabase, of_selftest};
 ghost use Rattle.office_jobs.specs.Jobs.{told_text};
 ghost use Rattle.office_jobs.specs.Making.{ready_text};
+ghost use Rattle.office_jobs.specs.Names.{Takes, fault_line};
 
 use crate::job::OfficeJob;
 use crate::job_fault::JobFault;
 use crate::output::write_out;
+use crate::second_output::tell_fault;
 use lines::{KeyLine, fingerprint};
 use office::{Opening, StoreFault};
 use restart::EndFault;
 use server::SelftestFault;
 use sqlite::{Error, ErrorCode};
 use std::io::Write;
+use wire::Sink;
 
 /// The status of a job that was done.
 const DONE: u8 = 0;
@@ -128,15 +131,18 @@ pub fn flushed<W: Write>(out: &mut W, done: Result<(), JobFault>) -> Result<(), 
     }
 }
 
-/// The status of a result. If it is a fault, its name is printed, otherwise nothing.
-pub fn status_of<W: Write>(err: &mut W, done: Result<(), JobFault>) -> u8
+/// The status of a result. If it is a fault, its line is printed, otherwise nothing.
+pub fn status_of<E: Sink>(err: &mut E, done: Result<(), JobFault>) -> u8
     ensures status { result ≡ status done }
     ensures silent { IsOk done → err.new ≡ err.old }
+    ensures told { IfErr done (λ fault. E.failed err.old < u64.MAX
+        → Takes (E.failed err.old) (E.failed err.new) (E.taken err.old) (E.taken err.new) (fault_line fault)) }
+    ensures least { E.failed err.old ≤ E.failed err.new }
 {
     match done {
         Ok(()) => DONE,
         Err(fault) => {
-            let _ = writeln!(err, "sshoffice: {fault}");
+            tell_fault(err, fault);
             FAULT
         }
     }

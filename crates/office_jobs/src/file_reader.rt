@@ -1,9 +1,9 @@
 //! Reading the contents of files.
 
-ghost use Rattle.std.specs.Prelude.{◌≡◌, ◌<◌, ◌≤◌, ℕ, Err, IfErr, IfOk, IfSome, length, take, vec_len};
+ghost use Rattle.std.specs.Prelude.{◌≡◌, ◌<◌, ◌≤◌, ℕ, Err, IfErr, IfOk, IfSome, Some, length, take, vec_len};
 ghost use Rattle.exchanges.specs.Exchanges.{AreExchanges, IsBadRecord, TellsOf, exchanges_text};
-ghost use Rattle.office_jobs.specs.Faults.{IsOfAKey, IsOfExchanges};
-ghost use Rattle.office_jobs.specs.Reading.{IsKeyText};
+ghost use Rattle.office_jobs.specs.Faults.{IsOfExchanges};
+ghost use Rattle.office_jobs.specs.Reading.{HasNoKey, IsKeyText};
 
 use crate::files::kind_fault;
 use crate::job_fault::JobFault;
@@ -104,10 +104,9 @@ pub fn read_exchanges_from<R: Read + Drop>(
 }
 
 // The key in a text: a public-key line, and then a line feed or nothing.
-#[tactic(auto, using(crate::proofs::Causes::key_line))]
 fn key_in(alloc: Global, text: &[u8]) -> Result<KeyLine, JobFault>
     ensures key { IfOk result (IsKeyText text.now) }
-    ensures only { IfErr result IsOfAKey }
+    ensures fault { IfErr result (HasNoKey (Some text.now)) }
 {
     let line = text.strip_suffix(b"\n".as_slice()).unwrap_or(text);
     match read_key_line(alloc, line) {
@@ -117,10 +116,10 @@ fn key_in(alloc: Global, text: &[u8]) -> Result<KeyLine, JobFault>
 }
 
 /// The key in a file with a public-key line, whose final line feed is optional.
-#[tactic(auto, using(crate::proofs::Causes::key_file))]
+#[tactic(auto, using(crate::proofs::Causes::key_file, crate::proofs::Causes::key_text))]
 pub fn read_key<R: Read + Drop>(alloc: Global, reader: R) -> Result<KeyLine, JobFault>
     ensures key { IfOk result (λ k. IfSome (R.remaining reader) (λ text. IsKeyText text k)) }
-    ensures only { IfErr result IsOfAKey }
+    ensures fault { IfErr result (HasNoKey (R.remaining reader)) }
 {
     let bytes = read_key_text(alloc, reader)?;
     key_in(alloc, bytes.as_slice())

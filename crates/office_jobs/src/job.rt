@@ -4,7 +4,7 @@ ghost use Rattle.std.specs.Prelude.{◌≡◌, false};
 ghost use Rattle.std.specs.List.{list_any};
 ghost use Rattle.store_sql.specs.Look.{is_office_table};
 ghost use Rattle.store_sql.specs.Honest.{IsOutside, IsUnlimited, On, StaysClean, tables_of};
-ghost use Rattle.office_jobs.specs.Jobs.{DoesOfficeJob, IsLawfulJob, IsMaking, RefusesNone};
+ghost use Rattle.office_jobs.specs.Jobs.{DoesOfficeJob, IsLawfulJob, IsMaking, RefusesNone, Wants};
 
 use crate::applying::apply_over;
 use crate::founding::make_over;
@@ -63,6 +63,9 @@ pub fn do_on<S: Alter, W: Write>(
     // A database without an office's table is refused and left unchanged, unless the job makes an office.
     ensures none { (IsMaking job.now → ⊥) → list_any is_office_table (tables_of S.Store conn) ≡ false
         → RefusesNone conn result.conn result.outcome }
+
+    // So is one that the job doesn't want: an office that exists, if it makes one; one of another schema.
+    ensures wants { Wants S.Store job.now conn result.conn result.outcome }
 {
     let mut out = out;
     match job {

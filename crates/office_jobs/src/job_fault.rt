@@ -8,9 +8,8 @@ use krl::KrlFault;
 use lines::LineFault;
 use office::{OpeningFault, StoreFault};
 use server::{ListenFault, SelftestFault};
-use std::fmt;
 
-/// Why a job was not done. It is printed as its name.
+/// Why a job was not done. It is printed as its name (`specs/Names`).
 #[derive(Clone, Copy, Debug, PartialEq, Eq)]
 pub enum JobFault {
     /// A file can't be read, or a public-key file or a list is longer than any may be.
@@ -37,20 +36,6 @@ pub enum JobFault {
     Store(StoreFault),
     /// An exchange got no response.
     Fault,
-}
-
-impl fmt::Display for JobFault {
-    fn fmt<W: fmt::Write>(&self, f: &mut fmt::Formatter<W>) -> fmt::Result {
-        match self {
-            JobFault::BadExchange(record) => write!(f, "BadExchange {record}"),
-            JobFault::Connection(fault) => write!(f, "{fault}"),
-            JobFault::Line(fault) => write!(f, "{fault:?}"),
-            JobFault::Opening(fault) => write!(f, "{fault:?}"),
-            JobFault::List(fault) => write!(f, "{fault:?}"),
-            JobFault::Store(fault) => write!(f, "{fault:?}"),
-            _ => write!(f, "{self:?}"),
-        }
-    }
 }
 
 impl From<text::NoMemory> for JobFault {

@@ -25,6 +25,7 @@ mod migrating;
 mod opening;
 mod output;
 mod reporting;
+mod second_output;
 mod served;
 mod trial;
 mod whole;

@@ -1,6 +1,7 @@
 //! Printing the key revocation list.
 
 ghost use Rattle.std.specs.Prelude.{◌≡◌, Err, false};
+ghost use Rattle.office_jobs.specs.Opening.{HeedsRows};
 ghost use Rattle.std.specs.List.{list_any};
 ghost use Rattle.store_sql.specs.Look.{is_office_table};
 ghost use Rattle.office_jobs.specs.Faults.{publish_result};
@@ -38,6 +39,9 @@ pub fn list_over<S: Alter, W: Write>(alloc: Global, conn: Connection<S>, out: W)
     // A database without an office's table is refused and left unchanged.
     ensures none { list_any is_office_table (tables_of S.Store conn) ≡ false
         → result ≡ record { outcome = Err (JobFault.Store StoreFault.NotAnOffice); conn = conn; out = out } }
+
+    // One with an office's table is used if its row is that of an office of this schema.
+    ensures rows { On S.Store HeedsRows conn result.conn result.outcome }
 {
     match open_office(alloc, conn) {
         Ok(store) => {

@@ -8,6 +8,7 @@ ghost use Rattle.http_requests.specs.Asks.{Asks, get};
 ghost use Rattle.http_requests.specs.Responses.{response_text};
 ghost use Rattle.exchanges.specs.Reading.{rest_after, cut_of};
 ghost use Rattle.office_jobs.specs.Reporting.{Reports, resource_of};
+ghost use Rattle.office_jobs.specs.Opening.{HeedsRows};
 ghost use Rattle.std.specs.List.{list_any};
 ghost use Rattle.store_sql.specs.Look.{is_office_table};
 ghost use Rattle.store_sql.specs.Honest.{IsOutside, IsUnlimited, On, StaysClean, tables_of};
@@ -129,6 +130,9 @@ pub fn report_over<S: Alter, W: Write>(
     // A database without an office's table is refused and left unchanged.
     ensures none { list_any is_office_table (tables_of S.Store conn) ≡ false
         → result ≡ record { 0 = Err (JobFault.Store StoreFault.NotAnOffice); 1 = conn } }
+
+    // One with an office's table is used if its row is that of an office of this schema.
+    ensures rows { On S.Store HeedsRows conn result.1 result.0 }
 {
     match open_office(alloc, conn) {
         Ok(store) => {

@@ -1,15 +1,17 @@
 //! Serving an office.
 
-ghost use Rattle.std.specs.Prelude.{◌≡◌, ◌≤◌, ◌+◌, IfErr, IfOk, OnOk, false};
+ghost use Rattle.std.specs.Prelude.{◌≡◌, ◌≤◌, ◌+◌, ℕ, [], IfErr, IfOk, List, OnErr, OnOk, false};
 ghost use Rattle.std.specs.List.{list_any};
 ghost use Rattle.std.specs.Io.KnownBytes.{Appends};
 ghost use Rattle.sqlite.specs.Held.{state};
 ghost use Rattle.store_sql.specs.Look.{is_office_table};
-ghost use Rattle.store_sql.specs.Honest.{Between, IsOutside, IsUnlimited, StaysClean, tables_of};
+ghost use Rattle.store_sql.specs.Honest.{Between, IsOutside, IsUnlimited, On, StaysClean, tables_of};
 ghost use Rattle.server.specs.Connections.{Extends};
-ghost use Rattle.server.specs.Names.{listening_line};
+ghost use Rattle.server.specs.Names.{listening_line, no_memory_line};
 ghost use Rattle.store.specs.Meaning.{Tells};
 ghost use Rattle.office_jobs.specs.Jobs.{RefusesNone};
+ghost use Rattle.office_jobs.specs.Names.{Takes};
+ghost use Rattle.office_jobs.specs.Opening.{HeedsRows};
 ghost use Rattle.office_jobs.specs.Serving.{MeetsOver};
 ghost use Rattle.office_jobs.specs.Whole.{Listens, ServesAt, ServesOpen};
 
@@ -22,11 +24,11 @@ use std::io;
 use std::io::{ErrorKind, Write};
 use std::net::{Ipv4Addr, SocketAddrV4};
 use store::Store;
-use wire::{FromRead, FromWrite, Source};
+use wire::{FromRead, Sink, Source};
 
 /// Serves `connections` connections of a listener over an open office, and returns its connection with the status: 0,
 /// or 1 if there was no memory to begin with.
-pub fn serve_over<R: AllocGlobal, S: Alter, L: Listener, N: Source, O: Write, E: Write>(
+pub fn serve_over<R: AllocGlobal, S: Alter, L: Listener, N: Source, O: Write, E: Sink>(
     rt: &R,
     store: Store<S>,
     listener: &mut L,
@@ -35,20 +37,24 @@ pub fn serve_over<R: AllocGlobal, S: Alter, L: Listener, N: Source, O: Write, E:
     out: &mut O,
     err: &mut E,
 ) -> (u8, Connection<S>)
-    requires { N.failed nonces.old + connections ≤ u64.MAX }
+    requires draws { N.failed nonces.old + connections ≤ u64.MAX }
+    requires tells { E.failed err.old ≡ 0 }
     ensures status { result.0 ≤ 1 }
 
     // Each connection gets the response that is specified for its request after the arrivals of the earlier ones, or it
-    // is closed with a fault.
-    ensures met { result.0 ≡ 0 → MeetsOver connections (L.book listener.old) (L.book listener.new)
-        (N.remaining nonces.old) (N.remaining nonces.new) (state S.Store store.conn) (state S.Store result.1) }
+    // is closed with a fault, whose line is printed.
+    ensures met { result.0 ≡ 0 → (said : List ℕ)
+        × Takes (E.failed err.old) (E.failed err.new) (E.taken err.old) (E.taken err.new) said
+        × MeetsOver connections (L.book listener.old) (L.book listener.new) (N.remaining nonces.old)
+        (N.remaining nonces.new) said (state S.Store store.conn) (state S.Store result.1) }
+    ensures lacking { result.0 ≡ 1
+        → Takes (E.failed err.old) (E.failed err.new) (E.taken err.old) (E.taken err.new) no_memory_line }
     ensures served { Between S.Store (λ old new. Extends connections (Tells old) (Tells new)) store.conn result.1 }
     ensures unmet { result.0 ≡ 1 → result.1 ≡ store.conn }
     ensures honest { StaysClean S.Store store.conn result.1 }
     ensures quiet { out.new ≡ out.old }
 {
-    let mut told = FromWrite::new(err);
-    let (status, office) = serve_keeping(rt, listener, store, nonces, connections, out, &mut told);
+    let (status, office) = serve_keeping(rt, listener, store, nonces, connections, out, err);
     (status, office.into_connection())
 }
 
@@ -79,7 +85,7 @@ fn print_port<O: Write>(out: &mut O, port: u16) -> Result<(), JobFault>
 }
 
 // Listens, prints the port, and serves the open office.
-fn serve_listening<S: Alter, W: World<Conn = Connection<S>> + AllocGlobal, O: Write, E: Write>(
+fn serve_listening<S: Alter, W: World<Conn = Connection<S>> + AllocGlobal, O: Write, E: Sink>(
     world: &mut W,
     store: Store<S>,
     nonces: W::File,
@@ -88,8 +94,15 @@ fn serve_listening<S: Alter, W: World<Conn = Connection<S>> + AllocGlobal, O: Wr
     out: &mut O,
     err: &mut E,
 ) -> (Result<u8, JobFault>, Connection<S>)
-    ensures serves { ServesOpen S.Store W.World W.Incoming.book port connections (W.File.remaining nonces)
-        (O.contents out.old) (O.contents out.new) world.old world.new store.conn result.1 result.0 }
+    requires { E.failed err.old ≡ 0 }
+    ensures ok { OnOk result.0 ((said : List ℕ)
+        × Takes (E.failed err.old) (E.failed err.new) (E.taken err.old) (E.taken err.new) said
+        × ServesOpen S.Store W.World W.Incoming.book port connections (W.File.remaining nonces)
+        (O.contents out.old) (O.contents out.new) said world.old world.new store.conn result.1 result.0) }
+    ensures err { OnErr result.0 (ServesOpen S.Store W.World W.Incoming.book port connections
+        (W.File.remaining nonces) (O.contents out.old) (O.contents out.new) [] world.old world.new store.conn result.1
+        result.0) }
+    ensures quiet { OnErr result.0 (err.new ≡ err.old) }
     ensures honest { StaysClean S.Store store.conn result.1 }
     ensures status { IfOk result.0 (λ status. status ≤ 1) }
 {
@@ -116,7 +129,7 @@ fn serve_listening<S: Alter, W: World<Conn = Connection<S>> + AllocGlobal, O: Wr
 }
 
 /// Serves the office in a database at a port of the loopback interface. Nobody listens before the office is open.
-pub fn serve_at_port<S: Alter, W: World<Conn = Connection<S>> + AllocGlobal, O: Write, E: Write>(
+pub fn serve_at_port<S: Alter, W: World<Conn = Connection<S>> + AllocGlobal, O: Write, E: Sink>(
     world: &mut W,
     conn: Connection<S>,
     nonces: W::File,
@@ -127,14 +140,20 @@ pub fn serve_at_port<S: Alter, W: World<Conn = Connection<S>> + AllocGlobal, O: 
 ) -> (Result<u8, JobFault>, Connection<S>)
     requires outside { IsOutside S.Store conn }
     requires unlimited { IsUnlimited S.Store conn }
-    ensures serves { ServesAt S.Store W.World W.Incoming.book port connections (W.File.remaining nonces)
-        (O.contents out.old) (O.contents out.new) world.old world.new conn result.1 result.0 }
+    requires tells { E.failed err.old ≡ 0 }
+    ensures serves { (said : List ℕ)
+        × Takes (E.failed err.old) (E.failed err.new) (E.taken err.old) (E.taken err.new) said
+        × ServesAt S.Store W.World W.Incoming.book port connections (W.File.remaining nonces)
+        (O.contents out.old) (O.contents out.new) said world.old world.new conn result.1 result.0 }
     ensures honest { StaysClean S.Store conn result.1 }
     ensures status { IfOk result.0 (λ status. status ≤ 1) }
 
     // A database without an office's table is refused and left unchanged.
     ensures none { list_any is_office_table (tables_of S.Store conn) ≡ false
         → RefusesNone conn result.1 result.0 }
+
+    // One with an office's table is used if its row is that of an office of this schema.
+    ensures rows { On S.Store HeedsRows conn result.1 result.0 }
 {
     match open_office(world.alloc(), conn) {
         Ok(store) => serve_listening(world, store, nonces, port, connections, out, err),

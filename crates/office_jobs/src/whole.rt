@@ -3,12 +3,13 @@
 //! Files are opened first. A database is opened once, or not at all if a file can't be read or the database doesn't
 //! exist. The connection that remains is closed.
 
-ghost use Rattle.std.specs.Prelude.{◌≤◌, IfOk};
+ghost use Rattle.std.specs.Prelude.{◌≡◌, ◌≤◌, ℕ, IfOk, List};
 ghost use Rattle.office.specs.Openings.{IsOpening};
 ghost use Rattle.office_jobs.specs.Asked.{AsksOffice};
 ghost use Rattle.office_jobs.specs.Finding.{OpensFor};
-ghost use Rattle.office_jobs.specs.Jobs.{DoesOfficeJob, IsLawfulJob, told_text};
+ghost use Rattle.office_jobs.specs.Jobs.{DoesOfficeJob, IsLawfulJob, Wants, told_text};
 ghost use Rattle.office_jobs.specs.Making.{due_opening};
+ghost use Rattle.office_jobs.specs.Names.{Takes};
 ghost use Rattle.office_jobs.specs.Whole.{AppliesIn, GivesOpening, DoesIn, FoundsIn, KeepsDatabases, ServesIn};
 
 use crate::database_opening::{open_for, open_there};
@@ -23,6 +24,7 @@ use office::Opening;
 use sqlite::{Alter, Connection};
 use std::alloc::Global;
 use std::io::{Read, Write};
+use wire::Sink;
 
 /// Does a job in the database at a path, closes it, and then prints the job's message. The output is returned.
 pub(crate) fn do_in<S: Alter, W: World<Conn = Connection<S>> + AllocGlobal, O: Write>(
@@ -34,8 +36,8 @@ pub(crate) fn do_in<S: Alter, W: World<Conn = Connection<S>> + AllocGlobal, O: W
     requires keeps { KeepsDatabases S.Store W.World }
     requires lawful { IsLawfulJob job.now }
     ensures { DoesIn S.Store W.World W.Incoming.book world.old world.new
-        (OpensFor W.World db.now job.now) (DoesOfficeJob job.now) (AsksOffice job.now) (told_text job.now)
-        (O.contents out) (O.contents result.1) result.0 }
+        (OpensFor W.World db.now job.now) (Wants S.Store job.now) (DoesOfficeJob job.now) (AsksOffice job.now)
+        (told_text job.now) (O.contents out) (O.contents result.1) result.0 }
 {
     let alloc = world.alloc();
     match open_for(world, db, job) {
@@ -107,7 +109,7 @@ pub(crate) fn found_in<S: Alter, W: World<Conn = Connection<S>> + AllocGlobal, O
 /// Why nobody could be served: the database doesn't exist or can't be opened, it isn't that of an office, or there
 /// is no listener at the port. `NoMemory` or `Device` is also returned if all were served and the database couldn't be
 /// closed well.
-pub(crate) fn serve_in<S: Alter, W: World<Conn = Connection<S>> + AllocGlobal, O: Write, E: Write>(
+pub(crate) fn serve_in<S: Alter, W: World<Conn = Connection<S>> + AllocGlobal, O: Write, E: Sink>(
     world: &mut W,
     db: &str,
     nonces: W::File,
@@ -116,9 +118,12 @@ pub(crate) fn serve_in<S: Alter, W: World<Conn = Connection<S>> + AllocGlobal, O
     out: &mut O,
     err: &mut E,
 ) -> Result<u8, JobFault>
-    requires { KeepsDatabases S.Store W.World }
-    ensures serves { ServesIn S.Store W.World W.Incoming.book world.old world.new db.now port
-        connections (W.File.remaining nonces) (O.contents out.old) (O.contents out.new) result }
+    requires keeps { KeepsDatabases S.Store W.World }
+    requires tells { E.failed err.old ≡ 0 }
+    ensures serves { (said : List ℕ)
+        × Takes (E.failed err.old) (E.failed err.new) (E.taken err.old) (E.taken err.new) said
+        × ServesIn S.Store W.World W.Incoming.book world.old world.new db.now port connections
+        (W.File.remaining nonces) (O.contents out.old) (O.contents out.new) said result }
     ensures status { IfOk result (λ status. status ≤ 1) }
 {
     match open_there(world, db) {

@@ -5,6 +5,11 @@ ghost use Rattle.std.specs.declared.io.ErrorKind.{ErrorKind as Kind};
 ghost use Rattle.std.specs.declared.net.socket_addr.SocketAddrV4.{SocketAddrV4 as Address};
 ghost use Rattle.sqlite_wal.specs.Recovery.{Image};
 ghost use Rattle.sqlite.specs.declared.error.Error.{Error as Fault};
+ghost use Rattle.sqlite.specs.Held.{state};
+ghost use Rattle.sqlite.specs.Steps.{over_memory};
+ghost use Rattle.office.specs.declared.opening.Opening.{Opening};
+ghost use Rattle.office.specs.declared.arrival.Arrival.{Arrival};
+ghost use Rattle.store.specs.Meaning.{Tells};
 ghost use Rattle.restart.specs.declared.ending.EndFault.{EndFault};
 ghost use Rattle.server.specs.declared.connection_fault.SelftestFault.{SelftestFault as TestFault};
 
@@ -47,7 +52,8 @@ pub trait World {
 
     ghost leaves: { Self → Self.Conn → Image → Type 0 };
 
-    ghost tests: { Self → Result (Unit {0}) TestFault → Self → Type 0 } = { λ _ _ _. ⊤ };
+    // A test is told of by the history of the office that is tested.
+    ghost tests: { Self → Opening → List Arrival → Result (Unit {0}) TestFault → Self → Type 0 } = { λ _ _ _ _ _. ⊤ };
 
     /// Opens the file at a path for reading.
     ///
@@ -103,5 +109,6 @@ pub trait World {
     ///
     /// Why it wasn't served, or that its answer isn't the specified one.
     fn test_office(&mut self, office: &mut MemoryOffice) -> Result<(), SelftestFault>
-        ensures { tests self.old result self.new };
+        ensures { (o : Opening) (l : List Arrival) → Tells (state over_memory office.old.conn) o l
+            → tests self.old o l result self.new };
 }

@@ -122,6 +122,7 @@ closed_since old new error files survives same closed =
     record {
       it = closed.it;
       are_its = closed.are_its;
+      was_open = λ is. (same (was is)).0.was_open;
       quiet = λ is. quiet_since old new closed.it survives (was is) closed.quiet;
       cause = λ e is_it is. fails_since old new closed.it survives (was is) (same (was is)).0.is_open e
           (closed.cause e is_it is);

@@ -1,5 +1,5 @@
 -- How a connection to files ends.
-use Rattle.std.specs.Prelude.{◌≡◌, ◌≤◌, ◌⊎◌, ℕ, false, Option, Some, None, Result, Ok, Err}
+use Rattle.std.specs.Prelude.{◌≡◌, ◌≤◌, ◌⊎◌, ℕ, false, IsTrue, Option, Some, None, Result, Ok, Err}
 use Rattle.sqlite_disk.specs.declared.Disk.{Ghosts}
 use Rattle.sqlite_disk.specs.declared.Files.{Files}
 use Rattle.sqlite_disk.specs.Disk.{MoreFaults}
@@ -57,12 +57,13 @@ IsEndOfClose {D} {g} conn (Ok done) files =
 IsEndOfClose {D} {g} conn (Err (Uncopied error)) files = IsClosedTo conn (Some error) files
 IsEndOfClose {D} {g} conn (Err (GivenUp error)) files = ⊥
 
--- These are the files of a store that was closed. If their disk has been faithful, a crash has no outcome that it
--- didn't have before the close, and an error of the close has its cause.
+-- These are the files of a store that was closed. If their disk has been faithful, the connection was open until then, a
+-- crash has no outcome that it didn't have before the close, and an error of the close has its cause.
 pub record AreClosed {D : Type 0} {g : Ghosts D} (conn : Held (FileStore D g)) (error : Option Error)
     (files : Files D) : Type 0 where
   pub it : FileStore D g
   pub are_its : store.files it ≡ (files.log, files.db)
+  pub was_open : IsClean (store.view it) → IsTrue (file_state conn).is_open
   pub quiet : IsClean (store.view it) → IsClosed conn it
   pub cause : (e : Error) → error ≡ Some e → IsClean (store.view it) → FailsToClose conn it e
 

@@ -1,4 +1,5 @@
 pub mod Schemas
+pub mod Opening
 pub mod Images
 pub mod Lives
 pub mod Runs

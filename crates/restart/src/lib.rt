@@ -12,6 +12,7 @@
 mod closing;
 mod ending;
 mod laws;
+mod open_fault;
 mod opening;
 #[cfg(test)]
 mod tests;
@@ -22,4 +23,5 @@ pub use laws::{
     a_closed_run_is_a_run, a_cut_run_is_a_run, a_run_keeps_the_office, arrivals_stay,
     lives_are_due, one_schema, what_is_found_is_told,
 };
+pub use open_fault::{OpenFault, open_files};
 pub use opening::{open_again, open_at};

@@ -4,12 +4,15 @@ ghost use Rattle.std.specs.Prelude.{IfErr, IfOk, IsTrue};
 ghost use Rattle.sqlite_wal.specs.Files.{image_at, outcomes};
 ghost use Rattle.sqlite.specs.Held.{IsNew};
 ghost use Rattle.sqlite.specs.Opening.{is_open_error};
+ghost use Rattle.sqlite.specs.Start.{FindsIn};
 ghost use Rattle.sqlite.specs.State.{HasCleanDisk};
 ghost use Rattle.sqlite.specs.Files.{IsOpened, file_state};
+ghost use Rattle.restart.specs.Opening.{HasNoChecksums, OpensOrFails};
 ghost use Rattle.restart.specs.Runs.{IsBlankIfNone, TellsAfter, TellsFormer, TellsWhatIsHeld};
 
 use crate::laws::what_is_found_is_told;
-use sqlite::{Connection, Error, FileFrom, FileStore, Files, Start};
+use crate::open_fault::{OpenFault, open_files};
+use sqlite::{Connection, FileFrom, FileStore, Files, Start};
 use sqlite_disk::Disk;
 
 /// Opens the files at a path, or creates them. `start` stands for their contents.
@@ -21,12 +24,15 @@ pub fn open_at<S: Start>(
     rt: &HostRuntime,
     path: &str,
     start: S,
-) -> Result<Connection<FileStore<FileFrom<S>>>, Error>
+) -> Result<Connection<FileStore<FileFrom<S>>>, OpenFault<FileFrom<S>>>
     ensures new { IfOk result IsNew }
-    ensures named { IfErr result (λ e. IsTrue (is_open_error e)) }
+    ensures named { IfErr result (λ fault. IsTrue (is_open_error fault.error)) }
     ensures opened { IfOk result (λ c. HasCleanDisk (file_state c) → IsOpened c) }
 
-    // The connection represents each history whose office the files held.
+    // The connection has the database that the files held.
+    ensures found { IfOk result (λ c. HasCleanDisk (file_state c) → FindsIn (image_at S.Start) (file_state c)) }
+
+    // It represents each history whose office they held.
     ensures told { IfOk result (λ c. HasCleanDisk (file_state c)
         → TellsWhatIsHeld (image_at S.Start) (file_state c)) }
 
@@ -37,13 +43,19 @@ pub fn open_at<S: Start>(
     // If they held no table, an office can be created.
     ensures blank { IfOk result (λ c. HasCleanDisk (file_state c)
         → IsBlankIfNone (image_at S.Start) (file_state c)) }
+
+    // A database file that is made has no checksums in its pages, nor has one that was half made before without them.
+    ensures plain { IfOk result (λ c. HasCleanDisk (file_state c) → HasNoChecksums (image_at S.Start) c) }
+
+    // If the open failed, the files are left as the toolchain's open leaves them.
+    ensures fails { OpensOrFails (image_at S.Start) result }
 {
-    match Connection::open_from(rt, path, false, start) {
+    match open_files(rt, path, start) {
         Ok(conn) => {
             what_is_found_is_told(&conn);
             Ok(conn)
         }
-        Err((error, _)) => Err(error),
+        Err(fault) => Err(fault),
     }
 }
 
@@ -57,15 +69,22 @@ pub fn open_again<D: Disk + Drop, T: Start>(
     path: &str,
     last: &Files<D>,
     start: T,
-) -> Result<Connection<FileStore<FileFrom<T>>>, Error>
+) -> Result<Connection<FileStore<FileFrom<T>>>, OpenFault<FileFrom<T>>>
+    ensures new { IfOk result IsNew }
+    ensures named { IfErr result (λ fault. IsTrue (is_open_error fault.error)) }
+    ensures opened { IfOk result (λ c. HasCleanDisk (file_state c) → IsOpened c) }
+
     // If their contents are what the last run may have left, the connection represents the history that the last run
     // left.
-    ensures { IfOk result (λ c. HasCleanDisk (file_state c)
+    ensures told { IfOk result (λ c. HasCleanDisk (file_state c)
         → TellsAfter (outcomes D.Disk last.now.log last.now.db) (image_at T.Start) (file_state c)) }
+
+    // If the open failed, the files are left as the toolchain's open leaves them.
+    ensures fails { OpensOrFails (image_at T.Start) result }
 {
     let _ = last;
     match open_at(rt, path, start) {
         Ok(conn) => Ok(conn),
-        Err(error) => Err(error),
+        Err(again) => Err(again),
     }
 }

@@ -47,7 +47,8 @@ pub(crate) fn report<E: Sink>(err: &mut E, connection: u64, served: Result<(), F
 /// Prints that there was no memory to serve anybody.
 pub(crate) fn report_no_memory<E: Sink>(err: &mut E)
     requires { E.failed err.old < u64.MAX }
-    ensures { E.failed err.new ≡ E.failed err.old → Appends (E.taken err.old) (E.taken err.new) no_memory_line }
+    ensures told { E.failed err.new ≡ E.failed err.old → Appends (E.taken err.old) (E.taken err.new) no_memory_line }
+    ensures most { E.failed err.new ≤ E.failed err.old + 1 }
 {
     let _ = write_all(err, b"sshoffice: NoMemory\n");
 }

@@ -59,6 +59,8 @@ pub fn serve_on<R: AllocGlobal, L: Listener, S: Registry, N: Source, O: Write, E
     ensures lacking { result ≡ 1 → E.failed err.new ≡ E.failed err.old
         → Appends (E.taken err.old) (E.taken err.new) no_memory_line }
     ensures drawn { N.failed nonces.new ≤ N.failed nonces.old + connections }
+    ensures lost { result ≡ 0 → E.failed err.new ≤ E.failed err.old + connections }
+    ensures lost_once { result ≡ 1 → E.failed err.new ≤ E.failed err.old + 1 }
     ensures quiet { out.new ≡ out.old }
 {
     let Ok(routes) = Routes::new(rt.alloc()) else {
@@ -97,6 +99,8 @@ pub fn serve_keeping<R: AllocGlobal, L: Listener, S: Registry, N: Source, O: Wri
     ensures lacking { result.0 ≡ 1 → E.failed err.new ≡ E.failed err.old
         → Appends (E.taken err.old) (E.taken err.new) no_memory_line }
     ensures drawn { N.failed nonces.new ≤ N.failed nonces.old + connections }
+    ensures lost { result.0 ≡ 0 → E.failed err.new ≤ E.failed err.old + connections }
+    ensures lost_once { result.0 ≡ 1 → E.failed err.new ≤ E.failed err.old + 1 }
     ensures quiet { out.new ≡ out.old }
 {
     let mut office = Waiting::new(rt.alloc(), store);

@@ -2,34 +2,52 @@
 //!
 //! Each call goes to the system or to a crate. Nothing is proved about the system's answers.
 
-ghost use Rattle.std.specs.Prelude.{◌≡◌, ◌≤◌, IsSomeAnd, map, string_bytes};
+ghost use Rattle.std.specs.Prelude.{◌≡◌, ◌≤◌, IfErr, IfOk, IsTrue, map, string_bytes};
 ghost use Rattle.sqlite_wal.specs.Files.{image_at};
 ghost use Rattle.sqlite.specs.Files.{over_files};
+ghost use Rattle.sqlite.specs.Opening.{is_open_error};
+ghost use Rattle.restart.specs.Opening.{OpensOrFails};
 ghost use Rattle.command_line.specs.Answers.{AreBad};
 ghost use Rattle.office_jobs.specs.Commands.{RunsWordsOver};
-ghost use Rattle.sshoffice.specs.DatabaseFiles.{AreCleanOf, ClosesFiles, MayBecome, OpensOnce, OpensOrNot};
+ghost use Rattle.office_jobs.specs.Names.{Takes};
+ghost use Rattle.sshoffice.specs.declared.database_files.DatabaseFiles.TheVariants.{Unopened};
+ghost use Rattle.sshoffice.specs.DatabaseFiles.{AreCleanOf, AreGivenBack, AreLeftAs, ClosesFiles, MayBecome};
+ghost use Rattle.sshoffice.specs.DatabaseFiles.{OpensFiles, OpensOnce};
 
+use crate::database_files::DatabaseFiles;
 use crate::files::make_file;
 use office_jobs::{MemoryOffice, World, do_words};
-use restart::{EndFault, end_at, open_at};
+use restart::{EndFault, OpenFault, end_at, open_at};
 use server::{Listener, Loopback, SelftestFault, selftest};
-use sqlite::{Connection, Error, ErrorCode, FileFrom, FileStore, Files, Start};
+use sqlite::{Connection, Error, ErrorCode, FileFrom, FileStore, Start};
+use sqlite_disk::Disk;
 use std::alloc::{Alloc, Global};
 use std::cell::OnceCell;
 use std::fs;
 use std::io::{ErrorKind, Read, Write};
+use std::mem::replace;
 use std::net::{SocketAddr, SocketAddrV4, TcpListener};
+use wire::Sink;
 
 /// A connection to the files at a path.
 type FileConnection<S> = Connection<FileStore<FileFrom<S>>>;
 
+/// The files at a path.
+type FilesAt<S> = DatabaseFiles<S, FileFrom<S>>;
+
 /// Opens the database at a path, or makes one without tables. `start` represents the contents of its files.
-fn open_files<S: Start>(rt: &HostRuntime, path: &str, start: S) -> Result<FileConnection<S>, Error>
-    ensures { OpensOrNot (image_at S.Start) result }
+fn open_files<S: Start>(
+    rt: &HostRuntime,
+    path: &str,
+    start: S,
+) -> Result<FileConnection<S>, OpenFault<FileFrom<S>>>
+    ensures ok { IfOk result (OpensFiles (image_at S.Start)) }
+    ensures named { IfErr result (λ fault. IsTrue (is_open_error fault.error)) }
+    ensures fails { OpensOrFails (image_at S.Start) result }
 {
     match open_at(rt, path, start) {
         Ok(conn) => Ok(conn),
-        Err(error) => Err(error),
+        Err(fault) => Err(fault),
     }
 }
 
@@ -42,31 +60,30 @@ fn is_no_path(path: &str) -> bool {
 #[derive(Drop)]
 pub struct Host<'a, S: Start> {
     rt: &'a HostRuntime,
-    // Represents the contents of the database's files, until they are opened.
-    start: Option<S>,
-    // The files as the close left them, whether it succeeded or not.
-    left: Option<Files<FileFrom<S>>>,
+    // The database's files.
+    files: FilesAt<S>,
     // The cell for the listener, which outlives its connections.
     listener: &'a OnceCell<TcpListener>,
 }
 
 impl<'a, S: Start> Host<'a, S> {
     /// The system, before any call. `start` represents the contents of the database's files.
-    pub fn new(rt: &'a HostRuntime, start: S, listener: &'a OnceCell<TcpListener>) -> Host<'a, S> {
+    pub fn new(rt: &'a HostRuntime, start: S, listener: &'a OnceCell<TcpListener>) -> Host<'a, S>
+        ensures { result.files ≡ Unopened start }
+    {
         Host {
             rt,
-            start: Some(start),
-            left: None,
+            files: DatabaseFiles::Unopened(start),
             listener,
         }
     }
 
-    /// The files of the database, if one was closed.
-    pub fn into_files(self) -> Option<Files<FileFrom<S>>>
-        ensures { result ≡ self.entry.left }
+    /// What became of the database's files.
+    pub fn into_files(self) -> FilesAt<S>
+        ensures { result ≡ self.entry.files }
     {
-        let Host { left, .. } = self;
-        left
+        let Host { files, .. } = self;
+        files
     }
 }
 
@@ -85,16 +102,26 @@ impl<'a, S: Start> World for Host<'a, S> {
 
     type Incoming = Loopback<'a, HostRuntime>;
 
-    ghost opens = { λ host _ found opened. OpensOrNot (image_at S.Start) found
-        × OpensOnce host.start opened.start found };
+    // The files of the database change only when it is opened and closed.
+    ghost reads = { λ before _ _ after. after ≡ before };
+
+    ghost finds = { λ before _ _ after. after ≡ before };
+
+    ghost makes = { λ before _ _ after. after ≡ before };
+
+    ghost listens = { λ before _ _ after. after ≡ before };
+
+    ghost tests = { λ before _ _ _ after. after ≡ before };
+
+    ghost opens = { λ before _ found after. OpensOnce (image_at S.Start) before.files found after.files };
+
+    ghost closes = { λ _ conn closed after. AreLeftAs (ClosesFiles conn closed) after.files };
 
     ghost image = { image_at S.Start };
 
-    ghost is_clean = { λ host conn. IsSomeAnd host.left (AreCleanOf conn) };
+    ghost is_clean = { λ host conn. AreLeftAs (AreCleanOf conn) host.files };
 
-    ghost leaves = { λ host conn image. IsSomeAnd host.left (λ files. MayBecome conn files image) };
-
-    ghost closes = { λ _ conn closed host. IsSomeAnd host.left (ClosesFiles conn closed) };
+    ghost leaves = { λ host conn image. AreLeftAs (λ files. MayBecome conn files image) host.files };
 
     fn open_file(&mut self, path: &str) -> Result<fs::File, ErrorKind> {
         fs::open(self.rt, path).map_err(|error| error.kind())
@@ -112,15 +139,25 @@ impl<'a, S: Start> World for Host<'a, S> {
     }
 
     fn open_database(&mut self, path: &str) -> Result<FileConnection<S>, Error> {
-        match self.start.take() {
-            Some(start) => open_files(self.rt, path, start),
-            None => Err(Error::SqliteFailure(ErrorCode::CannotOpen)),
+        match replace(&mut self.files, DatabaseFiles::Connected) {
+            DatabaseFiles::Unopened(start) => match open_files(self.rt, path, start) {
+                Ok(opened) => Ok(opened),
+                Err(fault) => {
+                    let error = fault.error();
+                    self.files = DatabaseFiles::Failed(fault);
+                    Err(error)
+                }
+            },
+            files => {
+                self.files = files;
+                Err(Error::SqliteFailure(ErrorCode::CannotOpen))
+            }
         }
     }
 
     fn close_database(&mut self, conn: FileConnection<S>) -> Result<(), EndFault> {
         let (ended, files) = end_at(conn);
-        self.left = Some(files);
+        self.files = DatabaseFiles::Left(files);
         ended
     }
 
@@ -151,20 +188,29 @@ fn listen_in<'a>(
     }
 }
 
-/// Does what the arguments ask for in the world of the system. Returns the status, `out`, and the files of the job's
-/// database as they are left, if it was opened. `start` represents their contents. Only this function does a job over a
-/// file's connection: such a call takes half a minute to prove.
-pub fn run<S: Start, O: Write, E: Write>(
+/// Does what the arguments ask for in the world of the system. Returns the status, `out`, and what became of the files
+/// of the job's database. `start` represents their contents. Only this function does a job over a file's connection:
+/// such a call takes half a minute to prove.
+pub fn run<S: Start, O: Write, E: Sink>(
     rt: &HostRuntime,
     start: S,
     words: &[String],
     out: O,
     err: &mut E,
-) -> (u8, O, Option<Files<FileFrom<S>>>)
-    // The arguments had this effect in a world whose database is left in these files.
+) -> (u8, O, FilesAt<S>)
+    requires { E.failed err.old ≡ 0 }
+
+    // The arguments had this effect in a world whose files weren't opened before, and this is what became of them. If
+    // no call of `err` has failed, it has taken the lines of all faults, and nothing else.
     ensures runs { RunsWordsOver over_files ⟦<Host<'static, S> as World>⟧
         ⟦<fs::File as Read>⟧.remaining ⟦<Loopback<'static, HostRuntime> as Listener>⟧.book
-        (λ host. host.left ≡ result.2) (map string_bytes words.now) (O.contents out) (O.contents result.1) result.0 }
+        (λ host. host.files ≡ Unopened start) (λ host. host.files ≡ result.2) (map string_bytes words.now)
+        (O.contents out) (O.contents result.1)
+        (Takes (E.failed err.old) (E.failed err.new) (E.taken err.old) (E.taken err.new)) result.0 }
+
+    // They weren't opened, and `start` is given back; or an open of them failed, and left them like this; or they were
+    // opened, and `runs` says how their connection has left them.
+    ensures files { AreGivenBack ⟦<FileFrom<S> as Disk>⟧ (image_at S.Start) start result.2 }
     ensures status { result.0 ≤ 2 }
     ensures bad { result.0 ≡ 2 → AreBad (map string_bytes words.now) }
 {

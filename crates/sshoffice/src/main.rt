@@ -5,6 +5,7 @@
 //! and nothing is proved about them.
 #![tactic(auto)]
 
+mod database_files;
 mod files;
 mod host;
 
@@ -15,6 +16,7 @@ use std::io::BufWriter;
 use std::process::ExitCode;
 use std::rt::Env;
 use std::{env, io};
+use wire::FromWrite;
 
 fn words_of<R: Env + AllocGlobal>(rt: &R) -> io::Result<Vec<String>> {
     let words = env::args(rt)?.collect(rt.alloc())?;
@@ -22,7 +24,7 @@ fn words_of<R: Env + AllocGlobal>(rt: &R) -> io::Result<Vec<String>> {
 }
 
 fn status_by(rt: &HostRuntime) -> u8 {
-    let mut err = rt.stderr();
+    let mut err = FromWrite::new(rt.stderr());
     let out = BufWriter::new(rt.alloc(), rt.stdout());
     match (words_of(rt), out) {
         (Ok(words), Ok(out)) => run(rt, Unknown, words.as_slice(), out, &mut err).0,

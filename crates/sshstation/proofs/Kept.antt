@@ -1,6 +1,5 @@
 -- What the files of a guard keep.
-use Rattle.std.proofs.Common.{◌≡◌, Option, Some, None, Result, Ok, Err}
-use Rattle.std.specs.Prelude.{IsSomeAnd}
+use Rattle.std.proofs.Common.{◌≡◌, Result, Ok, Err}
 use Rattle.sqlite_disk.specs.declared.Disk.{Ghosts}
 use Rattle.sqlite_disk.specs.declared.Files.{Files}
 use Rattle.sqlite_wal.specs.Recovery.{Image}
@@ -17,6 +16,9 @@ use Rattle.restart.specs.Images.{HoldsNone}
 use Rattle.station_jobs.specs.declared.station_fault.StationFault.{StationFault}
 use Rattle.station_jobs.specs.declared.station_fault.StationFault.TheVariants.{Device, NoMemory}
 use Rattle.guard_restart.specs.Images.{HoldsKept}
+use Rattle.sshstation.specs.declared.database_files.DatabaseFiles.{DatabaseFiles}
+use Rattle.sshstation.specs.declared.database_files.DatabaseFiles.TheVariants as now
+use Rattle.sshstation.specs.DatabaseFiles.{AreLeftAs}
 use Rattle.sshstation.specs.GuardFiles.{AreSettled, EndsGuard, FindsGuard, HaveGuard, HaveOne, IsOfFiles, IsOfSearch}
 use Rattle.sshstation.specs.GuardFiles.{MakesGuard}
 
@@ -49,19 +51,18 @@ module _ {D : Type 0} {g : Ghosts D} where
       let is = it.0.found clean (it.0.files.blank (it.0.honest clean) none) in
       ((it.1, is.keeps), is.crash)
 
-  ended_honest : (guard : GuardStore (FileStore D g)) (done : Result (Unit {0}) StationFault)
+  pub ended_honest : (guard : GuardStore (FileStore D g)) (done : Result (Unit {0}) StationFault)
       (how : Result (Unit {0}) EndFault) (files : Files D) → EndsGuard guard done (how, files)
       → AreSettled guard (how, files) → HasCleanDisk (file_state guard.conn)
-  ended_honest guard done (Ok x) files ends settled = (ends.0 settled.0).0
+  ended_honest guard done (Ok x) files ends settled = (ends.0 settled.0).0.was_clean
   ended_honest guard done (Err (GivenUp error)) files ends settled = (ends.0 settled.0).0
   ended_honest guard done (Err (Uncopied error)) files ends settled = absurd settled.1
 
-  pub ends_honest : (guard : GuardStore (FileStore D g)) (done : Result (Unit {0}) StationFault)
-      (left : Option (Result (Unit {0}) EndFault × Files D))
-      → IsSomeAnd left (EndsGuard guard done) → IsSomeAnd left (AreSettled guard)
+  pub ends_honest : {S : Type 0} (guard : GuardStore (FileStore D g)) (done : Result (Unit {0}) StationFault)
+      (files : DatabaseFiles S D) → AreLeftAs files (EndsGuard guard done) → AreLeftAs files (AreSettled guard)
       → HasCleanDisk (file_state guard.conn)
-  ends_honest guard done (Some left) ends settled = ended_honest guard done left.0 left.1 ends settled
-  ends_honest guard done None ends settled = absurd ends
+  ends_honest guard done (now.Left left) ends settled = ended_honest guard done left.0 left.1 ends settled
+  ends_honest guard done other ends settled = absurd ends
 
   closed_has : (guard : GuardStore (FileStore D g)) (how : Result (Unit {0}) EndFault) (files : Files D)
       → EndsGuard guard (Ok tt) (how, files) → AreSettled guard (how, files) → (s : State)
@@ -71,12 +72,11 @@ module _ {D : Type 0} {g : Ghosts D} where
   closed_has guard (Err (GivenUp error)) files ends settled s keeps = let no = ends.1 in absurd cc
   closed_has guard (Err (Uncopied error)) files ends settled s keeps = absurd settled.1
 
-  pub closes_have : (guard : GuardStore (FileStore D g)) (left : Option (Result (Unit {0}) EndFault × Files D))
-      → IsSomeAnd left (EndsGuard guard (Ok tt))
-      → IsSomeAnd left (AreSettled guard) → (s : State) → (guard.scope ≡ s.scope) × Keeps (file_state guard.conn) s
-      → IsSomeAnd left (HaveGuard guard s)
-  closes_have guard (Some left) ends settled s keeps = closed_has guard left.0 left.1 ends settled s keeps
-  closes_have guard None ends settled s keeps = absurd ends
+  pub closes_have : {S : Type 0} (guard : GuardStore (FileStore D g)) (files : DatabaseFiles S D)
+      → AreLeftAs files (EndsGuard guard (Ok tt)) → AreLeftAs files (AreSettled guard) → (s : State)
+      → (guard.scope ≡ s.scope) × Keeps (file_state guard.conn) s → AreLeftAs files (HaveGuard guard s)
+  closes_have guard (now.Left left) ends settled s keeps = closed_has guard left.0 left.1 ends settled s keeps
+  closes_have guard other ends settled s keeps = absurd ends
 
   given_up_has : (guard : GuardStore (FileStore D g)) (e : StationFault) (how : Result (Unit {0}) EndFault)
       (files : Files D) → EndsGuard guard (Err e) (how, files) → AreSettled guard (how, files) → (s t : State)
@@ -87,11 +87,10 @@ module _ {D : Type 0} {g : Ghosts D} where
       (keeps.1.guard, (ends.0 settled.0).1 s t leaves)
   given_up_has guard e (Err (Uncopied error)) files ends settled s t keeps leaves = absurd settled.1
 
-  pub given_up_have : (guard : GuardStore (FileStore D g)) (e : StationFault)
-      (left : Option (Result (Unit {0}) EndFault × Files D))
-      → IsSomeAnd left (EndsGuard guard (Err e)) → IsSomeAnd left (AreSettled guard) → (s t : State)
+  pub given_up_have : {S : Type 0} (guard : GuardStore (FileStore D g)) (e : StationFault) (files : DatabaseFiles S D)
+      → AreLeftAs files (EndsGuard guard (Err e)) → AreLeftAs files (AreSettled guard) → (s t : State)
       → (guard.scope ≡ s.scope) × Keeps (file_state guard.conn) s → Leaves (file_state guard.conn) s t
-      → IsSomeAnd left (HaveOne guard s t)
-  given_up_have guard e (Some left) ends settled s t keeps leaves =
+      → AreLeftAs files (HaveOne guard s t)
+  given_up_have guard e (now.Left left) ends settled s t keeps leaves =
       given_up_has guard e left.0 left.1 ends settled s t keeps leaves
-  given_up_have guard e None ends settled s t keeps leaves = absurd ends
+  given_up_have guard e other ends settled s t keeps leaves = absurd ends

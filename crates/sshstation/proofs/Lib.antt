@@ -1,5 +1,7 @@
 mod Kept
 mod Unopened
+mod UnopenedLists
 mod Saying
+mod Telling
 mod Lived
 mod ListsLived

@@ -1,18 +1,18 @@
 -- A job over the files of a list guard, as a run in their lifetime.
 use Rattle.std.proofs.Common.{◌≡◌, ◌⊎◌, ◌∙◌, ◌∷◌, [], ℕ, List, Option, Some, None, Result, Ok, Err, ap, arith, inl, inr}
 use Rattle.std.proofs.Common.{length, map, refl, subst, sym, take}
-use Rattle.std.specs.Prelude.{IfOk, IfSome, IsSomeAnd, string_bytes}
+use Rattle.std.specs.Prelude.{IfOk, string_bytes}
 use Rattle.std.specs.Io.KnownBytes.{Appends}
 use Rattle.std.proofs.KnownBytes.{Appends-nil}
 use Rattle.std.proofs.lemmas.List.{take_all}
 use Rattle.std.proofs.Math.Logic.{∥∥₁_map}
 use Rattle.sqlite_disk.specs.declared.Disk.{Ghosts}
-use Rattle.sqlite_disk.specs.declared.Files.{Files}
 use Rattle.sqlite_wal.specs.Recovery.{Image}
 use Rattle.sqlite_wal.specs.Files.{outcomes}
 use Rattle.sqlite_wal.specs.Reads.{AreClean}
 use Rattle.sqlite_store.specs.declared.store.FileStore.{FileStore}
 use Rattle.sqlite.specs.State.{HasCleanDisk}
+use Rattle.sqlite.specs.Schema.{Schema}
 use Rattle.sqlite.specs.Files.{file_state}
 use Rattle.lines.specs.Digests.{digest_text}
 use Rattle.krl.specs.Contents.{IsPublished}
@@ -28,11 +28,11 @@ use Rattle.list_guard.specs.Refusals.{refusal_name}
 use Rattle.list_guard.specs.Statements.{answer_line, refused_line, statement_line}
 use Rattle.list_sql.specs.declared.store.ListStore.{ListStore}
 use Rattle.list_sql.specs.Keeping.{IsFilled, Keeps, Leaves}
+use Rattle.list_sql.specs.Look.{is_empty}
 use Rattle.list_sql.proofs.Changed.{published_some}
 use Rattle.list_jobs.specs.declared.list_file.ListFile as lists
 use Rattle.list_jobs.specs.Jobs.{Follows, IsRead, MakesIn, RunsIn, RunsOver}
 use Rattle.list_jobs.specs.Stating.{IsPrinted, LeavesOne, Loses, States, StatesOne, Stores, stated_by}
-use Rattle.restart.specs.declared.ending.EndFault.{EndFault}
 use Rattle.restart.specs.declared.ending.EndFault.TheVariants.{GivenUp, Uncopied}
 use Rattle.list_restart.specs.Images.{Holds, HoldsKept, HoldsList, HoldsOneOf, Standing}
 use Rattle.list_restart.specs.Lives.{AreSaid, Goes, IsTold, Said}
@@ -43,10 +43,16 @@ use Rattle.station_command.specs.declared.job.StationJob.TheVariants as job
 use Rattle.station_jobs.specs.declared.guard_file.GuardFile as file
 use Rattle.station_jobs.specs.declared.station_fault.StationFault.{StationFault}
 use Rattle.station_jobs.specs.declared.surroundings.Surroundings as surroundings
+use Rattle.sshstation.specs.declared.database_files.DatabaseFiles.{DatabaseFiles}
+use Rattle.sshstation.specs.declared.database_files.DatabaseFiles.TheVariants as now
+use Rattle.sshstation.specs.DatabaseFiles.{AreLeftAs, AreGivenBack, AreUnopened, Ended as EndedOver}
 use Rattle.sshstation.specs.Doing.{DoesList, DoesWords}
-use Rattle.sshstation.specs.GuardFiles.{IsWhole}
+use Rattle.sshstation.specs.GuardFiles.{IsOfFiles, IsOfSearch, IsWhole}
 use Rattle.sshstation.specs.ListFiles.{EndsList, FindsList, MakesList}
 use Rattle.sshstation.specs.Listing.{AreListed, IsListed, IsListedBy, Prints}
+use Rattle.sshstation.specs.UnopenedLists.{FindsNone, MakesLeaving, MakesNone, OpensLeaving}
+use Rattle.sshstation.proofs.Unopened.{no_files_told, unopened_told}
+use Rattle.sshstation.proofs.UnopenedLists.{IsOrBegins, or_begins, same_standing}
 
 -- ---- one list
 
@@ -90,12 +96,19 @@ either : {A : Type 0} → A ⊎ A → A
 either (inl a) = a
 either (inr a) = a
 
-module _ (Dk : Type 0) (g : Ghosts Dk) (image : Image) where
+module _ (S Dk : Type 0) (g : Ghosts Dk) (image : Image) (value : S) where
   abbrev Store : Type 0
   Store = ListStore (FileStore Dk g)
 
   abbrev Ended : Type 0
-  Ended = Result (Unit {0}) EndFault × Files Dk
+  Ended = EndedOver Dk
+
+  abbrev Files : Type 0
+  Files = DatabaseFiles S Dk
+
+  -- what became of the files after a job that printed this
+  abbrev Told : Said → Files → Type 0
+  Told said files = AreGivenBack g image value (IsListed g image said) files
 
   -- ---- what the files hold
 
@@ -117,7 +130,7 @@ module _ (Dk : Type 0) (g : Ghosts Dk) (image : Image) where
     whole : IsWhole left.0
 
   settled_clean : (it : Store) (left : Ended) → IsSettled it left → HasCleanDisk (file_state it.conn)
-  settled_clean it (Ok done, files) is = (is.ends is.clean).0
+  settled_clean it (Ok done, files) is = (is.ends is.clean).0.was_clean
   settled_clean it (Err (GivenUp error), files) is = (is.ends is.clean).0
   settled_clean it (Err (Uncopied error), files) is = absurd is.whole
 
@@ -165,15 +178,14 @@ module _ (Dk : Type 0) (g : Ghosts Dk) (image : Image) where
         ∥∥₁_map (settled_holds it left settled s (with_last q.list) keeps leaves files may)
         (λ which. one_of keeps approved same which)
 
-  opened_lived : (o : Option Ended) (first last : Store) (closing : Result (Unit {0}) StationFault) (said : Said)
-      → FindsList image first → IsSomeAnd o (EndsList last closing)
+  opened_lived : (o : Files) (first last : Store) (closing : Result (Unit {0}) StationFault) (said : Said)
+      → FindsList image first → AreLeftAs o (EndsList last closing)
       → (HasCleanDisk (file_state last.conn) → HasCleanDisk (file_state first.conn))
       → ((left : Ended) → IsSettled last left → (s : State) → (first.last ≡ s.last) × Keeps (file_state first.conn) s
       → Leaves (file_state first.conn) s s → (files : Image) → outcomes g left.1.log left.1.db files
       → ∥ Reaches (Some s) said files ∥₁)
-      → IfSome o (IsListed g image said)
-  opened_lived None first last closing said found ends honest did = tt
-  opened_lived (Some left) first last closing said found ends honest did = λ clean whole.
+      → Told said o
+  opened_lived (now.Left left) first last closing said found ends honest did = λ clean whole.
       let settled : IsSettled last left = record { ends = ends.0; clean = clean; whole = whole } in
       runs_on image said (outcomes g left.1.log left.1.db)
       (λ files may before holds. by_standing settled files may before holds)
@@ -187,13 +199,13 @@ module _ (Dk : Type 0) (g : Ghosts Dk) (image : Image) where
           let clean = honest (settled_clean last left settled) in
           let is = found.found clean s holds.0 (found.files.held (found.honest clean) s holds.1) in
           did left settled s (is.0, is.1.keeps) is.1.crash files may
+  opened_lived other first last closing said found ends honest did = absurd ends
 
   -- ---- a list guard that was made
 
-  made_lived : (o : Option Ended) (it : Store) (closing : Result (Unit {0}) StationFault) → MakesList image it
-      → IsSomeAnd o (EndsList it closing) → IfSome o (IsListed g image Said.none)
-  made_lived None it closing made ends = tt
-  made_lived (Some left) it closing made ends = λ clean whole.
+  made_lived : (o : Files) (it : Store) (closing : Result (Unit {0}) StationFault) → MakesList image it
+      → AreLeftAs o (EndsList it closing) → Told Said.none o
+  made_lived (now.Left left) it closing made ends = λ clean whole.
       let settled : IsSettled it left = record { ends = ends.0; clean = clean; whole = whole } in
       runs_on image Said.none (outcomes g left.1.log left.1.db)
       (λ files may before holds. by_standing settled files may before holds)
@@ -209,146 +221,212 @@ module _ (Dk : Type 0) (g : Ghosts Dk) (image : Image) where
           ([], Some opened, refl, (refl, inr refl), (tt, either which)) in reaches)
       by_standing settled files may (Some s) holds =
           let clean = settled_clean it left settled in
-          absurd (made.0.right (s, made.0.files.held (made.0.honest clean) s holds.1))
+          let has = made.0.files.held (made.0.honest clean) s holds.1 in
+          absurd (made.0.right (ap (λ (schema : Schema). is_empty schema) has.now.schema))
+  made_lived other it closing made ends = absurd ends
+
+  -- ---- a list guard that wasn't opened or made
+
+  -- the files hold this still, and no list was stated
+  stood : (before : Standing) (q : Question) (held holds : Option (List ℕ)) (files : Image) → holds ≡ held
+      → Holds files before → Reaches before (Said.judging q held holds) files
+  stood None q held holds files same has =
+      (record { asked = q; told = None } ∷ [], None, (None, refl, none_told held holds same), (refl, inl refl), has)
+  stood (Some s) q held holds files same has =
+      reached s s q None held holds files (inl refl) (none_told held holds same) has
+
+  -- the files hold what they held
+  again_lived : (q : Question) (held holds : Option (List ℕ)) → holds ≡ held → (e : StationFault) (o : Files)
+      → AreLeftAs o (λ left. (left.0 ≡ Ok tt) × FindsNone g image e left.1) → Told (Said.judging q held holds) o
+  again_lived q held holds same e (now.Left left) again = λ clean whole.
+      runs_on image (Said.judging q held holds) (outcomes g left.1.log left.1.db)
+      (λ files may before found.
+      ∥∥₁_map (again.1.holds clean files may)
+      (λ has. stood before q held holds files same (same_standing image files has before found)))
+  again_lived q held holds same e other again = absurd again
+
+  -- the same, if they were opened
+  unopened_lived : (q : Question) (held holds : Option (List ℕ)) → holds ≡ held → (e : StationFault) (old new : Files)
+      → AreUnopened value old → OpensLeaving {g = g} image (Err e) old new → Told (Said.judging q held holds) new
+  unopened_lived q held holds same e old new unopened (inl is) =
+      no_files_told g image value (IsListed g image (Said.judging q held holds)) IsOfSearch e old new unopened is
+  unopened_lived q held holds same e old new unopened (inr again) =
+      again_lived q held holds same e new again
+
+  unmade : (before : Standing) (files : Image) → IsOrBegins files before → Reaches before Said.none files
+  unmade None files (inl has) = ([], None, refl, (refl, inl refl), has)
+  unmade None files (inr new) = ([], Some opened, refl, (refl, inr refl), new.1)
+  unmade (Some s) files (inl has) = ([], Some s, refl, (s, refl, refl), has)
+  unmade (Some s) files (inr new) = let no = new.0 in absurd cc
+
+  -- the files hold what they held, or the new list guard in place of none
+  begun_lived : (e : StationFault) (o : Files)
+      → AreLeftAs o (λ left. (left.0 ≡ Ok tt) × MakesNone g image e left.1) → Told Said.none o
+  begun_lived e (now.Left left) again = λ clean whole.
+      runs_on image Said.none (outcomes g left.1.log left.1.db)
+      (λ files may before found.
+      ∥∥₁_map (or_begins g image e left.1 again.1 clean files may before found) (λ is. unmade before files is))
+  begun_lived e other again = absurd again
+
+  -- the same, if they were opened
+  unmade_lived : (e : StationFault) (old new : Files) → AreUnopened value old
+      → MakesLeaving {g = g} image (Err e) old new → Told Said.none new
+  unmade_lived e old new unopened (inl is) =
+      no_files_told g image value (IsListed g image Said.none) IsOfFiles e old new unopened is
+  unmade_lived e old new unopened (inr again) = begun_lived e new again
 
   -- ---- jobs
 
-  module _ {L : Type 0} (keeper : lister.Ghosts Store) (lists_file : lists.Ghosts L Store) (left_of : L → Option Ended)
-    where
-      -- the list guard of the file is one of such files
-      pub record IsOver : Type 0 where
-        pub opens : (db after : L) (path : List ℕ) (found : Result Store StationFault)
-            → lists_file.opens db path found after → IfOk found (FindsList image) × (left_of after ≡ left_of db)
-        pub makes : (db after : L) (path : List ℕ) (found : Result Store StationFault)
-            → lists_file.makes db path found after → IfOk found (MakesList image) × (left_of after ≡ left_of db)
-        pub closes : (db after : L) (it : Store) (r : Result (Unit {0}) StationFault) → lists_file.closes db it r after
-            → IsSomeAnd (left_of after) (EndsList it r)
-        pub stores : (it : Store) (s : State) → (it.last ≡ s.last) × Keeps (file_state it.conn) s
-            → Leaves (file_state it.conn) s s → Stores keeper it s
-        pub keeps : (it : Store) (s : State) → keeper.keeps it s → Keeps (file_state it.conn) s
-        pub leaves : (it : Store) (s t : State) → keeper.leaves it s t → Leaves (file_state it.conn) s t
-        pub honest : (it : Store) → HasCleanDisk (file_state it.conn) → keeper.is_honest it
-        pub is_clean : (it : Store) → keeper.is_honest it → HasCleanDisk (file_state it.conn)
+  module _ {L : Type 0} (keeper : lister.Ghosts Store) (lists_file : lists.Ghosts L Store) (files_of : L → Files) where
+    -- the list guard of the file is one of such files
+    pub record IsOver : Type 0 where
+      pub opens : (db after : L) (path : List ℕ) (found : Result Store StationFault)
+          → lists_file.opens db path found after
+          → IfOk found (FindsList image)
+          × OpensLeaving image found (files_of db) (files_of after)
+      pub makes : (db after : L) (path : List ℕ) (found : Result Store StationFault)
+          → lists_file.makes db path found after
+          → IfOk found (MakesList image)
+          × MakesLeaving image found (files_of db) (files_of after)
+      pub closes : (db after : L) (it : Store) (r : Result (Unit {0}) StationFault) → lists_file.closes db it r after
+          → AreLeftAs (files_of after) (EndsList it r)
+      pub stores : (it : Store) (s : State) → (it.last ≡ s.last) × Keeps (file_state it.conn) s
+          → Leaves (file_state it.conn) s s → Stores keeper it s
+      pub keeps : (it : Store) (s : State) → keeper.keeps it s → Keeps (file_state it.conn) s
+      pub leaves : (it : Store) (s t : State) → keeper.leaves it s t → Leaves (file_state it.conn) s t
+      pub honest : (it : Store) → HasCleanDisk (file_state it.conn) → keeper.is_honest it
+      pub is_clean : (it : Store) → keeper.is_honest it → HasCleanDisk (file_state it.conn)
 
-      module _ (over : IsOver) (db db' : L) (none : left_of db ≡ None) where
-        untouched : (P : Ended → Type 0) → left_of db' ≡ None → IfSome (left_of db') P
-        untouched P is = subst (λ (o : Option Ended). IfSome o P) (sym is) tt
+    module _ (over : IsOver) (db db' : L) (unopened : AreUnopened value (files_of db)) where
+      -- what became of the files, if they were opened and this holds of how they are left
+      abbrev ToldBy : (Ended → Type 0) → Files → Type 0
+      ToldBy Is files = AreGivenBack g image value Is files
 
-        leaves_one : (it : Store) (s : State) (q : Question) → LeavesOne s (keeper.leaves it) q
-            → LeavesOne s (Leaves (file_state it.conn)) q
-        leaves_one it s q (inl leaves) = inl (over.leaves it s s leaves)
-        leaves_one it s q (inr (approved, leaves)) = inr (approved, over.leaves it s (with_last q.list) leaves)
+      untouched : (Is : Ended → Type 0) → db' ≡ db → ToldBy Is (files_of db')
+      untouched Is same = unopened_told g image value Is (files_of db') (ap files_of same ∙ unopened)
 
-        made_listed : (path : List ℕ) (result : Result (Unit {0}) StationFault)
-            → MakesIn lists_file db db' path result → IfSome (left_of db') (IsListed g image Said.none)
-        made_listed path result is = by_found is.found is.is_made is.ran
+      -- nothing was done after the opening
+      at_once : (said : Said) {o : Files} → files_of db' ≡ o → Told said o → Told said (files_of db')
+      at_once said same is = subst (λ (o : Files). Told said o) (sym same) is
+
+      leaves_one : (it : Store) (s : State) (q : Question) → LeavesOne s (keeper.leaves it) q
+          → LeavesOne s (Leaves (file_state it.conn)) q
+      leaves_one it s q (inl leaves) = inl (over.leaves it s s leaves)
+      leaves_one it s q (inr (approved, leaves)) = inr (approved, over.leaves it s (with_last q.list) leaves)
+
+      made_listed : (path : List ℕ) (result : Result (Unit {0}) StationFault)
+          → MakesIn lists_file db db' path result → Told Said.none (files_of db')
+      made_listed path result is = by_found is.found is.is_made is.ran
+        where
+          by_found : (found : Result Store StationFault) → lists_file.makes db path found is.opened
+              → Follows (λ it r. lists_file.closes is.opened it r db') (db' ≡ is.opened) found result
+              → Told Said.none (files_of db')
+          by_found (Ok it) makes ran =
+              made_lived (files_of db') it result (over.makes db is.opened path (Ok it) makes).0
+              (over.closes is.opened db' it result ran)
+          by_found (Err e) makes ran =
+              at_once Said.none (ap files_of ran.1)
+              (unmade_lived e (files_of db) (files_of is.opened) unopened
+              (over.makes db is.opened path (Err e) makes).1)
+
+      module _ {E F : Type 0} (world : surroundings.Ghosts E F) (around : E) where
+        -- a list was judged over a list guard, and this is what the files hold
+        came : (first last : Store) (q : Question) (held holds : Option (List ℕ))
+            (outcome : Result (Unit {0}) StationFault) → States world around keeper q held holds first last outcome
+            → (left : Ended) → IsSettled last left → (s : State)
+            → (first.last ≡ s.last) × Keeps (file_state first.conn) s → Leaves (file_state first.conn) s s
+            → (files : Image) → outcomes g left.1.log left.1.db files
+            → ∥ Reaches (Some s) (Said.judging q held holds) files ∥₁
+        came first last q held holds outcome did left settled s keeps leaves files may =
+            let honest = over.honest last (settled_clean last left settled) in
+            let stores = over.stores first s keeps leaves in
+            by_states (did.states honest s stores) (leaves_one last s q (did.crash honest s stores))
           where
-            by_found : (found : Result Store StationFault) → lists_file.makes db path found is.opened
-                → Follows (λ it r. lists_file.closes is.opened it r db') (db' ≡ is.opened) found result
-                → IfSome (left_of db') (IsListed g image Said.none)
-            by_found (Ok it) makes ran =
-                made_lived (left_of db') it result (over.makes db is.opened path (Ok it) makes).0
-                (over.closes is.opened db' it result ran)
-            by_found (Err e) makes ran =
-                untouched (IsListed g image Said.none)
-                (ap left_of ran.1 ∙ ((over.makes db is.opened path (Err e) makes).1 ∙ none))
+            by_states : StatesOne s (λ _ t. Stores keeper last t) (Loses keeper last s q) (world.shows around) q held
+                holds outcome → LeavesOne s (Leaves (file_state last.conn)) q
+                → ∥ Reaches (Some s) (Said.judging q held holds) files ∥₁
+            by_states (inl is) crash =
+                let t = left_by is.answer s q in
+                answered last left settled s q held holds files may is.answer is.moment outcome is.answers is.printed
+                (over.keeps last t is.left.0) (over.leaves last t t is.left.1)
+            by_states (inr (e, failed, loses, same)) crash =
+                lost last left settled s q held holds files may (over.keeps last s loses.0) crash same
 
-        module _ {E F : Type 0} (world : surroundings.Ghosts E F) (around : E) where
-          -- a list was judged over a list guard, and this is what the files hold
-          came : (first last : Store) (q : Question) (held holds : Option (List ℕ))
-              (outcome : Result (Unit {0}) StationFault) → States world around keeper q held holds first last outcome
-              → (left : Ended) → IsSettled last left → (s : State)
-              → (first.last ≡ s.last) × Keeps (file_state first.conn) s → Leaves (file_state first.conn) s s
-              → (files : Image) → outcomes g left.1.log left.1.db files
-              → ∥ Reaches (Some s) (Said.judging q held holds) files ∥₁
-          came first last q held holds outcome did left settled s keeps leaves files may =
-              let honest = over.honest last (settled_clean last left settled) in
-              let stores = over.stores first s keeps leaves in
-              by_states (did.states honest s stores) (leaves_one last s q (did.crash honest s stores))
-            where
-              by_states : StatesOne s (λ _ t. Stores keeper last t) (Loses keeper last s q) (world.shows around) q held
-                  holds outcome → LeavesOne s (Leaves (file_state last.conn)) q
-                  → ∥ Reaches (Some s) (Said.judging q held holds) files ∥₁
-              by_states (inl is) crash =
-                  let t = left_by is.answer s q in
-                  answered last left settled s q held holds files may is.answer is.moment outcome is.answers is.printed
-                  (over.keeps last t is.left.0) (over.leaves last t t is.left.1)
-              by_states (inr (e, failed, loses, same)) crash =
-                  lost last left settled s q held holds files may (over.keeps last s loses.0) crash same
+        ran_listed : (path : List ℕ) (q : Question) (held holds : Option (List ℕ))
+            (result : Result (Unit {0}) StationFault)
+            → RunsIn lists_file db db' path (States world around keeper q held holds) (holds ≡ held) result
+            → Told (Said.judging q held holds) (files_of db')
+        ran_listed path q held holds result is = by_found is.found is.is_opened is.ran
+          where
+            by_found : (found : Result Store StationFault) → lists_file.opens db path found is.opened
+                → Follows (RunsOver lists_file db db' path (States world around keeper q held holds) is.opened)
+                ((db' ≡ is.opened) × (holds ≡ held)) found result
+                → Told (Said.judging q held holds) (files_of db')
+            by_found (Ok first) opens ran =
+                opened_lived (files_of db') first ran.last ran.closing (Said.judging q held holds)
+                (over.opens db is.opened path (Ok first) opens).0
+                (over.closes is.opened db' ran.last ran.closing ran.is_closed)
+                (λ clean. over.is_clean first (ran.did.honest (over.honest ran.last clean)))
+                (came first ran.last q held holds ran.outcome ran.did)
+            by_found (Err e) opens ran =
+                at_once (Said.judging q held holds) (ap files_of ran.1.0)
+                (unopened_lived q held holds ran.1.1 e (files_of db) (files_of is.opened) unopened
+                (over.opens db is.opened path (Err e) opens).1)
 
-          ran_listed : (path : List ℕ) (q : Question) (held holds : Option (List ℕ))
-              (result : Result (Unit {0}) StationFault)
-              → RunsIn lists_file db db' path (States world around keeper q held holds) (holds ≡ held) result
-              → IfSome (left_of db') (IsListed g image (Said.judging q held holds))
-          ran_listed path q held holds result is = by_found is.found is.is_opened is.ran
-            where
-              by_found : (found : Result Store StationFault) → lists_file.opens db path found is.opened
-                  → Follows (RunsOver lists_file db db' path (States world around keeper q held holds) is.opened)
-                  ((db' ≡ is.opened) × (holds ≡ held)) found result
-                  → IfSome (left_of db') (IsListed g image (Said.judging q held holds))
-              by_found (Ok first) opens ran =
-                  opened_lived (left_of db') first ran.last ran.closing (Said.judging q held holds)
-                  (over.opens db is.opened path (Ok first) opens).0
-                  (over.closes is.opened db' ran.last ran.closing ran.is_closed)
-                  (λ clean. over.is_clean first (ran.did.honest (over.honest ran.last clean)))
-                  (came first ran.last q held holds ran.outcome ran.did)
-              by_found (Err e) opens ran =
-                  untouched (IsListed g image (Said.judging q held holds))
-                  (ap left_of ran.1.0 ∙ ((over.opens db is.opened path (Err e) opens).1 ∙ none))
+        module _ (remaining : F → Option (List ℕ)) where
+          abbrev By : StationJob → (held holds : Option (List ℕ)) → Ended → Type 0
+          By job held holds = IsListedBy world around remaining g image job held holds
 
-          module _ (remaining : F → Option (List ℕ)) where
-            abbrev By : StationJob → (held holds : Option (List ℕ)) → Ended → Type 0
-            By job held holds = IsListedBy world around remaining g image job held holds
+          prints_listed : (o : Files) (job : StationJob) (held holds : Option (List ℕ)) (said : Said)
+              → Prints world around remaining job held holds said → Told said o → ToldBy (By job held holds) o
+          prints_listed (now.Unopened still) job held holds said prints is = is
+          prints_listed now.Connected job held holds said prints is = is
+          prints_listed (now.Failed fault) job held holds said prints is = is
+          prints_listed (now.Left left) job held holds said prints is = (said, prints, is)
 
-            prints_listed : (o : Option Ended) (job : StationJob) (held holds : Option (List ℕ)) (said : Said)
-                → Prints world around remaining job held holds said → IfSome o (IsListed g image said)
-                → IfSome o (By job held holds)
-            prints_listed None job held holds said prints is = tt
-            prints_listed (Some left) job held holds said prints is = (said, prints, is)
+          module _ {D G : Type 0} (guard : register.Ghosts G) (file : file.Ghosts D G) (before after : D) where
+            job_listed : (job : StationJob) (held holds : Option (List ℕ)) (result : Result (Unit {0}) StationFault)
+                → DoesList world around remaining guard file before after keeper lists_file db db' job held
+                holds result → ToldBy (By job held holds) (files_of db')
+            job_listed (job.Lists path) held holds result is =
+                prints_listed (files_of db') (job.Lists path) held holds Said.none refl
+                (made_listed (string_bytes path) is.made is.is_made)
+            job_listed (job.List words) held holds result is = by_asked is.asked is.read is.judged
+              where
+                by_asked : (asked : Result Question StationFault)
+                    → IsRead world around remaining (map string_bytes words.cas.items) words.begins
+                    (string_bytes words.list) asked
+                    → Follows
+                    (λ q. RunsIn lists_file db db' (string_bytes words.db) (States world around keeper q held holds)
+                    (holds ≡ held)) ((db' ≡ db) × (holds ≡ held)) asked result
+                    → ToldBy (By (job.List words) held holds) (files_of db')
+                by_asked (Ok q) read ran =
+                    prints_listed (files_of db') (job.List words) held holds (Said.judging q held holds)
+                    (q, read, refl) (ran_listed (string_bytes words.db) q held holds result ran)
+                by_asked (Err e) read ran = untouched (By (job.List words) held holds) ran.1.0
+            job_listed (job.Init path ca first last) held holds result is =
+                untouched (By (job.Init path ca first last) held holds) is
+            job_listed (job.Judge words) held holds result is =
+                untouched (By (job.Judge words) held holds) is
+            job_listed (job.Bodies path) held holds result is =
+                untouched (By (job.Bodies path) held holds) is
+            job_listed (job.Body path serial) held holds result is =
+                untouched (By (job.Body path serial) held holds) is
+            job_listed (job.Policy path) held holds result is =
+                untouched (By (job.Policy path) held holds) is
+            job_listed (job.Retire path last) held holds result is =
+                untouched (By (job.Retire path last) held holds) is
 
-            module _ {D G : Type 0} (guard : register.Ghosts G) (file : file.Ghosts D G) (before after : D) where
-              job_listed : (job : StationJob) (held holds : Option (List ℕ)) (result : Result (Unit {0}) StationFault)
-                  → DoesList world around remaining guard file before after keeper lists_file db db' job held
-                  holds result → IfSome (left_of db') (By job held holds)
-              job_listed (job.Lists path) held holds result is =
-                  prints_listed (left_of db') (job.Lists path) held holds Said.none refl
-                  (made_listed (string_bytes path) is.made is.is_made)
-              job_listed (job.List words) held holds result is = by_asked is.asked is.read is.judged
-                where
-                  by_asked : (asked : Result Question StationFault)
-                      → IsRead world around remaining (map string_bytes words.cas.items) words.begins
-                      (string_bytes words.list) asked
-                      → Follows
-                      (λ q. RunsIn lists_file db db' (string_bytes words.db) (States world around keeper q held holds)
-                      (holds ≡ held)) ((db' ≡ db) × (holds ≡ held)) asked result
-                      → IfSome (left_of db') (By (job.List words) held holds)
-                  by_asked (Ok q) read ran =
-                      prints_listed (left_of db') (job.List words) held holds (Said.judging q held holds)
-                      (q, read, refl) (ran_listed (string_bytes words.db) q held holds result ran)
-                  by_asked (Err e) read ran = untouched (By (job.List words) held holds) (ap left_of ran.1.0 ∙ none)
-              job_listed (job.Init path ca first last) held holds result is =
-                  untouched (By (job.Init path ca first last) held holds) (ap left_of is ∙ none)
-              job_listed (job.Judge words) held holds result is =
-                  untouched (By (job.Judge words) held holds) (ap left_of is ∙ none)
-              job_listed (job.Bodies path) held holds result is =
-                  untouched (By (job.Bodies path) held holds) (ap left_of is ∙ none)
-              job_listed (job.Body path serial) held holds result is =
-                  untouched (By (job.Body path serial) held holds) (ap left_of is ∙ none)
-              job_listed (job.Policy path) held holds result is =
-                  untouched (By (job.Policy path) held holds) (ap left_of is ∙ none)
-              job_listed (job.Retire path last) held holds result is =
-                  untouched (By (job.Retire path last) held holds) (ap left_of is ∙ none)
-
-              -- the words' job was a run
-              pub words_listed : (words : List (List ℕ)) (input held holds : Option (List ℕ)) (answered : ℕ)
-                  (left : Option Ended) → left ≡ left_of db'
-                  → DoesWords world around remaining guard file before after keeper lists_file db db' words input
-                  held holds answered → AreListed world around remaining g image words held holds left
-              words_listed words input held holds answered left same (inl is) = inl (
-                is.0,
-                is.2,
-                subst (λ (o : Option Ended). IfSome o (By is.0 held holds)) (sym same)
-                    (job_listed is.0 held holds is.1 is.4),
-              )
-              words_listed words input held holds answered left same (inr is) =
-                  inr (is.0, is.1, same ∙ (ap left_of is.3 ∙ none))
+            -- the words' job was a run
+            pub words_listed : (words : List (List ℕ)) (input held holds : Option (List ℕ)) (Taken : List ℕ → Type 0)
+                (answered : ℕ) (files : Files) → files ≡ files_of db'
+                → DoesWords world around remaining guard file before after keeper lists_file db db' words input
+                held holds Taken answered → AreListed world around remaining g image value words held holds files
+            words_listed words input held holds Taken answered files same (inl is) = inl (
+              is.0,
+              is.2,
+              subst (λ (o : Files). ToldBy (By is.0 held holds) o) (sym same)
+                  (job_listed is.0 held holds is.1 is.4),
+            )
+            words_listed words input held holds Taken answered files same (inr is) =
+                inr (is.0, is.1, same ∙ (ap files_of is.3 ∙ unopened))

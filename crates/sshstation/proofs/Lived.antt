@@ -1,15 +1,15 @@
 -- A job over the files of a guard, as a run in their lifetime.
 use Rattle.std.proofs.Common.{◌≡◌, ◌⊎◌, ◌<◌, ◌^◌, ◌∙◌, ◌∷◌, [], ℕ, All, List, Option, Some, None, Result, Ok, Err, ap}
 use Rattle.std.proofs.Common.{arith, inl, inr, map, refl, subst, sym}
-use Rattle.std.specs.Prelude.{IfOk, IfSome, IsSomeAnd, OnOk, string_bytes}
+use Rattle.std.specs.Prelude.{IfErr, IfOk, string_bytes}
 use Rattle.std.proofs.Math.Logic.{∥∥₁_map}
 use Rattle.std.proofs.lemmas.List.Elements.{All-cons, All-nil}
 use Rattle.sqlite_disk.specs.declared.Disk.{Ghosts}
-use Rattle.sqlite_disk.specs.declared.Files.{Files}
 use Rattle.sqlite_wal.specs.Recovery.{Image}
 use Rattle.sqlite_wal.specs.Files.{outcomes}
 use Rattle.sqlite_store.specs.declared.store.FileStore.{FileStore}
 use Rattle.sqlite.specs.State.{HasCleanDisk}
+use Rattle.sqlite.specs.Schema.{Schema}
 use Rattle.sqlite.specs.Files.{file_state}
 use Rattle.message.specs.declared.department.Department.{Department}
 use Rattle.guard.specs.declared.register.Register as register
@@ -19,9 +19,8 @@ use Rattle.guard.specs.Retirement.{if_retired}
 use Rattle.guard.specs.Retiring.{with_last}
 use Rattle.guard_sql.specs.declared.store.GuardStore.{GuardStore}
 use Rattle.guard_sql.specs.Keeping.{IsGuard}
-use Rattle.guard_sql.specs.Opening.{FoundsNone}
+use Rattle.guard_sql.specs.Look.{is_empty}
 use Rattle.guard_sql.proofs.Changed.{last_below, lower_lawful, more_lawful}
-use Rattle.restart.specs.declared.ending.EndFault.{EndFault}
 use Rattle.restart.specs.Images.{HoldsNone}
 use Rattle.station_command.specs.declared.job.StationJob.{StationJob}
 use Rattle.station_command.specs.declared.job.StationJob.TheVariants as job
@@ -31,23 +30,27 @@ use Rattle.station_jobs.specs.declared.guard_file.GuardFile as file
 use Rattle.station_jobs.specs.declared.station_fault.StationFault.{StationFault}
 use Rattle.station_jobs.specs.declared.station_fault.StationFault.TheVariants.{BadSerials, SerialApproved}
 use Rattle.station_jobs.specs.declared.surroundings.Surroundings as surroundings
-use Rattle.station_jobs.specs.Bodies.{ListsBodies, PrintsBody}
+use Rattle.station_jobs.specs.Bodies.{PrintsBody, PrintsRows}
 use Rattle.station_jobs.specs.Jobs.{InitsIn}
 use Rattle.station_jobs.specs.Judging.{AsksNow}
 use Rattle.station_jobs.specs.Leaving.{IsNext, OfBodies, OfNone, OfRetiring, Step as JobStep}
-use Rattle.station_jobs.specs.Whole.{Begins, ClosesNew, Follows, JudgesGiven, LeavesFiles, MakesIn, Retires, RetiresTo}
-use Rattle.station_jobs.specs.Whole.{RunsIn, RunsOver, is_input}
+use Rattle.station_jobs.specs.Whole.{Begins, ClosesNew, Follows, IsOfGiven, JudgesGiven, LeavesFiles, MakesIn, Retires}
+use Rattle.station_jobs.specs.Whole.{RetiresTo, RunsIn, RunsOver, is_input}
 use Rattle.guard_restart.specs.Images.{Holds, HoldsGuard, HoldsKept, Standing}
 use Rattle.guard_restart.specs.Lives.{Backs, IsRun, Said}
 use Rattle.guard_restart.specs.Steps.{Step, stepped}
 use Rattle.guard_restart.proofs.Lives.{runs_on, said_later}
 use Rattle.guard_restart.proofs.Steps.{after_step}
+use Rattle.sshstation.specs.declared.database_files.DatabaseFiles.{DatabaseFiles}
+use Rattle.sshstation.specs.declared.database_files.DatabaseFiles.TheVariants as now
+use Rattle.sshstation.specs.DatabaseFiles.{AreLeftAs, AreGivenBack, AreUnopened, Ended}
 use Rattle.sshstation.specs.Doing.{BeginsAt, DoesJob, DoesWords, InitsAt}
 use Rattle.sshstation.specs.GuardFiles.{AreSettled, EndsGuard, FindsGuard, HaveGuard, HaveOne, IsOfFiles, IsOfSearch}
-use Rattle.sshstation.specs.GuardFiles.{MakesGuard, OpensNone, SaysAndMisses}
+use Rattle.sshstation.specs.GuardFiles.{MakesGuard}
 use Rattle.sshstation.specs.Living.{AreLived, IsLived, MayTake, said_by}
-use Rattle.sshstation.specs.Unopened.{HoldAgain, HoldAgainOrBegin, IsOrBegins, MakesLeaving, OpensLeaving}
-use Rattle.sshstation.proofs.Kept.{ends_honest}
+use Rattle.sshstation.specs.Unopened.{FindsNone, MakesLeaving, MakesNone, OpensLeaving}
+use Rattle.sshstation.proofs.Kept.{ended_honest}
+use Rattle.sshstation.proofs.Unopened.{IsOrBegins, no_files_told, or_begins, same_standing, unopened_told}
 use Rattle.sshstation.proofs.Saying.{Covers, Lasts, Leads, backs_none, given_last, leads_one, leads_then, next_leads}
 use Rattle.sshstation.proofs.Saying.{same_lasts, silent, silent_none}
 
@@ -84,14 +87,18 @@ module _ (Taken : Step → Type 0) (last : ℕ) (taken : Taken (Step.retiring la
   }
   retires_to_last s Left (Err BadSerials) is = same_lasts Taken s Left (Err BadSerials) is.1
   retires_to_last s Left (Err SerialApproved) is = same_lasts Taken s Left (Err SerialApproved) is.1
-  retires_to_last s Left (Err e) is = same_lasts Taken s Left (Err e) is
+  retires_to_last s Left (Err e) is = same_lasts Taken s Left (Err e) is.1
 
-module _ (Dk : Type 0) (g : Ghosts Dk) (image : Image) where
+module _ (S Dk : Type 0) (g : Ghosts Dk) (image : Image) (value : S) where
   abbrev Store : Type 0
   Store = GuardStore (FileStore Dk g)
 
-  abbrev Left : Type 0
-  Left = Result (Unit {0}) EndFault × Files Dk
+  abbrev Files : Type 0
+  Files = DatabaseFiles S Dk
+
+  -- what became of the files after a job with steps of this sort
+  abbrev Told : (Taken : Step → Type 0) → Said → Files → Type 0
+  Told Taken said files = AreGivenBack g image value (IsLived g image Taken said) files
 
   -- ---- what may be left of the files is left by a run
 
@@ -127,13 +134,13 @@ module _ (Dk : Type 0) (g : Ghosts Dk) (image : Image) where
       (next_lawful May t next guard is, it)
 
   -- the guard with this state is in the files; after a fault, this one or the next one is
-  abbrev Filed : (May : JobStep → Type 0) → Option Left → Store → Result (Unit {0}) StationFault → State → Type 0
-  Filed May o last (Ok done) t = IsSomeAnd o (HaveGuard last t)
-  Filed May o last (Err e) t = (next : State) × IsNext May t next × IsSomeAnd o (HaveOne last t next)
+  abbrev Filed : (May : JobStep → Type 0) → Files → Store → Result (Unit {0}) StationFault → State → Type 0
+  Filed May o last (Ok done) t = AreLeftAs o (HaveGuard last t)
+  Filed May o last (Err e) t = (next : State) × IsNext May t next × AreLeftAs o (HaveOne last t next)
 
-  comes : (May : JobStep → Type 0) (Taken : Step → Type 0) → Covers May Taken → (left : Left) (last : Store)
+  comes : (May : JobStep → Type 0) (Taken : Step → Type 0) → Covers May Taken → (left : Ended Dk) (last : Store)
       (closing : Result (Unit {0}) StationFault) (s t : State) (said : Said) → HoldsKept image s → Leads Taken s t
-      → Backs (Some t) said → Filed May (Some left) last closing t → (files : Image)
+      → Backs (Some t) said → Filed May (now.Left left) last closing t → (files : Image)
       → outcomes g left.1.log left.1.db files → ∥ Comes Taken (Some s) said files ∥₁
   comes May Taken covers left last (Ok done) s t said holds took backs filed files may =
       ∣ led Taken s t said files holds took backs (filed files may) ∣₁
@@ -142,17 +149,16 @@ module _ (Dk : Type 0) (g : Ghosts Dk) (image : Image) where
       (λ which. one_of May Taken covers s t next said files holds took backs filed.0 is which)
 
   -- a guard that was opened, worked on and closed
-  opened_lived : (May : JobStep → Type 0) (Taken : Step → Type 0) → Covers May Taken → (o : Option Left)
+  opened_lived : (May : JobStep → Type 0) (Taken : Step → Type 0) → Covers May Taken → (o : Files)
       (first last : Store) (closing : Result (Unit {0}) StationFault) (said : Said)
-      → FindsGuard image first → IsSomeAnd o (EndsGuard last closing)
+      → FindsGuard image first → AreLeftAs o (EndsGuard last closing)
       → (HasCleanDisk (file_state last.conn) → HasCleanDisk (file_state first.conn))
-      → (IsSomeAnd o (AreSettled last) → (s : State) → HoldsKept image s
+      → (AreLeftAs o (AreSettled last) → (s : State) → HoldsKept image s
       → (t : State) × Leads Taken s t × Backs (Some t) said × Filed May o last closing t)
-      → IfSome o (IsLived g image Taken said)
-  opened_lived May Taken covers None first last closing said found ends honest did = tt
-  opened_lived May Taken covers (Some left) first last closing said found ends honest did = λ clean whole.
+      → Told Taken said o
+  opened_lived May Taken covers (now.Left left) first last closing said found ends honest did = λ clean whole.
       let settled : AreSettled last left = (clean, whole) in
-      let was_clean = honest (ends_honest last closing (Some left) ends settled) in
+      let was_clean = honest (ended_honest last closing left.0 left.1 ends settled) in
       runs_on image Taken said (outcomes g left.1.log left.1.db)
       (λ files may before holds. by_standing settled was_clean files may before holds)
     where
@@ -164,11 +170,12 @@ module _ (Dk : Type 0) (g : Ghosts Dk) (image : Image) where
       by_standing settled clean files may (Some s) holds =
           let it = did settled s holds in
           comes May Taken covers left last closing s it.0 said holds it.1 it.2 it.3 files may
+  opened_lived May Taken covers other first last closing said found ends honest did = absurd ends
 
   -- the new guard is in the files, whole
-  abbrev FiledNew : Option Left → Store → Result (Unit {0}) StationFault → State → Type 0
-  FiledNew o it (Ok done) t = IsSomeAnd o (HaveGuard it t)
-  FiledNew o it (Err e) t = IsSomeAnd o (HaveOne it t t)
+  abbrev FiledNew : Files → Store → Result (Unit {0}) StationFault → State → Type 0
+  FiledNew o it (Ok done) t = AreLeftAs o (HaveGuard it t)
+  FiledNew o it (Err e) t = AreLeftAs o (HaveOne it t t)
 
   -- the guard was made in files that held none
   begun : (Taken : Step → Type 0) (scope : Scope) → Taken (Step.making scope) → (files : Image) → HoldsNone image
@@ -179,9 +186,9 @@ module _ (Dk : Type 0) (g : Ghosts Dk) (image : Image) where
     record { found = blank; left = left; backs = backs_none (opened scope) },
   )
 
-  made_comes : (Taken : Step → Type 0) (left : Left) (it : Store) (closing : Result (Unit {0}) StationFault)
+  made_comes : (Taken : Step → Type 0) (left : Ended Dk) (it : Store) (closing : Result (Unit {0}) StationFault)
       (scope : Scope) → Taken (Step.making scope) → HoldsNone image
-      → FiledNew (Some left) it closing (opened scope) → (files : Image) → outcomes g left.1.log left.1.db files
+      → FiledNew (now.Left left) it closing (opened scope) → (files : Image) → outcomes g left.1.log left.1.db files
       → ∥ Comes Taken None Said.none files ∥₁
   made_comes Taken left it (Ok done) scope taken blank filed files may =
       ∣ begun Taken scope taken files blank (filed files may) ∣₁
@@ -192,14 +199,13 @@ module _ (Dk : Type 0) (g : Ghosts Dk) (image : Image) where
       either (inr h) = begun Taken scope taken files blank (filed.0, h)
 
   -- a guard that was made and closed
-  made_lived : (Taken : Step → Type 0) (o : Option Left) (it : Store) (closing : Result (Unit {0}) StationFault)
-      (scope : Scope) → Taken (Step.making scope) → MakesGuard image scope it → IsSomeAnd o (EndsGuard it closing)
-      → (IsSomeAnd o (AreSettled it) → HoldsNone image → FiledNew o it closing (opened scope))
-      → IfSome o (IsLived g image Taken Said.none)
-  made_lived Taken None it closing scope taken made ends did = tt
-  made_lived Taken (Some left) it closing scope taken made ends did = λ clean whole.
+  made_lived : (Taken : Step → Type 0) (o : Files) (it : Store) (closing : Result (Unit {0}) StationFault)
+      (scope : Scope) → Taken (Step.making scope) → MakesGuard image scope it → AreLeftAs o (EndsGuard it closing)
+      → (AreLeftAs o (AreSettled it) → HoldsNone image → FiledNew o it closing (opened scope))
+      → Told Taken Said.none o
+  made_lived Taken (now.Left left) it closing scope taken made ends did = λ clean whole.
       let settled : AreSettled it left = (clean, whole) in
-      let is_clean = ends_honest it closing (Some left) ends settled in
+      let is_clean = ended_honest it closing left.0 left.1 ends settled in
       runs_on image Taken Said.none (outcomes g left.1.log left.1.db)
       (λ files may before holds. by_standing settled is_clean files may before holds)
     where
@@ -209,7 +215,9 @@ module _ (Dk : Type 0) (g : Ghosts Dk) (image : Image) where
       by_standing settled clean files may None holds =
           made_comes Taken left it closing scope taken holds (did settled holds) files may
       by_standing settled clean files may (Some s) holds =
-          absurd (made.0.right (s, made.0.files.held (made.0.honest clean) s holds.1))
+          let has = made.0.files.held (made.0.honest clean) s holds.1 in
+          absurd (made.0.right (ap (λ (schema : Schema). is_empty schema) has.now.schema))
+  made_lived Taken other it closing scope taken made ends did = absurd ends
 
   -- ---- a guard that wasn't opened or made
 
@@ -222,16 +230,22 @@ module _ (Dk : Type 0) (g : Ghosts Dk) (image : Image) where
     record { found = holds; left = left; backs = backs },
   )
 
-  -- the files hold what they held, if they were opened
-  unopened_lived : (Taken : Step → Type 0) (said : Said) → ((p : Standing) → Backs p said) → (o : Option Left)
-      → (o ≡ None) ⊎ IsSomeAnd o (λ left. HoldAgain g image left.1) → IfSome o (IsLived g image Taken said)
-  unopened_lived Taken said backs None is = tt
-  unopened_lived Taken said backs (Some left) (inl none) = absurd cc
-  unopened_lived Taken said backs (Some left) (inr again) = λ clean whole.
+  -- the files hold what they held
+  again_lived : (Taken : Step → Type 0) (said : Said) → ((p : Standing) → Backs p said) → (e : StationFault) (o : Files)
+      → AreLeftAs o (λ left. (left.0 ≡ Ok tt) × FindsNone g image e left.1) → Told Taken said o
+  again_lived Taken said backs e (now.Left left) again = λ clean whole.
       runs_on image Taken said (outcomes g left.1.log left.1.db)
       (λ files may before holds.
-      ∥∥₁_map (again clean files may before holds)
-      (λ held. stood Taken before said files holds (backs before) held))
+      ∥∥₁_map (again.1.holds clean files may)
+      (λ same. stood Taken before said files holds (backs before) (same_standing image files same before holds)))
+  again_lived Taken said backs e other again = absurd again
+
+  -- the same, if they were opened
+  unopened_lived : (Taken : Step → Type 0) (said : Said) → ((p : Standing) → Backs p said) → (e : StationFault)
+      (old new : Files) → AreUnopened value old → OpensLeaving {g = g} image (Err e) old new → Told Taken said new
+  unopened_lived Taken said backs e old new unopened (inl is) =
+      no_files_told g image value (IsLived g image Taken said) IsOfSearch e old new unopened is
+  unopened_lived Taken said backs e old new unopened (inr is) = again_lived Taken said backs e new is
 
   unmade_comes : (Taken : Step → Type 0) (scope : Scope) → Taken (Step.making scope) → (files : Image)
       (before : Standing) → Holds image before → IsOrBegins files scope before → Comes Taken before Said.none files
@@ -241,64 +255,63 @@ module _ (Dk : Type 0) (g : Ghosts Dk) (image : Image) where
   unmade_comes Taken scope taken files (Some s) holds (inr new) = let no = new.0 in absurd cc
 
   -- the files hold what they held, or the new guard in place of none
-  unmade_lived : (Taken : Step → Type 0) (scope : Scope) → Taken (Step.making scope) → (o : Option Left)
-      → (o ≡ None) ⊎ IsSomeAnd o (λ left. HoldAgainOrBegin g image scope left.1)
-      → IfSome o (IsLived g image Taken Said.none)
-  unmade_lived Taken scope taken None is = tt
-  unmade_lived Taken scope taken (Some left) (inl none) = absurd cc
-  unmade_lived Taken scope taken (Some left) (inr again) = λ clean whole.
+  begun_lived : (Taken : Step → Type 0) (scope : Scope) → Taken (Step.making scope) → (e : StationFault) (o : Files)
+      → AreLeftAs o (λ left. (left.0 ≡ Ok tt) × MakesNone g image scope e left.1) → Told Taken Said.none o
+  begun_lived Taken scope taken e (now.Left left) again = λ clean whole.
       runs_on image Taken Said.none (outcomes g left.1.log left.1.db)
       (λ files may before holds.
-      ∥∥₁_map (again clean files may before holds) (λ is. unmade_comes Taken scope taken files before holds is))
+      ∥∥₁_map (or_begins g image scope e left.1 again.1 clean files may before holds)
+      (λ is. unmade_comes Taken scope taken files before holds is))
+  begun_lived Taken scope taken e other again = absurd again
 
-  -- there were no files before
-  from_none : (P : Left → Type 0) (Searched Opened : Type 0) (old new : Option Left) → old ≡ None
-      → (Searched × (new ≡ old)) ⊎ (Opened × IsSomeAnd new P) → (new ≡ None) ⊎ IsSomeAnd new P
-  from_none P Searched Opened old new none (inl is) = inl (is.1 ∙ none)
-  from_none P Searched Opened old new none (inr is) = inr is.1
+  -- the same, if they were opened
+  unmade_lived : (Taken : Step → Type 0) (scope : Scope) → Taken (Step.making scope) → (e : StationFault)
+      (old new : Files) → AreUnopened value old → MakesLeaving {g = g} image scope (Err e) old new
+      → Told Taken Said.none new
+  unmade_lived Taken scope taken e old new unopened (inl is) =
+      no_files_told g image value (IsLived g image Taken Said.none) IsOfFiles e old new unopened is
+  unmade_lived Taken scope taken e old new unopened (inr is) = begun_lived Taken scope taken e new is
 
   -- ---- jobs
 
-  module _ {D : Type 0} (guard : register.Ghosts Store) (file : file.Ghosts D Store) (left_of : D → Option Left) where
+  module _ {D : Type 0} (guard : register.Ghosts Store) (file : file.Ghosts D Store) (files_of : D → Files) where
     -- the guards of `file` are those over such files
     pub record IsOver : Type 0 where
       pub opens : (db after : D) (path : List ℕ) (found : Result Store StationFault) → file.opens db path found after
-          → IfOk found (FindsGuard image) × OpensLeaving image found (left_of db) (left_of after)
+          → IfOk found (FindsGuard image)
+          × OpensLeaving image found (files_of db) (files_of after)
       pub makes : (db after : D) (path : List ℕ) (scope : Scope) (found : Result Store StationFault)
           → file.makes db path scope found after
-          → IfOk found (MakesGuard image scope) × MakesLeaving image scope found (left_of db) (left_of after)
+          → IfOk found (MakesGuard image scope)
+          × MakesLeaving image scope found (files_of db) (files_of after)
       pub closes : (db after : D) (it : Store) (r : Result (Unit {0}) StationFault) → file.closes db it r after
-          → IsSomeAnd (left_of after) (EndsGuard it r)
+          → AreLeftAs (files_of after) (EndsGuard it r)
       pub held : (s : State) → HoldsKept image s → file.held s
       pub blank : HoldsNone image → file.is_blank
-      pub settles : (db : D) (it : Store) → IsSomeAnd (left_of db) (AreSettled it) → file.is_settled db it
-      pub has : (db : D) (it : Store) (s : State) → file.has db it s → IsSomeAnd (left_of db) (HaveGuard it s)
+      pub settles : (db : D) (it : Store) → AreLeftAs (files_of db) (AreSettled it) → file.is_settled db it
+      pub has : (db : D) (it : Store) (s : State) → file.has db it s → AreLeftAs (files_of db) (HaveGuard it s)
       pub has_one : (db : D) (it : Store) (s t : State) → file.has_one db it s t
-          → IsSomeAnd (left_of db) (HaveOne it s t)
+          → AreLeftAs (files_of db) (HaveOne it s t)
       pub honest : (it : Store) → HasCleanDisk (file_state it.conn) → guard.is_honest it
       pub is_clean : (it : Store) → guard.is_honest it → HasCleanDisk (file_state it.conn)
 
-    module _ (over : IsOver) (db db' : D) (none : left_of db ≡ None) where
+    module _ (over : IsOver) (db db' : D) (unopened : AreUnopened value (files_of db)) where
       filed : {A : Type 0} (May : JobStep → Type 0) (last : Store) (closing : Result (Unit {0}) StationFault)
           (t : State) (outcome : Result A StationFault) → LeavesFiles guard file May db' last closing t outcome
-          → Filed May (left_of db') last closing t
+          → Filed May (files_of db') last closing t
       filed May last (Ok done) t outcome is = over.has db' last t is
       filed May last (Err e) t (Ok x) is = (t, inl refl, over.has_one db' last t t is)
       filed May last (Err e) t (Err f) is = (is.0, is.1, over.has_one db' last t is.0 is.2)
 
       filed_new : (it : Store) (closing : Result (Unit {0}) StationFault) (t : State)
-          → LeavesFiles guard file {A = Unit {0}} OfNone db' it closing t (Ok tt) → FiledNew (left_of db') it closing t
+          → LeavesFiles guard file {A = Unit {0}} OfNone db' it closing t (Ok tt) → FiledNew (files_of db') it closing t
       filed_new it (Ok done) t is = over.has db' it t is
       filed_new it (Err e) t is = over.has_one db' it t t is
 
-      untouched : (Taken : Step → Type 0) (said : Said) → left_of db' ≡ None
-          → IfSome (left_of db') (IsLived g image Taken said)
-      untouched Taken said is = subst (λ (o : Option Left). IfSome o (IsLived g image Taken said)) (sym is) tt
-
       -- nothing was done after the opening
-      at_once : (Taken : Step → Type 0) {o : Option Left} (said : Said) → left_of db' ≡ o
-          → IfSome o (IsLived g image Taken said) → IfSome (left_of db') (IsLived g image Taken said)
-      at_once Taken said same is = subst (λ (o : Option Left). IfSome o (IsLived g image Taken said)) (sym same) is
+      at_once : (Taken : Step → Type 0) {o : Files} (said : Said) → files_of db' ≡ o → Told Taken said o
+          → Told Taken said (files_of db')
+      at_once Taken said same is = subst (λ (o : Files). Told Taken said o) (sym same) is
 
       ran_lived : {A : Type 0} (May : JobStep → Type 0) (Taken : Step → Type 0) → Covers May Taken
           → (Did : State → (State → Result A StationFault → Type 0) → Result A StationFault → Type 0)
@@ -306,15 +319,15 @@ module _ (Dk : Type 0) (g : Ghosts Dk) (image : Image) where
           → (Nothing → (p : Standing) → Backs p said)
           → ((s : State) (L : State → Result A StationFault → Type 0) (r : Result A StationFault) → IsGuard s
           → Did s L r → Lasts Taken s said L)
-          → RunsIn guard file db db' path May Did Nothing result → IfSome (left_of db') (IsLived g image Taken said)
+          → RunsIn guard file db db' path May Did Nothing result → Told Taken said (files_of db')
       ran_lived {A} May Taken covers Did path Nothing result said backs lasts is =
           by_found is.found is.is_opened is.ran
         where
           by_found : (found : Result Store StationFault) → file.opens db path found is.opened
               → Follows (RunsOver guard file db db' May Did is.opened) ((db' ≡ is.opened) × Nothing) found result
-              → IfSome (left_of db') (IsLived g image Taken said)
+              → Told Taken said (files_of db')
           by_found (Ok first) opens ran =
-              opened_lived May Taken covers (left_of db') first ran.last ran.closing said
+              opened_lived May Taken covers (files_of db') first ran.last ran.closing said
               (over.opens db is.opened path (Ok first) opens).0
               (over.closes is.opened db' ran.last ran.closing ran.is_closed)
               (λ clean. over.is_clean first (ran.did.0 (over.honest ran.last clean)))
@@ -323,34 +336,31 @@ module _ (Dk : Type 0) (g : Ghosts Dk) (image : Image) where
               let it = lasts s (LeavesFiles guard file May db' ran.last ran.closing) ran.outcome holds.0 did in
               (it.t, it.took, it.backs, filed May ran.last ran.closing it.t it.outcome it.left))
           by_found (Err e) opens ran =
-              at_once Taken said (ap left_of ran.1.0)
-              (unopened_lived Taken said (backs ran.1.1) (left_of is.opened)
-              (from_none (λ left. HoldAgain g image left.1) (IsOfSearch e)
-              (OpensNone {g = g} image SaysAndMisses (Err e)) (left_of db) (left_of is.opened) none
-              (over.opens db is.opened path (Err e) opens).1))
+              at_once Taken said (ap files_of ran.1.0)
+              (unopened_lived Taken said (backs ran.1.1) e (files_of db) (files_of is.opened) unopened
+              (over.opens db is.opened path (Err e) opens).1)
 
       made_in_lived : (Taken : Step → Type 0) (path : List ℕ) (scope : Scope) → Taken (Step.making scope)
           → (result : Result (Unit {0}) StationFault) → MakesIn guard file db db' path scope result
-          → IfSome (left_of db') (IsLived g image Taken Said.none)
+          → Told Taken Said.none (files_of db')
       made_in_lived Taken path scope taken result is = by_found is.found is.is_made is.ran
         where
           by_found : (found : Result Store StationFault) → file.makes db path scope found is.made
               → Follows (ClosesNew guard file db db' scope is.made) (db' ≡ is.made) found result
-              → IfSome (left_of db') (IsLived g image Taken Said.none)
+              → Told Taken Said.none (files_of db')
           by_found (Ok it) makes ran =
-              made_lived Taken (left_of db') it result scope taken (over.makes db is.made path scope (Ok it) makes).0
+              made_lived Taken (files_of db') it result scope taken (over.makes db is.made path scope (Ok it) makes).0
               (over.closes is.made db' it result ran.is_closed)
               (λ settled holds.
               filed_new it result (opened scope) (ran.files (over.settles db' it settled) (over.blank holds)))
           by_found (Err e) makes ran =
-              at_once Taken Said.none (ap left_of ran.1)
-              (unmade_lived Taken scope taken (left_of is.made)
-              (from_none (λ left. HoldAgainOrBegin g image scope left.1) (IsOfFiles e)
-              (OpensNone {g = g} image FoundsNone (Err e)) (left_of db) (left_of is.made) none
-              (over.makes db is.made path scope (Err e) makes).1))
+              at_once Taken Said.none (ap files_of ran.1)
+              (unmade_lived Taken scope taken e (files_of db) (files_of is.made) unopened
+              (over.makes db is.made path scope (Err e) makes).1)
 
-      same_db : (Taken : Step → Type 0) (said : Said) → db' ≡ db → IfSome (left_of db') (IsLived g image Taken said)
-      same_db Taken said same = untouched Taken said (ap left_of same ∙ none)
+      same_db : (Taken : Step → Type 0) (said : Said) → db' ≡ db → Told Taken said (files_of db')
+      same_db Taken said same =
+          unopened_told g image value (IsLived g image Taken said) (files_of db') (ap files_of same ∙ unopened)
 
       module _ {E F : Type 0} (world : surroundings.Ghosts E F) (around : E) (remaining : F → Option (List ℕ)) where
         -- the key in the file
@@ -364,12 +374,12 @@ module _ (Dk : Type 0) (g : Ghosts Dk) (image : Image) where
             → ((scope : Scope) → BeginsAt world around remaining ca first last (Ok scope) → Taken (Step.making scope))
             → (held holds : Option (List ℕ)) (result : Result (Unit {0}) StationFault)
             → InitsAt world around remaining guard file db db' path ca first last held holds result
-            → IfSome (left_of db') (IsLived g image Taken Said.none)
+            → Told Taken Said.none (files_of db')
         inits_lived Taken path ca first last taken held holds result is = by_scope is.scope is.begins is.made
           where
             by_scope : (scope : Result Scope StationFault) → BeginsAt world around remaining ca first last scope
                 → Follows (λ scope. InitsIn guard file db db' path scope held holds) ((db' ≡ db) × (holds ≡ held)) scope
-                result → IfSome (left_of db') (IsLived g image Taken Said.none)
+                result → Told Taken Said.none (files_of db')
             by_scope (Ok scope) begins made =
                 made_in_lived Taken path scope (taken scope begins) made.made made.is_made
             by_scope (Err e) begins made = same_db Taken Said.none made.1.0
@@ -384,7 +394,7 @@ module _ (Dk : Type 0) (g : Ghosts Dk) (image : Image) where
         pub job_lived : (job : StationJob) (input held holds : Option (List ℕ))
             (result : Result (Unit {0}) StationFault)
             → DoesJob world around remaining guard file db db' job input held holds result
-            → IfSome (left_of db') (IsLived g image (MayTake world around remaining job) (said_by job held holds))
+            → Told (MayTake world around remaining job) (said_by job held holds) (files_of db')
         job_lived (job.Init path ca first last) input held holds result is =
             inits_lived (MayBe (job.Init path ca first last)) (string_bytes path) (string_bytes ca) first last
             (has_key (string_bytes ca) first last) held holds result is
@@ -400,29 +410,31 @@ module _ (Dk : Type 0) (g : Ghosts Dk) (image : Image) where
                 → Follows
                 (λ _. RunsIn guard file db db' (string_bytes j.db) (OfBodies Asked)
                 (λ s L r. JudgesGiven (is_input bodies) s L
-                (AsksNow world around remaining (string_bytes j.policy) j.ahead) bodies input held holds r)
+                (AsksNow world around remaining (string_bytes j.policy) j.ahead) bodies input held holds r
+                × IfErr r (IsOfGiven (is_input bodies)))
                 (holds ≡ held)) ((db' ≡ db) × (holds ≡ held)) known result
-                → IfSome (left_of db') (IsLived g image (MayBe (job.Judge j)) (Said.judging held holds))
+                → Told (MayBe (job.Judge j)) (Said.judging held holds) (files_of db')
             by_policy (Ok policy) ran =
                 ran_lived (OfBodies Asked) (MayBe (job.Judge j))
                 (record { asks = λ q may. may; retires = λ last may. absurd may })
                 (λ s L r. JudgesGiven (is_input bodies) s L
-                (AsksNow world around remaining (string_bytes j.policy) j.ahead) bodies input held holds r)
+                (AsksNow world around remaining (string_bytes j.policy) j.ahead) bodies input held holds r
+                × IfErr r (IsOfGiven (is_input bodies)))
                 (string_bytes j.db) (holds ≡ held) result (Said.judging held holds) (silent held holds)
                 (λ s L r guard did. given_last (MayBe (job.Judge j))
                 (AsksNow world around remaining (string_bytes j.policy) j.ahead) (λ path q asked. (path, asked))
-                (is_input bodies) s L bodies input held holds r did) ran
+                (is_input bodies) s L bodies input held holds r did.0) ran
             by_policy (Err e) ran = same_db (MayBe (job.Judge j)) (Said.judging held holds) ran.1.0
         job_lived (job.Bodies path) input held holds result is =
             ran_lived OfNone (MayBe (job.Bodies path)) (reads (MayBe (job.Bodies path)))
-            (λ s L r. OnOk r (ListsBodies s held holds) × L s (Ok tt)) (string_bytes path)
+            (λ s L r. PrintsRows s L held holds r) (string_bytes path)
             (holds ≡ held) result Said.none (λ _. silent_none)
-            (λ s L r guard did. same_lasts (MayBe (job.Bodies path)) s L (Ok tt) did.1) is
+            (λ s L r guard did. same_lasts (MayBe (job.Bodies path)) s L (Ok tt) did.stays) is
         job_lived (job.Body path serial) input held holds result is =
             ran_lived OfNone (MayBe (job.Body path serial)) (reads (MayBe (job.Body path serial)))
-            (λ s L r. PrintsBody s serial held holds r × L s (Ok tt)) (string_bytes path)
+            (λ s L r. PrintsBody s serial held holds r × L s r) (string_bytes path)
             (holds ≡ held) result Said.none (λ _. silent_none)
-            (λ s L r guard did. same_lasts (MayBe (job.Body path serial)) s L (Ok tt) did.1) is
+            (λ s L r guard did. same_lasts (MayBe (job.Body path serial)) s L r did.1) is
         job_lived (job.Policy path) input held holds result is = same_db (MayBe (job.Policy path)) Said.none is.1
         job_lived (job.Retire path last) input held holds result is =
             ran_lived (OfRetiring last) (MayBe (job.Retire path last))
@@ -436,16 +448,16 @@ module _ (Dk : Type 0) (g : Ghosts Dk) (image : Image) where
 
         -- the job that the words name was a run
         pub words_lived : {L K : Type 0} (keeper : lister.Ghosts K) (file_of : lists.Ghosts L K) (l l' : L)
-            (words : List (List ℕ)) (input held holds : Option (List ℕ)) (answered : ℕ) (left : Option Left)
-            → left ≡ left_of db'
-            → DoesWords world around remaining guard file db db' keeper file_of l l' words input held holds answered
-            → AreLived world around remaining g image words held holds left
-        words_lived keeper file_of l l' words input held holds answered left same (inl is) = inl (
+            (words : List (List ℕ)) (input held holds : Option (List ℕ)) (Tells : List ℕ → Type 0) (answered : ℕ)
+            (files : Files) → files ≡ files_of db'
+            → DoesWords world around remaining guard file db db' keeper file_of l l' words input held holds Tells
+            answered
+            → AreLived world around remaining g image value words held holds files
+        words_lived keeper file_of l l' words input held holds Tells answered files same (inl is) = inl (
           is.0,
           is.2,
-          subst (λ (o : Option Left).
-              IfSome o (IsLived g image (MayTake world around remaining is.0) (said_by is.0 held holds))) (sym same)
+          subst (λ (o : Files). Told (MayTake world around remaining is.0) (said_by is.0 held holds) o) (sym same)
               (job_lived is.0 input held holds is.1 is.3),
         )
-        words_lived keeper file_of l l' words input held holds answered left same (inr is) =
-            inr (is.0, is.1, same ∙ (ap left_of is.2 ∙ none))
+        words_lived keeper file_of l l' words input held holds Tells answered files same (inr is) =
+            inr (is.0, is.1, same ∙ (ap files_of is.2 ∙ unopened))

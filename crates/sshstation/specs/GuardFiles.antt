@@ -1,5 +1,5 @@
 -- A guard in the two files of a database: how it is made and opened, and what closing it leaves of them.
-use Rattle.std.specs.Prelude.{◌≡◌, Result, Ok, Err}
+use Rattle.std.specs.Prelude.{◌≡◌, false, Result, Ok, Err}
 use Rattle.sqlite_disk.specs.declared.Disk.{Ghosts}
 use Rattle.sqlite_disk.specs.declared.Files.{Files}
 use Rattle.sqlite_wal.specs.Recovery.{Image}
@@ -9,13 +9,15 @@ use Rattle.sqlite_store.specs.declared.store.FileStore.{FileStore}
 use Rattle.sqlite.specs.declared.error.Error.{Error}
 use Rattle.sqlite.specs.declared.error.Error.TheVariants.{SqliteFailure}
 use Rattle.sqlite.specs.declared.error.ErrorCode.TheVariants.{OutOfMemory}
+use Rattle.sqlite.specs.Start.{FindsIn}
 use Rattle.sqlite.specs.State.{State as Connection, HasCleanDisk}
 use Rattle.sqlite.specs.Held.{Held, IsNew}
 use Rattle.sqlite.specs.Files.{file_state, IsOpened}
 use Rattle.guard.specs.declared.scope.Scope.{Scope}
 use Rattle.guard.specs.State.{State}
 use Rattle.guard_sql.specs.declared.store.GuardStore.{GuardStore}
-use Rattle.guard_sql.specs.Keeping.{HasGuard, IsBlank, IsGuard}
+use Rattle.guard_sql.specs.Keeping.{IsBlank, IsGuard}
+use Rattle.guard_sql.specs.Look.{is_empty}
 use Rattle.guard_sql.specs.Opening.{Finds, Founds, Misses, SaysUnless}
 use Rattle.guard_sql.specs.declared.opening_fault.OpeningFault.{OpeningFault}
 use Rattle.guard_sql.specs.declared.opening_fault.OpeningFault.TheVariants as opening
@@ -68,20 +70,21 @@ IsWhole (Err (Uncopied error)) = ⊥
 
 -- ---- what files hold
 
--- the tables hold a guard
-abbrev pub HasOne : Connection → Type 0
-HasOne c = (s : State) × HasGuard s c
+-- the database has a table or a view
+abbrev pub IsFull : Connection → Type 0
+IsFull c = is_empty c.now.schema ≡ false
 
 -- what the fault implies of rows of a guard's tables, and of tables that hold a guard
 abbrev pub SaysAndMisses : Connection → Connection → OpeningFault → Type 0
 SaysAndMisses old new e = SaysUnless old new (Err e) × Misses old new e
 
 module _ {D : Type 0} {g : Ghosts D} where
-  -- The connection is new. If its disk has returned what was written, it has each guard that the files held, and is
-  -- blank if they held none.
+  -- The connection is new. If its disk has returned what was written, it has the database that the files held. So it
+  -- has each guard that they held, and is blank if they held none.
   pub record OpensFiles (image : Image) (conn : Held (FileStore D g)) : Type 0 where
     pub new : IsNew conn
     pub opened : HasCleanDisk (file_state conn) → IsOpened conn
+    pub found : HasCleanDisk (file_state conn) → FindsIn image (file_state conn)
     pub held : HasCleanDisk (file_state conn) → HasWhatIsHeld image (file_state conn)
     pub blank : HasCleanDisk (file_state conn) → IsBlankIfNone image (file_state conn)
 
@@ -95,25 +98,13 @@ module _ {D : Type 0} {g : Ghosts D} where
     pub honest : HasCleanDisk (file_state guard.conn) → HasCleanDisk (file_state conn)
     pub found : HasCleanDisk (file_state guard.conn) → Found (file_state conn) (file_state guard.conn)
 
-  -- A connection to the files was opened, but no guard over it, for the fault that is reported. If the disk has
-  -- returned what was written, the fault has this cause in the connection, as it was opened and as it was left.
-  pub record OpensNone (image : Image) (Caused : Connection → Connection → OpeningFault → Type 0)
-      (found : Result (GuardStore (FileStore D g)) StationFault) : Type 0 where
-    pub conn : Held (FileStore D g)
-    pub last : Held (FileStore D g)
-    pub files : OpensFiles image conn
-    pub fault : OpeningFault
-    pub is : found ≡ Err (of_opening fault)
-    pub honest : HasCleanDisk (file_state last) → HasCleanDisk (file_state conn)
-    pub caused : HasCleanDisk (file_state last) → Caused (file_state conn) (file_state last) fault
-
   -- the guard in the tables is opened, if there are any
   abbrev pub FindsGuard : Image → GuardStore (FileStore D g) → Type 0
   FindsGuard image guard = OpensGuard image IsBlank (Finds guard.scope) guard
 
-  -- a guard with this scope that has approved nothing yet is made in blank tables, which have none
+  -- a guard with this scope that has approved nothing yet is made in an empty database
   abbrev pub MakesGuard : Image → Scope → GuardStore (FileStore D g) → Type 0
-  MakesGuard image scope guard = OpensGuard image HasOne (Founds scope) guard × (guard.scope ≡ scope)
+  MakesGuard image scope guard = OpensGuard image IsFull (Founds scope) guard × (guard.scope ≡ scope)
 
   -- ---- files that were closed or abandoned: the result, and the files
 

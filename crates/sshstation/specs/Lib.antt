@@ -1,7 +1,9 @@
 pub mod Ending
+pub mod DatabaseFiles
 pub mod GuardFiles
 pub mod Unopened
 pub mod Doing
 pub mod ListFiles
+pub mod UnopenedLists
 pub mod Listing
 pub mod Living

@@ -1,30 +1,49 @@
 -- A guard of lists in the two files of a database: how it is made and opened, and what closing it leaves of them.
-use Rattle.std.specs.Prelude.{◌≡◌, Result, None}
+use Rattle.std.specs.Prelude.{◌≡◌, false, Result, Err, None}
 use Rattle.sqlite_disk.specs.declared.Disk.{Ghosts}
 use Rattle.sqlite_disk.specs.declared.Files.{Files}
 use Rattle.sqlite_wal.specs.Recovery.{Image}
 use Rattle.sqlite_store.specs.declared.store.FileStore.{FileStore}
+use Rattle.sqlite.specs.Start.{FindsIn}
 use Rattle.sqlite.specs.State.{State as Connection, HasCleanDisk}
 use Rattle.sqlite.specs.Held.{Held, IsNew}
-use Rattle.sqlite.specs.Files.{file_state}
-use Rattle.list_guard.specs.State.{State}
+use Rattle.sqlite.specs.Files.{file_state, IsOpened}
 use Rattle.list_sql.specs.declared.store.ListStore.{ListStore}
-use Rattle.list_sql.specs.Keeping.{HasList, IsBlank}
-use Rattle.list_sql.specs.Opening.{Finds, Founds}
+use Rattle.list_sql.specs.Keeping.{IsBlank}
+use Rattle.list_sql.specs.Look.{is_empty}
+use Rattle.list_sql.specs.Opening.{Finds, Founds, Misses, SaysUnless}
+use Rattle.list_sql.specs.declared.opening_fault.OpeningFault.{OpeningFault}
+use Rattle.list_sql.specs.declared.opening_fault.OpeningFault.TheVariants as opening
 use Rattle.restart.specs.declared.ending.EndFault.{EndFault}
 use Rattle.list_restart.specs.Runs.{EndsWell, HasWhatIsHeld, IsBlankIfNone}
 use Rattle.station_jobs.specs.declared.station_fault.StationFault.{StationFault}
+use Rattle.station_jobs.specs.declared.station_fault.StationFault.TheVariants as station
 use Rattle.sshstation.specs.GuardFiles.{of_ending}
 
--- the table holds a guard of lists
-abbrev pub HasAny : Connection → Type 0
-HasAny c = (s : State) × HasList s c
+-- the fault of a guard of lists that wasn't opened or made
+abbrev pub of_opening : OpeningFault → StationFault
+of_opening opening.AlreadyAGuard = station.AlreadyAGuard
+of_opening opening.NotAGuard = station.NotAGuard
+of_opening opening.WrongSchema = station.WrongSchema
+of_opening opening.Damaged = station.Damaged
+of_opening opening.Device = station.Device
+of_opening opening.NoMemory = station.NoMemory
+
+-- what the fault implies of rows of the table, and of a table that holds a guard of lists
+abbrev pub SaysAndMisses : Connection → Connection → OpeningFault → Type 0
+SaysAndMisses old new e = SaysUnless old new (Err e) × Misses old new e
+
+-- the database has a table or a view
+abbrev pub IsFull : Connection → Type 0
+IsFull c = is_empty c.now.schema ≡ false
 
 module _ {D : Type 0} {g : Ghosts D} where
-  -- The connection is new. If its disk has returned what was written, it has each guard of lists that the files held,
-  -- and no table if they held none.
+  -- The connection is new. If its disk has returned what was written, it has the database that the files held. So it
+  -- has each guard of lists that they held, and no table if they held none.
   pub record OpensLists (image : Image) (conn : Held (FileStore D g)) : Type 0 where
     pub new : IsNew conn
+    pub opened : HasCleanDisk (file_state conn) → IsOpened conn
+    pub found : HasCleanDisk (file_state conn) → FindsIn image (file_state conn)
     pub held : HasCleanDisk (file_state conn) → HasWhatIsHeld image (file_state conn)
     pub blank : HasCleanDisk (file_state conn) → IsBlankIfNone image (file_state conn)
 
@@ -42,9 +61,9 @@ module _ {D : Type 0} {g : Ghosts D} where
   abbrev pub FindsList : Image → ListStore (FileStore D g) → Type 0
   FindsList image guard = OpensList image IsBlank (Finds guard.last) guard
 
-  -- a guard of lists that has approved nothing yet is made in a database without tables
+  -- a guard of lists that has approved nothing yet is made in an empty database
   abbrev pub MakesList : Image → ListStore (FileStore D g) → Type 0
-  MakesList image guard = OpensList image HasAny Founds guard × (guard.last ≡ None)
+  MakesList image guard = OpensList image IsFull Founds guard × (guard.last ≡ None)
 
   -- the end of the guard's connection, with the fault that is returned for it
   abbrev pub EndsList : ListStore (FileStore D g) → Result (Unit {0}) StationFault

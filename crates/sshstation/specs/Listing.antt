@@ -1,7 +1,6 @@
 -- The effect of the words on the files of a guard of lists: a job over them is a run in their lifetime.
-use Rattle.std.specs.Prelude.{◌≡◌, ◌⊎◌, ℕ, List, IfSome, Option, None, Result, map, string_bytes}
+use Rattle.std.specs.Prelude.{◌≡◌, ◌⊎◌, ℕ, List, Option, map, string_bytes}
 use Rattle.sqlite_disk.specs.declared.Disk.{Ghosts}
-use Rattle.sqlite_disk.specs.declared.Files.{Files}
 use Rattle.sqlite_wal.specs.Recovery.{Image}
 use Rattle.sqlite_wal.specs.Files.{outcomes}
 use Rattle.sqlite_wal.specs.Reads.{AreClean}
@@ -12,14 +11,15 @@ use Rattle.station_command.specs.Answers.{IsFaultOf, Names}
 use Rattle.list_guard.specs.State.{Question}
 use Rattle.list_jobs.specs.Asking.{Asks}
 use Rattle.station_jobs.specs.declared.surroundings.Surroundings as surroundings
-use Rattle.restart.specs.declared.ending.EndFault.{EndFault}
 use Rattle.list_restart.specs.Lives.{Said}
 use Rattle.list_restart.specs.Runs.{RunsOn}
+use Rattle.sshstation.specs.declared.database_files.DatabaseFiles.{DatabaseFiles}
+use Rattle.sshstation.specs.DatabaseFiles.{AreGivenBack, AreUnopened, Ended}
 use Rattle.sshstation.specs.GuardFiles.{IsWhole}
 
 -- The files are left like this. If the disk has returned what was written, and the log was copied or copying it had not
 -- begun, the job was a run in the lifetime of the files.
-abbrev pub IsListed : {D : Type 0} (g : Ghosts D) → Image → Said → Result (Unit {0}) EndFault × Files D → Type 0
+abbrev pub IsListed : {D : Type 0} (g : Ghosts D) → Image → Said → Ended D → Type 0
 IsListed g image said left =
     AreClean g left.1.log left.1.db → IsWhole left.0 → RunsOn image said (outcomes g left.1.log left.1.db)
 
@@ -34,13 +34,13 @@ module _ {E F : Type 0} (world : surroundings.Ghosts E F) (around : E) (remainin
 
   -- how the connection to the files of a guard of lists ended, and the files, after a job
   abbrev pub IsListedBy : {D : Type 0} (g : Ghosts D) → Image → StationJob → (held holds : Option (List ℕ))
-      → Result (Unit {0}) EndFault × Files D → Type 0
+      → Ended D → Type 0
   IsListedBy g image job held holds left = (said : Said) × Prints job held holds said × IsListed g image said left
 
-  -- The words name a job, which was such a run if it closed the files of a guard of lists. Or they name none, and no
-  -- files were closed.
-  abbrev pub AreListed : {D : Type 0} (g : Ghosts D) → Image → (words : List (List ℕ)) → (held holds : Option (List ℕ))
-      → Option (Result (Unit {0}) EndFault × Files D) → Type 0
-  AreListed g image words held holds left =
-      ((job : StationJob) × Names words job × IfSome left (IsListedBy g image job held holds))
-      ⊎ ((fault : WordsFault) × IsFaultOf words fault × (left ≡ None))
+  -- The words name a job, which was such a run if it opened the files of a guard of lists. Or they name none, and the
+  -- files are unopened.
+  abbrev pub AreListed : {D S : Type 0} (g : Ghosts D) → Image → (value : S) → (words : List (List ℕ))
+      → (held holds : Option (List ℕ)) → DatabaseFiles S D → Type 0
+  AreListed g image value words held holds files =
+      ((job : StationJob) × Names words job × AreGivenBack g image value (IsListedBy g image job held holds) files)
+      ⊎ ((fault : WordsFault) × IsFaultOf words fault × AreUnopened value files)

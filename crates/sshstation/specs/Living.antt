@@ -1,7 +1,6 @@
 -- The effect of the words over the files of a database: a job over the files of a guard is a run in their lifetime.
-use Rattle.std.specs.Prelude.{◌≡◌, ◌⊎◌, ℕ, List, IfSome, Option, None, Result, Ok, string_bytes}
+use Rattle.std.specs.Prelude.{◌≡◌, ◌⊎◌, ℕ, List, Option, Ok, string_bytes}
 use Rattle.sqlite_disk.specs.declared.Disk.{Ghosts}
-use Rattle.sqlite_disk.specs.declared.Files.{Files}
 use Rattle.sqlite_wal.specs.Recovery.{Image}
 use Rattle.sqlite_wal.specs.Files.{outcomes}
 use Rattle.sqlite_wal.specs.Reads.{AreClean}
@@ -19,11 +18,12 @@ use Rattle.station_jobs.specs.declared.guard_file.GuardFile as file
 use Rattle.station_jobs.specs.declared.surroundings.Surroundings as surroundings
 use Rattle.station_jobs.specs.Judging.{AsksNow}
 use Rattle.station_jobs.specs.Whole.{Begins}
-use Rattle.restart.specs.declared.ending.EndFault.{EndFault}
 use Rattle.guard_restart.specs.Lives.{Said}
 use Rattle.guard_restart.specs.Runs.{RunsOn}
 use Rattle.guard_restart.specs.Steps.{Step}
 use Rattle.sshstation.specs.Doing.{DoesWords}
+use Rattle.sshstation.specs.declared.database_files.DatabaseFiles.{DatabaseFiles}
+use Rattle.sshstation.specs.DatabaseFiles.{AreGivenBack, AreUnopened, Ended}
 use Rattle.sshstation.specs.GuardFiles.{IsWhole}
 use Rattle.sshstation.specs.Listing.{AreListed}
 
@@ -34,14 +34,9 @@ said_by other held holds = Said.none
 
 -- The files are left like this. If the disk has returned what was written, and the log was copied or copying it had not
 -- begun, the job was a run in the lifetime of the files, with steps of this sort.
-abbrev pub IsLived : {D : Type 0} (g : Ghosts D) → Image → (May : Step → Type 0) → Said
-    → Result (Unit {0}) EndFault × Files D → Type 0
+abbrev pub IsLived : {D : Type 0} (g : Ghosts D) → Image → (May : Step → Type 0) → Said → Ended D → Type 0
 IsLived g image May said left =
     AreClean g left.1.log left.1.db → IsWhole left.0 → RunsOn image May said (outcomes g left.1.log left.1.db)
-
--- how the connection to a guard's files ended, and the files, if they were opened
-abbrev pub Left : Type 0 → Type 0
-Left D = Option (Result (Unit {0}) EndFault × Files D)
 
 module _ {E F : Type 0} (world : surroundings.Ghosts E F) (around : E) (remaining : F → Option (List ℕ)) where
   -- The steps that a job may take: a guard is made with the key in a file; it is asked about the content of a file, by
@@ -54,32 +49,36 @@ module _ {E F : Type 0} (world : surroundings.Ghosts E F) (around : E) (remainin
   MayTake (Retire path last) (Step.retiring lower) = lower ≡ last
   MayTake job step = ⊥
 
-  -- The words name a job, which was such a run if it opened the files of a guard. Or they name none, and no files were
-  -- opened.
-  abbrev pub AreLived : {D : Type 0} (g : Ghosts D) → Image → (words : List (List ℕ)) → (held holds : Option (List ℕ))
-      → Left D → Type 0
-  AreLived g image words held holds left =
+  -- The words name a job, which was such a run if it opened the files of a guard. Or they name none, and the files are
+  -- unopened.
+  abbrev pub AreLived : {D S : Type 0} (g : Ghosts D) → Image → (value : S) → (words : List (List ℕ))
+      → (held holds : Option (List ℕ)) → DatabaseFiles S D → Type 0
+  AreLived g image value words held holds files =
       ((job : StationJob) × Names words job
-      × IfSome left (IsLived g image (MayTake job) (said_by job held holds)))
-      ⊎ ((fault : WordsFault) × IsFaultOf words fault × (left ≡ None))
+      × AreGivenBack g image value (IsLived g image (MayTake job) (said_by job held holds)) files)
+      ⊎ ((fault : WordsFault) × IsFaultOf words fault × AreUnopened value files)
 
--- The effect of the words in a world, with files for which `Is` and `AreLists` hold afterwards. The files of a guard
--- held `image` before, and are left as in `left`. Those of a guard of lists held `lists_image`, and are left as in
--- `lists_left`.
-pub record RunsWords {E F D L H M : Type 0} {g : Ghosts H} {h : Ghosts M} (world : surroundings.Ghosts E F) (around : E)
-    (remaining : F → Option (List ℕ)) (guard : register.Ghosts (GuardStore (FileStore H g)))
+-- The effect of the words in a world. The files of a guard, `files_of` its database, held `image` and were unopened
+-- before: `value` represented what they held. They are `files` afterwards. The names with `lists` are for a guard of
+-- lists. `input` is what can be read from the input, and the output had `held` before and has `holds` afterwards.
+-- `Told` says which text the second output has taken.
+pub record RunsWords {E F D L H M S T : Type 0} {g : Ghosts H} {h : Ghosts M} (world : surroundings.Ghosts E F)
+    (around : E) (remaining : F → Option (List ℕ)) (guard : register.Ghosts (GuardStore (FileStore H g)))
     (file : file.Ghosts D (GuardStore (FileStore H g))) (keeper : lister.Ghosts (ListStore (FileStore M h)))
-    (file_of : lists.Ghosts L (ListStore (FileStore M h))) (Is : D → Type 0) (AreLists : L → Type 0)
-    (image lists_image : Image) (left : Left H) (lists_left : Left M) (words : List (List ℕ))
-    (held holds : Option (List ℕ)) (answered : ℕ) : Type 0 where
-  pub input : Option (List ℕ)
+    (file_of : lists.Ghosts L (ListStore (FileStore M h))) (files_of : D → DatabaseFiles S H)
+    (lists_of : L → DatabaseFiles T M) (value : S) (lists_value : T) (image lists_image : Image)
+    (files : DatabaseFiles S H) (lists_files : DatabaseFiles T M) (words : List (List ℕ))
+    (input held holds : Option (List ℕ)) (Told : List ℕ → Type 0) (answered : ℕ)
+    : Type 0 where
   pub before : D
   pub after : D
   pub lists_before : L
   pub lists_after : L
-  pub is_left : Is after
-  pub are_left : AreLists lists_after
+  pub is_new : AreUnopened value (files_of before)
+  pub are_new : AreUnopened lists_value (lists_of lists_before)
+  pub is_left : files_of after ≡ files
+  pub are_left : lists_of lists_after ≡ lists_files
   pub does : DoesWords world around remaining guard file before after keeper file_of lists_before lists_after words
-      input held holds answered
-  pub lived : AreLived world around remaining g image words held holds left
-  pub listed : AreListed world around remaining h lists_image words held holds lists_left
+      input held holds Told answered
+  pub lived : AreLived world around remaining g image value words held holds files
+  pub listed : AreListed world around remaining h lists_image lists_value words held holds lists_files

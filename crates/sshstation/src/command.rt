@@ -1,11 +1,13 @@
 //! Doing the jobs.
 
-ghost use Rattle.std.specs.Prelude.{◌≡◌, ◌≤◌, IfErr, map, string_bytes};
+ghost use Rattle.std.specs.Prelude.{◌≡◌, ◌≤◌, IfErr, false, map, string_bytes};
 ghost use Rattle.office.specs.Openings.{are_serials};
 ghost use Rattle.station_command.specs.Answers.{AreBad};
+ghost use Rattle.station_jobs.specs.Names.{Takes};
 ghost use Rattle.station_jobs.specs.Whole.{KeepsFiles};
-ghost use Rattle.sshstation.specs.Doing.{Declines, DoesJob, DoesList, DoesWords, InitsAt, PrintsPolicyAt};
-ghost use Rattle.sshstation.specs.Ending.{IsOfBadWords};
+ghost use Rattle.sshstation.specs.Doing.{Declines, DoesJob, DoesList, DoesWords, InitsAt, LeaveInput, PrintsPolicyAt};
+ghost use Rattle.sshstation.specs.Doing.{reads_input};
+ghost use Rattle.sshstation.specs.Ending.{IsOfBadWords, no_words_line, status_of_no_words};
 
 use crate::ending::status_of;
 use command_line::WordsFault;
@@ -15,10 +17,11 @@ use list_jobs::{ListFile, ListJob, Listing};
 use station_command::{Judging as JudgingWords, Listing as ListingWords, StationJob, read_words};
 use station_jobs::{
     GuardFile, GuardJob, Judging, StationFault, Surroundings, print, print_policy, run_in,
-    scope_from,
+    scope_from, tell_text,
 };
 use std::alloc::Global;
 use std::io::{BufRead, ErrorKind, Read, Write};
+use wire::Sink;
 
 /// The exit status for invalid words.
 pub const BAD_WORDS: u8 = 2;
@@ -42,8 +45,9 @@ fn init<
     out: &mut O,
 ) -> Result<(), StationFault>
     requires { KeepsFiles G.Register D.GuardFile }
-    ensures { InitsAt P.Surroundings around.now F.remaining G.Register D.GuardFile db.old db.new path.now ca.now
+    ensures inits { InitsAt P.Surroundings around.now F.remaining G.Register D.GuardFile db.old db.new path.now ca.now
         serials.0 serials.1 (O.contents out.old) (O.contents out.new) result }
+    ensures unread { I.remaining input.new ≡ I.remaining input.old }
 {
     match around.open(ca) {
         Ok(file) => match scope_from(alloc, file, serials.0, serials.1) {
@@ -124,6 +128,7 @@ pub(crate) fn do_job<
         (I.remaining input.old) (O.contents out.old) (O.contents out.new) result }
     ensures lists { DoesList P.Surroundings around.now F.remaining G.Register D.GuardFile db.old db.new K.ListRegister
         L.ListFile lists.old lists.new job.now (O.contents out.old) (O.contents out.new) result }
+    ensures unread { reads_input job.now ≡ false → I.remaining input.new ≡ I.remaining input.old }
 {
     match job {
         StationJob::Init {
@@ -170,10 +175,13 @@ pub(crate) fn do_job<
 }
 
 // The answer to words that ask for no job: clap's text, or a fault.
-fn answer_words<O: Write, E: Write>(fault: WordsFault, out: &mut O, err: &mut E) -> u8
+fn answer_words<O: Write, E: Sink>(fault: WordsFault, out: &mut O, err: &mut E) -> u8
+    requires { E.failed err.old ≡ 0 }
     ensures status { result ≤ BAD_WORDS }
     ensures bad { result ≡ BAD_WORDS → IsOfBadWords fault }
-    ensures declines { Declines fault (O.contents out.old) (O.contents out.new) result }
+    ensures silent { result ≡ 0 → err.new ≡ err.old }
+    ensures declines { Declines fault (O.contents out.old) (O.contents out.new)
+        (Takes (E.failed err.old) (E.failed err.new) (E.taken err.old) (E.taken err.new)) result }
 {
     match fault {
         WordsFault::Help(text) => {
@@ -181,14 +189,14 @@ fn answer_words<O: Write, E: Write>(fault: WordsFault, out: &mut O, err: &mut E)
             status_of(err, shown)
         }
         WordsFault::BadWords(text) => {
-            let _ = print(err, text.as_bytes());
+            tell_text(err, text.as_bytes());
             BAD_WORDS
         }
         WordsFault::NoMemory => status_of(err, Err(StationFault::NoMemory)),
     }
 }
 
-/// Does the job that the words ask for, or shows clap's text. Output is written to `out`, and the name of a fault to
+/// Does the job that the words ask for, or shows clap's text. Output is written to `out`, and the line of a fault to
 /// `err`. Returns the exit status.
 pub(crate) fn do_words<
     F: Read + Drop,
@@ -199,7 +207,7 @@ pub(crate) fn do_words<
     L: ListFile<Guard = K>,
     I: BufRead,
     O: Write,
-    E: Write,
+    E: Sink,
 >(
     alloc: Global,
     around: &P,
@@ -211,12 +219,20 @@ pub(crate) fn do_words<
     err: &mut E,
 ) -> u8
     // The opened guard is the one that the files held, and the closed one is what they hold then.
-    requires { KeepsFiles G.Register D.GuardFile }
+    requires keeps { KeepsFiles G.Register D.GuardFile }
+    requires tells { E.failed err.old ≡ 0 }
     ensures status { result ≤ BAD_WORDS }
     ensures bad { result ≡ BAD_WORDS → AreBad (map string_bytes words.now) }
+
+    // If a job was done, or a text shown, nothing is written to `err`.
+    ensures silent { result ≡ 0 → err.new ≡ err.old }
+
+    // Only a job that judges the bodies at the input's paths reads the input.
+    ensures unread { LeaveInput (map string_bytes words.now) → I.remaining input.new ≡ I.remaining input.old }
     ensures does { DoesWords P.Surroundings around.now F.remaining G.Register D.GuardFile db.old db.new
         K.ListRegister L.ListFile lists.old lists.new (map string_bytes words.now) (I.remaining input.old)
-        (O.contents out.old) (O.contents out.new) result }
+        (O.contents out.old) (O.contents out.new)
+        (Takes (E.failed err.old) (E.failed err.new) (E.taken err.old) (E.taken err.new)) result }
 {
     match read_words(alloc, words) {
         Ok(job) => {
@@ -229,12 +245,17 @@ pub(crate) fn do_words<
 }
 
 /// The exit status if the words are unavailable: memory was refused, or a word isn't UTF-8.
-pub(crate) fn do_no_words<E: Write>(fault: ErrorKind, err: &mut E) -> u8
-    ensures { result ≤ BAD_WORDS }
+pub(crate) fn do_no_words<E: Sink>(fault: ErrorKind, err: &mut E) -> u8
+    requires { E.failed err.old ≡ 0 }
+    ensures status { result ≡ status_of_no_words fault }
+    ensures told { Takes (E.failed err.old) (E.failed err.new) (E.taken err.old) (E.taken err.new)
+        (no_words_line fault) }
 {
-    if fault == ErrorKind::OutOfMemory {
-        return status_of(err, Err(StationFault::NoMemory));
+    match fault {
+        ErrorKind::OutOfMemory => status_of(err, Err(StationFault::NoMemory)),
+        _ => {
+            tell_text(err, b"error: a word is not UTF-8\n");
+            BAD_WORDS
+        }
     }
-    let _ = print(err, b"error: a word is not UTF-8\n");
-    BAD_WORDS
 }

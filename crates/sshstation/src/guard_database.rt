@@ -1,21 +1,22 @@
 //! Guards in the files of databases: finding, making, opening and closing them.
 
-ghost use Rattle.std.specs.Prelude.{◌≡◌, IfErr, IfOk, IsSomeAnd, IsTrue, None, OnErr};
+ghost use Rattle.std.specs.Prelude.{◌≡◌, IfErr, IfOk, IsTrue};
 ghost use Rattle.office.specs.Openings.{are_serials};
 ghost use Rattle.sqlite_wal.specs.Files.{image_at};
 ghost use Rattle.restart.specs.Images.{HoldsNone};
 ghost use Rattle.guard_restart.specs.Images.{HoldsKept};
-ghost use Rattle.guard_sql.specs.Opening.{FoundsNone};
+ghost use Rattle.restart.specs.Opening.{OpensOrFails};
+ghost use Rattle.sshstation.specs.DatabaseFiles.{AreLeftAs, AreUnopened};
 ghost use Rattle.sshstation.specs.GuardFiles.{AreSettled, EndsGuard, FindsGuard, HaveGuard, HaveOne, IsOfFiles};
-ghost use Rattle.sshstation.specs.GuardFiles.{IsOfSearch, MakesGuard, OpensFiles, OpensNone, SaysAndMisses};
-ghost use Rattle.sshstation.specs.GuardFiles.{of_database, of_ending, of_opening};
-ghost use Rattle.sshstation.specs.Unopened.{LeavesDatabase, MakesLeaving, MakesOrLeaves, OpensLeaving, OpensOrLeaves};
-ghost use Rattle.sshstation.specs.Unopened.{Settles, opening_of};
+ghost use Rattle.sshstation.specs.GuardFiles.{IsOfSearch, MakesGuard, OpensFiles, of_database, of_ending, of_opening};
+ghost use Rattle.sshstation.specs.Unopened.{ConnectsOrNot, LeavesDatabase, MakesLeaving, MakesOrLeaves};
+ghost use Rattle.sshstation.specs.Unopened.{OpensLeaving, OpensOrLeaves, Settles};
 
+use crate::database_files::{DatabaseFiles, FilesAt};
 use guard::Scope;
 use guard_restart::{end_path, open_at};
 use guard_sql::{GuardStore, OpeningFault};
-use restart::EndFault;
+use restart::{EndFault, OpenFault};
 use sqlite::{Connection, Error, ErrorCode, FileFrom, FileStore, Files, Start};
 use sqlite_disk::Disk;
 use station_jobs::{GuardFile, StationFault};
@@ -23,6 +24,7 @@ use std::alloc::Global;
 use std::fs;
 use std::fs::{OpenOptions, Permissions};
 use std::io::{self, ErrorKind};
+use std::mem::replace;
 use std::os::unix::fs::{OpenOptionsExt, PermissionsExt};
 
 /// The mode of a file that only its owner may read and write.
@@ -30,9 +32,6 @@ const OWNER_ALONE: u32 = 0o600;
 
 /// A connection to the files at a path.
 pub(crate) type FileConnection<S> = Connection<FileStore<FileFrom<S>>>;
-
-/// How the connection to the files at a path ended, and the files as they were left.
-pub(crate) type FilesLeft<S> = (Result<(), EndFault>, Files<FileFrom<S>>);
 
 /// A guard in the files at a path.
 pub(crate) type FileGuard<S> = GuardStore<FileStore<FileFrom<S>>>;
@@ -79,13 +78,13 @@ fn open_database<S: Start>(
     rt: &HostRuntime,
     path: &str,
     start: S,
-) -> Result<FileConnection<S>, StationFault>
+) -> Result<FileConnection<S>, OpenFault<FileFrom<S>>>
     ensures ok { IfOk result (OpensFiles (image_at S.Start)) }
-    ensures err { IfErr result IsOfFiles }
+    ensures fails { OpensOrFails (image_at S.Start) result }
 {
     match open_at(rt, path, start) {
-        Ok(conn) => Ok(conn),
-        Err(error) => Err(database_fault(error)),
+        Ok(found) => Ok(found),
+        Err(fault) => Err(fault),
     }
 }
 
@@ -149,47 +148,52 @@ pub(crate) fn looked_for(rt: &HostRuntime, path: &str) -> Result<(), StationFaul
 #[derive(Drop)]
 pub(crate) struct GuardDatabase<'a, S: Start> {
     rt: &'a HostRuntime,
-    // Represents what the files hold, until they are opened.
-    start: Option<S>,
-    // Set after the connection has ended.
-    left: Option<FilesLeft<S>>,
+    files: FilesAt<S>,
 }
 
 impl<'a, S: Start> GuardDatabase<'a, S> {
     /// The guard in files that hold what `start` represents, before they are opened.
     pub(crate) fn new(rt: &'a HostRuntime, start: S) -> GuardDatabase<'a, S>
-        ensures { result.left ≡ None }
+        ensures { AreUnopened start result.files }
     {
         GuardDatabase {
             rt,
-            start: Some(start),
-            left: None,
+            files: DatabaseFiles::Unopened(start),
         }
     }
 
     /// Opens the files at a path, unless they were opened before.
     fn connect(&mut self, path: &str) -> Result<FileConnection<S>, StationFault>
         ensures opens { IfOk result (OpensFiles (image_at S.Start)) }
-        ensures fault { IfErr result IsOfFiles }
-        ensures left { self.new.left ≡ self.old.left }
+        ensures none { ConnectsOrNot (image_at S.Start) result self.old.files self.new.files }
     {
-        match self.start.take() {
-            Some(start) => open_database(self.rt, path, start),
-            None => Err(StationFault::Device),
+        match replace(&mut self.files, DatabaseFiles::Connected) {
+            DatabaseFiles::Unopened(start) => match open_database(self.rt, path, start) {
+                Ok(conn) => Ok(conn),
+                Err(fault) => {
+                    let told = database_fault(fault.error());
+                    self.files = DatabaseFiles::Failed(fault);
+                    Err(told)
+                }
+            },
+            known => {
+                self.files = known;
+                Err(StationFault::Device)
+            }
         }
     }
 
-    /// How the connection ended, and its files, if they were opened.
-    pub(crate) fn into_left(self) -> Option<FilesLeft<S>>
-        ensures { result ≡ self.entry.left }
+    /// The files as they are now.
+    pub(crate) fn into_files(self) -> FilesAt<S>
+        ensures { result ≡ self.entry.files }
     {
-        let GuardDatabase { left, .. } = self;
-        left
+        let GuardDatabase { files, .. } = self;
+        files
     }
 }
 
 /// Abandons a connection over which no guard was opened or made, and returns its files as they are.
-fn abandoned<D: Disk + Drop>(conn: Connection<FileStore<D>>) -> Files<D>
+pub(crate) fn abandoned<D: Disk + Drop>(conn: Connection<FileStore<D>>) -> Files<D>
     // Whatever a crash makes of the files from now on, they hold a database that it could leave before.
     ensures leaves { LeavesDatabase conn result }
     ensures settles { Settles D.Disk }
@@ -208,7 +212,6 @@ fn make_over<S: Start>(
     requires files { OpensFiles (image_at S.Start) conn }
     requires lawful { IsTrue (are_serials first last) }
     ensures made { IfOk result (MakesGuard (image_at S.Start) (record { ca = ca; first = first; last = last })) }
-    ensures none { OnErr result (OpensNone (image_at S.Start) FoundsNone (opening_of result)) }
     ensures left { MakesOrLeaves (image_at S.Start) (record { ca = ca; first = first; last = last }) result }
 {
     match GuardStore::init(alloc, conn, &Scope { ca, first, last }) {
@@ -224,13 +227,12 @@ fn make_over<S: Start>(
 fn open_over<S: Start>(alloc: Global, conn: FileConnection<S>) -> Result<FileGuard<S>, Unopened<S>>
     requires { OpensFiles (image_at S.Start) conn }
     ensures found { IfOk result (FindsGuard (image_at S.Start)) }
-    ensures none { OnErr result (OpensNone (image_at S.Start) SaysAndMisses (opening_of result)) }
     ensures left { OpensOrLeaves (image_at S.Start) result }
 {
     match GuardStore::open(alloc, conn) {
         Ok(guard) => Ok(guard),
-        Err((fault, conn)) => {
-            let files = abandoned(conn);
+        Err((fault, found)) => {
+            let files = abandoned(found);
             Err((unopened_fault(fault), files))
         }
     }
@@ -240,22 +242,22 @@ impl<S: Start> GuardFile for GuardDatabase<'_, S> {
     type Guard = FileGuard<S>;
 
     ghost makes = { λ db _ scope found after. IfOk found (MakesGuard (image_at S.Start) scope)
-        × MakesLeaving (image_at S.Start) scope found db.left after.left };
+        × MakesLeaving (image_at S.Start) scope found db.files after.files };
 
     ghost opens = { λ db _ found after. IfOk found (FindsGuard (image_at S.Start))
-        × OpensLeaving (image_at S.Start) found db.left after.left };
+        × OpensLeaving (image_at S.Start) found db.files after.files };
 
-    ghost closes = { λ _ guard done db. IsSomeAnd db.left (EndsGuard guard done) };
+    ghost closes = { λ _ guard done db. AreLeftAs db.files (EndsGuard guard done) };
 
     ghost held = { λ s. HoldsKept (image_at S.Start) s };
 
     ghost is_blank = { HoldsNone (image_at S.Start) };
 
-    ghost is_settled = { λ db guard. IsSomeAnd db.left (AreSettled guard) };
+    ghost is_settled = { λ db guard. AreLeftAs db.files (AreSettled guard) };
 
-    ghost has = { λ db guard s. IsSomeAnd db.left (HaveGuard guard s) };
+    ghost has = { λ db guard s. AreLeftAs db.files (HaveGuard guard s) };
 
-    ghost has_one = { λ db guard s t. IsSomeAnd db.left (HaveOne guard s t) };
+    ghost has_one = { λ db guard s t. AreLeftAs db.files (HaveOne guard s t) };
 
     fn make(
         &mut self,
@@ -268,7 +270,7 @@ impl<S: Start> GuardFile for GuardDatabase<'_, S> {
                 Ok(conn) => match make_over(alloc, conn, scope.ca, scope.first, scope.last) {
                     Ok(guard) => Ok(guard),
                     Err((fault, files)) => {
-                        self.left = Some((Ok(()), files));
+                        self.files = DatabaseFiles::Left((Ok(()), files));
                         Err(fault)
                     }
                 },
@@ -278,14 +280,13 @@ impl<S: Start> GuardFile for GuardDatabase<'_, S> {
         }
     }
 
-    #[tactic(auto, using(crate::proofs::Kept::files_searched))]
     fn open(&mut self, alloc: Global, path: &str) -> Result<FileGuard<S>, StationFault> {
         match looked_for(self.rt, path) {
             Ok(()) => match self.connect(path) {
                 Ok(conn) => match open_over(alloc, conn) {
-                    Ok(guard) => Ok(guard),
+                    Ok(opened) => Ok(opened),
                     Err((fault, found)) => {
-                        self.left = Some((Ok(()), found));
+                        self.files = DatabaseFiles::Left((Ok(()), found));
                         Err(fault)
                     }
                 },
@@ -296,9 +297,10 @@ impl<S: Start> GuardFile for GuardDatabase<'_, S> {
     }
 
     fn close(&mut self, guard: FileGuard<S>) -> Result<(), StationFault> {
-        let (ended, files) = end_path(guard.into_connection());
+        let conn = guard.into_connection();
+        let (ended, files) = end_path(conn);
         let done = of_ending(ended);
-        self.left = Some((ended, files));
+        self.files = DatabaseFiles::Left((ended, files));
         done
     }
 }

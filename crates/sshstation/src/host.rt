@@ -3,11 +3,14 @@
 ghost use Rattle.std.specs.Prelude.{◌≡◌, ◌≤◌, IfSome, map, string_bytes};
 ghost use Rattle.values.specs.declared.limits.TheConstants.{LATEST_MOMENT};
 ghost use Rattle.station_command.specs.Answers.{AreBad};
+ghost use Rattle.station_jobs.specs.Names.{Takes};
 ghost use Rattle.sqlite_wal.specs.Files.{image_at};
+ghost use Rattle.sshstation.specs.Doing.{LeaveInput};
 ghost use Rattle.sshstation.specs.Living.{RunsWords};
 
 use crate::command::{BAD_WORDS, do_words};
-use crate::guard_database::{FilesLeft, GuardDatabase};
+use crate::database_files::FilesAt;
+use crate::guard_database::GuardDatabase;
 use crate::list_database::ListDatabase;
 use guard::Register;
 use guard_sql::GuardStore;
@@ -17,9 +20,10 @@ use list_sql::ListStore;
 use sqlite::{FileFrom, FileStore, Start};
 use station_jobs::{GuardFile, StationFault, Surroundings, file_fault};
 use std::fs;
-use std::io::{Read, Write};
+use std::io::{BufRead, Read, Write};
 use std::time::{Clock, SystemTime, UNIX_EPOCH};
 use values::LATEST_MOMENT;
+use wire::Sink;
 
 /// The system. Nothing is stated about its files and its clock.
 #[derive(Drop)]
@@ -60,48 +64,57 @@ impl Surroundings for Host<'_> {
     }
 }
 
-/// Does what the words ask for, with these files and this clock. Returns the exit status, and the files of a guard and
-/// of a guard of lists as they are left, if any were closed. `start` represents what the files of a guard hold, and
+/// Does what the words ask for, with these files, this clock and this input. Returns the exit status, and what became
+/// of the files of a guard and of those of a guard of lists. `start` represents what the files of a guard hold, and
 /// `lists` what those of a guard of lists hold: a job opens one or the other.
 pub(crate) fn run<
     F: Read + Drop,
     P: Surroundings<File = F>,
     S: Start,
     T: Start,
+    I: BufRead,
     O: Write,
-    E: Write,
+    E: Sink,
 >(
     rt: &HostRuntime,
     around: &P,
     start: S,
     lists: T,
     words: &[String],
+    input: &mut I,
     out: &mut O,
     err: &mut E,
-) -> (u8, Option<FilesLeft<S>>, Option<FilesLeft<T>>)
+) -> (u8, FilesAt<S>, FilesAt<T>)
+    requires { E.failed err.old ≡ 0 }
     ensures status { result.0 ≤ BAD_WORDS }
     ensures bad { result.0 ≡ BAD_WORDS → AreBad (map string_bytes words.now) }
+    ensures silent { result.0 ≡ 0 → err.new ≡ err.old }
+    ensures unread { LeaveInput (map string_bytes words.now) → I.remaining input.new ≡ I.remaining input.old }
 
-    // This is the effect of the words, and a job over the files of a guard, or of a guard of lists, was a run in their
-    // lifetime.
+    // This is the effect of the words over files that weren't opened before. For the files of a guard, and for those of
+    // a guard of lists, one of these is told: they weren't opened, and the value that was given is returned; or an open
+    // of them has failed, and left them as its fault says; or the job was a run in their lifetime. If no call of `err`
+    // has failed, it has taken the line of the job's fault, or clap's text about invalid arguments, and nothing else.
     ensures runs { RunsWords P.Surroundings around.now F.remaining
         ⟦<GuardStore<FileStore<FileFrom<S>>> as Register>⟧ ⟦<GuardDatabase<'static, S> as GuardFile>⟧
         ⟦<ListStore<FileStore<FileFrom<T>>> as ListRegister>⟧ ⟦<ListDatabase<'static, T> as ListFile>⟧
-        (λ db. db.left ≡ result.1) (λ lists. lists.left ≡ result.2) (image_at S.Start) (image_at T.Start) result.1
-        result.2 (map string_bytes words.now) (O.contents out.old) (O.contents out.new) result.0 }
+        (λ db. db.files) (λ db. db.files) start lists (image_at S.Start) (image_at T.Start) result.1 result.2
+        (map string_bytes words.now) (I.remaining input.old) (O.contents out.old) (O.contents out.new)
+        (Takes (E.failed err.old) (E.failed err.new) (E.taken err.old) (E.taken err.new)) result.0 }
 {
     let mut db = GuardDatabase::new(rt, start);
     let mut lists = ListDatabase::new(rt, lists);
-    let mut input = rt.reader();
     let status = do_words(
         rt.alloc(),
         around,
         &mut db,
         &mut lists,
         words,
-        &mut input,
+        input,
         out,
         err,
     );
-    (status, db.into_left(), lists.into_files_left())
+    let guard_files = db.into_files();
+    let list_files = lists.into_files();
+    (status, guard_files, list_files)
 }

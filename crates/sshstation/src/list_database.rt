@@ -1,24 +1,36 @@
 //! Guards of lists in the files of databases: finding, making, opening and closing them.
 
-ghost use Rattle.std.specs.Prelude.{◌≡◌, IfOk, IsSomeAnd, None};
+ghost use Rattle.std.specs.Prelude.{◌≡◌, IfOk};
 ghost use Rattle.sqlite_wal.specs.Files.{image_at};
-ghost use Rattle.sshstation.specs.ListFiles.{EndsList, FindsList, MakesList, OpensLists};
+ghost use Rattle.restart.specs.Opening.{OpensOrFails};
+ghost use Rattle.sshstation.specs.DatabaseFiles.{AreLeftAs, AreUnopened};
+ghost use Rattle.sshstation.specs.ListFiles.{EndsList, FindsList, MakesList, OpensLists, of_opening};
+ghost use Rattle.sshstation.specs.Unopened.{ConnectsOrNot};
+ghost use Rattle.sshstation.specs.UnopenedLists.{MakesLeaving, MakesOrLeaves, OpensLeaving, OpensOrLeaves};
 
+use crate::database_files::{DatabaseFiles, FilesAt};
 use crate::guard_database::{
-    FileConnection, FilesLeft, database_fault, looked_for, made, of_ending,
+    FileConnection, abandoned, database_fault, looked_for, made, of_ending,
 };
 use list_jobs::ListFile;
 use list_restart::{end_path, open_at};
 use list_sql::{ListStore, OpeningFault};
-use sqlite::{FileFrom, FileStore, Start};
+use restart::OpenFault;
+use sqlite::{FileFrom, FileStore, Files, Start};
 use station_jobs::StationFault;
 use std::alloc::Global;
+use std::mem::replace;
 
 /// A guard of lists in the files at a path.
 type FileLists<S> = ListStore<FileStore<FileFrom<S>>>;
 
+/// Why no guard of lists was opened or made, and the files, which are left as they are.
+type Unopened<S> = (StationFault, Files<FileFrom<S>>);
+
 /// The fault of a guard of lists that wasn't opened or made.
-fn unopened_fault(fault: OpeningFault) -> StationFault {
+fn unopened_fault(fault: OpeningFault) -> StationFault
+    ensures { result ≡ of_opening fault }
+{
     match fault {
         OpeningFault::AlreadyAGuard => StationFault::AlreadyAGuard,
         OpeningFault::NotAGuard => StationFault::NotAGuard,
@@ -34,12 +46,13 @@ fn open_lists<S: Start>(
     rt: &HostRuntime,
     path: &str,
     start: S,
-) -> Result<FileConnection<S>, StationFault>
-    ensures { IfOk result (OpensLists (image_at S.Start)) }
+) -> Result<FileConnection<S>, OpenFault<FileFrom<S>>>
+    ensures ok { IfOk result (OpensLists (image_at S.Start)) }
+    ensures fails { OpensOrFails (image_at S.Start) result }
 {
     match open_at(rt, path, start) {
-        Ok(conn) => Ok(conn),
-        Err(error) => Err(database_fault(error)),
+        Ok(found) => Ok(found),
+        Err(fault) => Err(fault),
     }
 }
 
@@ -47,68 +60,76 @@ fn open_lists<S: Start>(
 #[derive(Drop)]
 pub(crate) struct ListDatabase<'a, S: Start> {
     rt: &'a HostRuntime,
-    // Represents what the files hold, until they are opened.
-    start: Option<S>,
-    // Set once the connection has ended.
-    left: Option<FilesLeft<S>>,
+    files: FilesAt<S>,
 }
 
 impl<'a, S: Start> ListDatabase<'a, S> {
     /// The guard of lists in files that hold what `start` represents, before they are opened.
     pub(crate) fn new(rt: &'a HostRuntime, start: S) -> ListDatabase<'a, S>
-        ensures { result.left ≡ None }
+        ensures { AreUnopened start result.files }
     {
         ListDatabase {
             rt,
-            start: Some(start),
-            left: None,
+            files: DatabaseFiles::Unopened(start),
         }
     }
 
     /// Opens the files at a path, unless they were opened before.
     fn connect(&mut self, path: &str) -> Result<FileConnection<S>, StationFault>
         ensures opens { IfOk result (OpensLists (image_at S.Start)) }
-        ensures left { self.new.left ≡ self.old.left }
+        ensures none { ConnectsOrNot (image_at S.Start) result self.old.files self.new.files }
     {
-        match self.start.take() {
-            Some(start) => open_lists(self.rt, path, start),
-            None => Err(StationFault::Device),
+        match replace(&mut self.files, DatabaseFiles::Connected) {
+            DatabaseFiles::Unopened(start) => match open_lists(self.rt, path, start) {
+                Ok(conn) => Ok(conn),
+                Err(fault) => {
+                    let told = database_fault(fault.error());
+                    self.files = DatabaseFiles::Failed(fault);
+                    Err(told)
+                }
+            },
+            known => {
+                self.files = known;
+                Err(StationFault::Device)
+            }
         }
     }
 
-    /// How the connection ended, and its files, if a guard of lists was closed.
-    pub(crate) fn into_files_left(self) -> Option<FilesLeft<S>>
-        ensures { result ≡ self.entry.left }
+    /// The files as they are now.
+    pub(crate) fn into_files(self) -> FilesAt<S>
+        ensures { result ≡ self.entry.files }
     {
-        let ListDatabase { left, .. } = self;
-        left
+        let ListDatabase { files, .. } = self;
+        files
     }
 }
 
 /// Makes a guard of lists over a new connection.
-fn make_over<S: Start>(alloc: Global, conn: FileConnection<S>) -> Result<FileLists<S>, StationFault>
+fn make_over<S: Start>(alloc: Global, conn: FileConnection<S>) -> Result<FileLists<S>, Unopened<S>>
     requires { OpensLists (image_at S.Start) conn }
-    ensures { IfOk result (MakesList (image_at S.Start)) }
+    ensures made { IfOk result (MakesList (image_at S.Start)) }
+    ensures left { MakesOrLeaves (image_at S.Start) result }
 {
     match ListStore::init(alloc, conn) {
         Ok(guard) => Ok(guard),
         Err((fault, conn)) => {
-            drop(conn);
-            Err(unopened_fault(fault))
+            let files = abandoned(conn);
+            Err((unopened_fault(fault), files))
         }
     }
 }
 
 /// Opens the guard of lists of a new connection.
-fn open_over<S: Start>(alloc: Global, conn: FileConnection<S>) -> Result<FileLists<S>, StationFault>
+fn open_over<S: Start>(alloc: Global, conn: FileConnection<S>) -> Result<FileLists<S>, Unopened<S>>
     requires { OpensLists (image_at S.Start) conn }
-    ensures { IfOk result (FindsList (image_at S.Start)) }
+    ensures found { IfOk result (FindsList (image_at S.Start)) }
+    ensures left { OpensOrLeaves (image_at S.Start) result }
 {
     match ListStore::open(alloc, conn) {
         Ok(guard) => Ok(guard),
-        Err((fault, conn)) => {
-            drop(conn);
-            Err(unopened_fault(fault))
+        Err((fault, found)) => {
+            let files = abandoned(found);
+            Err((unopened_fault(fault), files))
         }
     }
 }
@@ -116,16 +137,24 @@ fn open_over<S: Start>(alloc: Global, conn: FileConnection<S>) -> Result<FileLis
 impl<S: Start> ListFile for ListDatabase<'_, S> {
     type Guard = FileLists<S>;
 
-    ghost makes = { λ db _ found after. IfOk found (MakesList (image_at S.Start)) × (after.left ≡ db.left) };
+    ghost makes = { λ db _ found after. IfOk found (MakesList (image_at S.Start))
+        × MakesLeaving (image_at S.Start) found db.files after.files };
 
-    ghost opens = { λ db _ found after. IfOk found (FindsList (image_at S.Start)) × (after.left ≡ db.left) };
+    ghost opens = { λ db _ found after. IfOk found (FindsList (image_at S.Start))
+        × OpensLeaving (image_at S.Start) found db.files after.files };
 
-    ghost closes = { λ _ guard done db. IsSomeAnd db.left (EndsList guard done) };
+    ghost closes = { λ _ guard done db. AreLeftAs db.files (EndsList guard done) };
 
     fn make(&mut self, alloc: Global, path: &str) -> Result<FileLists<S>, StationFault> {
         match made(self.rt, path) {
             Ok(()) => match self.connect(path) {
-                Ok(conn) => make_over(alloc, conn),
+                Ok(conn) => match make_over(alloc, conn) {
+                    Ok(guard) => Ok(guard),
+                    Err((fault, files)) => {
+                        self.files = DatabaseFiles::Left((Ok(()), files));
+                        Err(fault)
+                    }
+                },
                 Err(fault) => Err(fault),
             },
             Err(fault) => Err(fault),
@@ -135,7 +164,13 @@ impl<S: Start> ListFile for ListDatabase<'_, S> {
     fn open(&mut self, alloc: Global, path: &str) -> Result<FileLists<S>, StationFault> {
         match looked_for(self.rt, path) {
             Ok(()) => match self.connect(path) {
-                Ok(conn) => open_over(alloc, conn),
+                Ok(conn) => match open_over(alloc, conn) {
+                    Ok(opened) => Ok(opened),
+                    Err((fault, found)) => {
+                        self.files = DatabaseFiles::Left((Ok(()), found));
+                        Err(fault)
+                    }
+                },
                 Err(fault) => Err(fault),
             },
             Err(fault) => Err(fault),
@@ -143,9 +178,10 @@ impl<S: Start> ListFile for ListDatabase<'_, S> {
     }
 
     fn close(&mut self, guard: FileLists<S>) -> Result<(), StationFault> {
-        let (ended, files) = end_path(guard.into_connection());
+        let conn = guard.into_connection();
+        let (ended, files) = end_path(conn);
         let done = of_ending(ended);
-        self.left = Some((ended, files));
+        self.files = DatabaseFiles::Left((ended, files));
         done
     }
 }

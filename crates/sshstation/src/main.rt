@@ -3,11 +3,12 @@
 //! What a command does with a guard is proved in `station_jobs`, over any register, files, input and output: `run_in`
 //! does it, from opening the guard's file to closing it. Here `do_words` reads the words and does the job that they
 //! name, and `run` does this over the tables of a database: it shows that an opened guard is the one that the files
-//! held, and that they hold the one that is closed. Other files and the clock may be any: `main` gives it the system's,
-//! about which nothing is proved, nor about the console.
+//! held, and that they hold the one that is closed. Other files, the clock and the input may be any: `main` gives it
+//! the system's, about which nothing is proved, nor about the console.
 #![tactic(auto)]
 
 mod command;
+mod database_files;
 mod ending;
 mod guard_database;
 mod host;
@@ -17,6 +18,7 @@ use sqlite::Unknown;
 use std::process::ExitCode;
 use std::rt::Env;
 use std::{env, io};
+use wire::FromWrite;
 
 fn words_of<R: Env + AllocGlobal>(rt: &R) -> io::Result<Vec<String>> {
     let words = env::args(rt)?.collect(rt.alloc())?;
@@ -24,13 +26,17 @@ fn words_of<R: Env + AllocGlobal>(rt: &R) -> io::Result<Vec<String>> {
 }
 
 fn status_by(rt: &HostRuntime) -> u8 {
-    let mut err = rt.stderr();
+    let mut err = FromWrite::new(rt.stderr());
     let mut out = rt.stdout();
     match words_of(rt) {
         Ok(words) => {
             let around = host::Host { rt };
             let words = words.as_slice();
-            host::run(rt, &around, Unknown, Unknown, words, &mut out, &mut err).0
+            let mut input = rt.reader();
+            host::run(
+                rt, &around, Unknown, Unknown, words, &mut input, &mut out, &mut err,
+            )
+            .0
         }
         Err(fault) => command::do_no_words(fault.kind(), &mut err),
     }

@@ -1,9 +1,12 @@
 -- The faults of a step are faults of the steps that it is part of.
+use Rattle.std.specs.Prelude.{Option}
+use Rattle.cert.specs.declared.fields.CertFields.{CertFields}
+use Rattle.guard.specs.declared.register.RegisterFault.{RegisterFault}
+use Rattle.guard.specs.declared.register.RegisterFault.TheVariants as register
 use Rattle.station_jobs.specs.declared.station_fault.StationFault.{StationFault}
-use Rattle.station_jobs.specs.declared.station_fault.StationFault.TheVariants.{File, NoMemory}
-use Rattle.lines.specs.declared.key_line.LineFault.{LineFault}
-use Rattle.lines.specs.declared.key_line.LineFault.TheVariants as line
-use Rattle.station_jobs.specs.Faults.{IsOfABody, IsOfAFile, IsOfAKey, IsOfAPolicy, of_line}
+use Rattle.station_jobs.specs.declared.station_fault.StationFault.TheVariants.{BadPolicy, Clock, Damaged, File, NoMemory, Write}
+use Rattle.station_jobs.specs.Faults.{IsOfABody, IsOfAFile, IsOfAPolicy, IsOfAQuestion, IsOfARow, IsOfAnAnswer}
+use Rattle.station_jobs.specs.Faults.{IsOfBodies, IsOfJudging, IsOfRows, of_register}
 
 pub of_a_file : (e : StationFault) → IsOfAFile e → IsOfAPolicy e
 of_a_file File h = tt
@@ -15,11 +18,55 @@ of_a_body File h = tt
 of_a_body NoMemory h = tt
 of_a_body other h = absurd h
 
-pub key_file : (e : StationFault) → IsOfAFile e → IsOfAKey e
-key_file File h = tt
-key_file NoMemory h = tt
-key_file other h = absurd h
+-- ---- faults of judging
 
-pub key_line : (e : LineFault) → IsOfAKey (of_line e)
-key_line line.NoMemory = tt
-key_line other = tt
+pub judging_of_a_file : (e : StationFault) → IsOfAFile e → IsOfJudging e
+judging_of_a_file File h = tt
+judging_of_a_file NoMemory h = tt
+judging_of_a_file other h = absurd h
+
+pub judging_of_bodies : (e : StationFault) → IsOfBodies e → IsOfJudging e
+judging_of_bodies (BadPolicy line) h = tt
+judging_of_bodies other h = h
+
+pub judging_of_a_policy : (e : StationFault) → IsOfAPolicy e → IsOfJudging e
+judging_of_a_policy File h = tt
+judging_of_a_policy NoMemory h = tt
+judging_of_a_policy (BadPolicy line) h = tt
+judging_of_a_policy other h = absurd h
+
+-- ---- faults of a question, and of bodies
+
+pub question_of_an_answer : (e : StationFault) → IsOfAnAnswer e → IsOfAQuestion e
+question_of_an_answer Write h = tt
+question_of_an_answer NoMemory h = tt
+question_of_an_answer other h = absurd h
+
+pub question_of_a_register : (e : RegisterFault) → IsOfAQuestion (of_register e)
+question_of_a_register register.Device = tt
+question_of_a_register register.Damaged = tt
+question_of_a_register register.NoMemory = tt
+
+pub bodies_of_a_body : (e : StationFault) → IsOfABody e → IsOfBodies e
+bodies_of_a_body File h = tt
+bodies_of_a_body NoMemory h = tt
+bodies_of_a_body Clock h = tt
+bodies_of_a_body other h = absurd h
+
+pub bodies_of_a_question : (e : StationFault) → IsOfAQuestion e → IsOfBodies e
+bodies_of_a_question File h = tt
+bodies_of_a_question Clock h = tt
+bodies_of_a_question other h = h
+
+-- ---- faults of rows
+
+pub rows_of_a_register : (e : RegisterFault) → IsOfRows (of_register e)
+rows_of_a_register register.Device = tt
+rows_of_a_register register.Damaged = tt
+rows_of_a_register register.NoMemory = tt
+
+pub rows_of_a_row : (fields : Option CertFields) (e : StationFault) → IsOfARow fields e → IsOfRows e
+rows_of_a_row fields Write h = tt
+rows_of_a_row fields NoMemory h = tt
+rows_of_a_row fields Damaged h = tt
+rows_of_a_row fields other h = absurd h

@@ -1,6 +1,5 @@
 -- From the guard that files held before a job to the one that they hold after it.
-use Rattle.std.proofs.Common.{◌≡◌, ◌<◌, ◌^◌, ◌∷◌, [], ℕ, List, Bool, true, false, Option, Result, Ok, Err, refl}
-use Rattle.std.specs.Prelude.{OnOk}
+use Rattle.std.proofs.Common.{◌≡◌, ℕ, List, Bool, true, false, Option, Result, Ok, Err}
 use Rattle.guard.specs.declared.register.Register as register
 use Rattle.guard.specs.declared.scope.Scope.{Scope}
 use Rattle.guard.specs.Machine.{State, Question, opened}
@@ -8,10 +7,8 @@ use Rattle.guard.specs.Retiring.{with_last}
 use Rattle.station_jobs.specs.declared.guard_file.GuardFile as file
 use Rattle.station_jobs.specs.declared.station_fault.StationFault.{StationFault}
 use Rattle.station_jobs.specs.declared.station_fault.StationFault.TheVariants.{BadSerials, SerialApproved}
-use Rattle.station_jobs.specs.Bodies.{ListsBodies, PrintsBody}
-use Rattle.station_jobs.specs.Input.{JudgesInput}
-use Rattle.station_jobs.specs.Judging.{Judges}
-use Rattle.station_jobs.specs.Leaving.{Leaves, OfNone, Outlasts, Step}
+use Rattle.station_jobs.specs.Bodies.{PrintsRows}
+use Rattle.station_jobs.specs.Leaving.{Leaves, OfNone, Step}
 use Rattle.station_jobs.specs.Whole.{ClosesNew, Does, JudgesGiven, KeepsFiles, LeavesFiles, Retires, RetiresTo, RunsIn}
 use Rattle.station_jobs.specs.Whole.{closed}
 use Rattle.station_jobs.proofs.Judgements.{judged_so}
@@ -104,12 +101,22 @@ given_so true s Left Left' Asked bodies input held holds r leads is = record {
 given_so false s Left Left' Asked bodies input held holds r leads is =
     judged_so Left Left' Asked s bodies held holds r (λ t left. leads t r left) is
 
+pub rows_so : (s : State) (Left Left' : State → Result (Unit {0}) StationFault → Type 0) (held holds : Option (List ℕ))
+    (r : Result (Unit {0}) StationFault) → ((t : State) (r : Result (Unit {0}) StationFault) → Left t r → Left' t r)
+    → PrintsRows s Left held holds r → PrintsRows s Left' held holds r
+rows_so s Left Left' held holds r leads is = record {
+  lists = is.lists;
+  stays = leads s (Ok tt) is.stays;
+  only = is.only;
+  cause = λ are. leads s r (is.cause are);
+}
+
 retires_to : (last : ℕ) (s : State) (Left Left' : State → Type 0) (r : Result ℕ StationFault)
     → ((t : State) → Left t → Left' t) → RetiresTo last s Left r → RetiresTo last s Left' r
 retires_to last s Left Left' (Ok first) leads is = (is.0, leads (with_last s last) is.1, is.2)
 retires_to last s Left Left' (Err BadSerials) leads is = (is.0, leads s is.1)
 retires_to last s Left Left' (Err SerialApproved) leads is = (is.0, leads s is.1)
-retires_to last s Left Left' (Err other) leads is = leads s is
+retires_to last s Left Left' (Err other) leads is = (is.0, leads s is.1)
 
 pub retires_so : (last : ℕ) (s : State) (Left Left' : State → Result ℕ StationFault → Type 0) (r : Result ℕ StationFault)
     → ((t : State) (r : Result ℕ StationFault) → Left t r → Left' t r) → Retires last s Left r → Retires last s Left' r

@@ -1,11 +1,10 @@
 -- Judging unsigned certificates (bodies) in order.
-use Rattle.std.proofs.Common.{◌≡◌, ◌≤◌, ◌<◌, ◌++◌, ◌∷◌, [], ℕ, List, All, Option, Some, None, Result, Ok, Err, length, map, take}
-use Rattle.std.proofs.Common.{IfSome, append_assoc, arith, drop, get_or, ◌+◌, refl, sym, ap, subst, ◌∙◌, ◌⊎◌, inl, inr}
+use Rattle.std.proofs.Common.{◌≡◌, ◌<◌, ◌++◌, ◌∷◌, [], ℕ, List, All, Option, Result, Ok, Err, length, map, take}
+use Rattle.std.proofs.Common.{IfSome, append_assoc, arith, drop, get_or, ◌+◌, refl, sym, ap, subst, ◌∙◌, inl, inr}
 use Rattle.std.specs.Io.KnownBytes.{Appends}
 use Rattle.std.proofs.KnownBytes.{Appends-nil, Appends-trans}
 use Rattle.std.proofs.lemmas.List.{append-nil, map_push, take_more, take-append-drop}
 use Rattle.std.proofs.lemmas.List.Elements.{All-append, All-cons, All-nil, All-weaker}
-use Rattle.wire.specs.Streams.{AppendsBeginning}
 use Rattle.message.specs.declared.department.Department.{Department}
 use Rattle.guard.specs.declared.judging.Answer.{Answer}
 use Rattle.guard.specs.declared.judging.Answer.TheVariants as answer
@@ -20,7 +19,7 @@ use Rattle.station_jobs.specs.declared.surroundings.Surroundings.{Ghosts}
 use Rattle.station_jobs.specs.Judging.{AreAnswered, Asks, AsksNow, Covers, IsPolicyAt, IsPrinted, Judgement, Judges}
 use Rattle.station_jobs.specs.Judging.{left_by, lines_of}
 use Rattle.station_jobs.specs.Leaving.{IsNext, Leaves, OfBodies, OfQuestion, Step}
-use Rattle.station_jobs.specs.Steps.{Answered, AnswersOne, IsLinePrinted, NotOk, Weighs}
+use Rattle.station_jobs.specs.Steps.{AnswersOne, IsLinePrinted, NotOk, Weighs}
 use Rattle.station_jobs.proofs.Leavings.{leaves_so, leaves_then}
 use Rattle.station_jobs.proofs.Longer.{of_all}
 

@@ -6,3 +6,5 @@ mod Lines
 mod Rows
 mod Filed
 mod Retirings
+mod Printed
+mod Keys

@@ -1,5 +1,5 @@
 -- Paths from an input, and judging the unsigned certificates (bodies) at them.
-use Rattle.std.proofs.Common.{◌≡◌, ◌≢◌, ◌++◌, ◌∷◌, [], ◌⊎◌, ℕ, List, Bool, true, false, cond, Option, Some, None, Result, Ok, Err}
+use Rattle.std.proofs.Common.{◌≡◌, ◌≢◌, ◌++◌, ◌∷◌, [], ℕ, List, Bool, true, false, cond, Option, Some, None, Result, Ok, Err}
 use Rattle.std.proofs.Common.{IfSome, arith, length, refl, sym, ap, subst, ◌∙◌, inl, inr, ◌==◌}
 use Rattle.std.specs.Io.BufRead.{drop_through, first_piece, strip_last, take_through}
 use Rattle.std.specs.Io.KnownBytes.{IsAtEnd}

@@ -1,5 +1,5 @@
 -- A file that is longer than any unsigned certificate: its prefix gets the answer that the whole file would get.
-use Rattle.std.proofs.Common.{◌≡◌, ◌≤◌, ◌<◌, ◌^◌, ◌⊎◌, ℕ, List, Option, Some, None, Result, arith, inl, inr, length, refl, subst}
+use Rattle.std.proofs.Common.{◌≡◌, ◌<◌, ℕ, List, Option, Some, None, Result, arith, inl, inr, length, refl, subst}
 use Rattle.std.proofs.Common.{ap, sym, take, ◌∙◌}
 use Rattle.std.specs.Prelude.{IfSome}
 use Rattle.std.proofs.lemmas.Bool.{cases_lt, lt-ltb}
@@ -39,7 +39,7 @@ module _ (s : State) (q : Question) (bytes : List ℕ) (short : 16384 < length q
   answers (answer.Sign serial digest) h = let no = h.0 in let yes = was in absurd cc
   answers (answer.NotABody fault.TooLong) h = (is, long)
   answers (answer.NotABody (fault.NotOfTheProfile e)) h = absurd (let low = h.1.0 in omega (arith, short, low))
-  answers (answer.NotABody fault.NoMemory) h = (is, tt)
+  answers (answer.NotABody fault.NoMemory) h = absurd h.1
   answers (answer.Refuse r) h = is ∙ (sym was ∙ h)
 
   kept : (a : Answer) → Answers a s q → IsKept a (after s (with_body q bytes)) bytes

@@ -34,9 +34,9 @@ still_kept s last keeps retiring.SerialApproved is = is.1
 
 told : (s : State) (last : ℕ) (keeps Left : State → Type 0) (e : RetireFault) → IsRetired s last keeps (Err e) → Left s
     → RetiresTo last s Left (Err (of_retiring e))
-told s last keeps Left (retiring.Register register.Device) is left = left
-told s last keeps Left (retiring.Register register.Damaged) is left = left
-told s last keeps Left (retiring.Register register.NoMemory) is left = left
+told s last keeps Left (retiring.Register register.Device) is left = (tt, left)
+told s last keeps Left (retiring.Register register.Damaged) is left = (tt, left)
+told s last keeps Left (retiring.Register register.NoMemory) is left = (tt, left)
 told s last keeps Left retiring.BadSerials is left = (is.0, left)
 told s last keeps Left retiring.SerialApproved is left = (is.0, left)
 
@@ -66,6 +66,6 @@ module _ {G : Type 0} (guard : Ghosts G) (last : ℕ) (old new : G) (s : State) 
   pub retires_none : (e : RegisterFault) → Leaves {A = ℕ} guard (OfRetiring last) old new s s (Err (of_register e))
       → RetiresTo last s (λ t. Leaves {A = ℕ} guard (OfRetiring last) old new s t (Err (of_register e)))
       (Err (of_register e))
-  retires_none register.Device left = left
-  retires_none register.Damaged left = left
-  retires_none register.NoMemory left = left
+  retires_none register.Device left = (tt, left)
+  retires_none register.Damaged left = (tt, left)
+  retires_none register.NoMemory left = (tt, left)

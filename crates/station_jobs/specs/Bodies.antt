@@ -1,14 +1,17 @@
 -- Printing approved unsigned certificates (bodies).
-use Rattle.std.specs.Prelude.{◌≡◌, ◌+◌, ◌++◌, ◌∷◌, [], ℕ, List, decimal, Option, Some, None, Result, Ok, Err}
+use Rattle.std.specs.Prelude.{◌≡◌, ◌≢◌, ◌<◌, ◌+◌, ◌^◌, ◌++◌, ◌∷◌, [], ℕ, List, All, decimal, Option, Some, None, Result}
+use Rattle.std.specs.Prelude.{IfErr, Ok, Err}
 use Rattle.std.specs.List.{flat_map}
 use Rattle.std.specs.Option.{option_map_or}
 use Rattle.std.specs.Io.KnownBytes.{Appends}
+use Rattle.wire.specs.Streams.{AppendsBeginning}
 use Rattle.lines.specs.Digests.{digest_text}
 use Rattle.guard.specs.declared.approved.Approved.{Approved}
 use Rattle.guard.specs.Machine.{State, body_of, fields_of}
 use Rattle.guard.specs.Retiring.{IsRowFrom}
 use Rattle.station_jobs.specs.declared.station_fault.StationFault.{StationFault}
-use Rattle.station_jobs.specs.declared.station_fault.StationFault.TheVariants.{UnknownSerial}
+use Rattle.station_jobs.specs.declared.station_fault.StationFault.TheVariants.{UnknownSerial, Write}
+use Rattle.station_jobs.specs.Faults.{IsOfARegister, IsOfRows}
 
 -- a line SERIAL DIGEST TIME KEYID
 abbrev pub named_line : Approved → (key_id : List ℕ) → List ℕ
@@ -40,8 +43,36 @@ pub record ListsBodies (s : State) (held holds : Option (List ℕ)) : Type 0 whe
   pub last : IsRowFrom s next None
   pub printed : Appends held holds (flat_map row_line rows)
 
--- the body that is approved under the serial is printed, or there is none
+-- A prefix of the lines of the first rows from `from` on is printed.
+pub record ListsFirst (s : State) (from : ℕ) (held holds : Option (List ℕ)) : Type 0 where
+  pub rows : List Approved
+  pub next : ℕ
+  pub in_order : Follow s from rows next
+  pub printed : AppendsBeginning held holds (flat_map row_line rows)
+
+-- the line of each stored row is printed, or after a fault a prefix of the lines
+abbrev pub ListsRows : State → (held holds : Option (List ℕ)) → Result (Unit {0}) StationFault → Type 0
+ListsRows s held holds (Ok done) = ListsBodies s held holds
+ListsRows s held holds (Err e) = ListsFirst s 0 held holds
+
+-- each approved body is one of the profile, under a serial below 2^63, as each that a guard approves is
+abbrev pub AreReadable : State → Type 0
+AreReadable s = All (λ a. (fields_of a.body ≢ None) × (a.serial < 2 ^ 63)) s.approved
+
+-- The rows are printed, and what was kept is left. A fault is of the register or of the output, and if each approved
+-- body can be read, it has its cause.
+pub record PrintsRows (s : State) (Left : State → Result (Unit {0}) StationFault → Type 0)
+    (held holds : Option (List ℕ)) (result : Result (Unit {0}) StationFault) : Type 0 where
+  pub lists : ListsRows s held holds result
+  pub stays : Left s (Ok tt)
+  pub only : IfErr result IsOfRows
+  pub cause : AreReadable s → Left s result
+
+-- The body that is approved under the serial is printed, or if the output fails a prefix of it. For a serial without a
+-- body, and if the register doesn't answer, nothing is printed.
 abbrev pub PrintsBody : State → ℕ → (held holds : Option (List ℕ)) → Result (Unit {0}) StationFault → Type 0
 PrintsBody s serial held holds (Ok done) = (body : List ℕ) × (body_of s serial ≡ Some body) × Appends held holds body
-PrintsBody s serial held holds (Err UnknownSerial) = body_of s serial ≡ None
-PrintsBody s serial held holds (Err other) = Unit {0}
+PrintsBody s serial held holds (Err UnknownSerial) = (body_of s serial ≡ None) × (holds ≡ held)
+PrintsBody s serial held holds (Err Write) =
+    (body : List ℕ) × (body_of s serial ≡ Some body) × AppendsBeginning held holds body
+PrintsBody s serial held holds (Err other) = IsOfARegister other × (holds ≡ held)

@@ -1,4 +1,8 @@
 -- Which fault of a job each underlying fault becomes, and which faults each step may have.
+use Rattle.std.specs.Prelude.{◌≡◌, Option, None}
+use Rattle.std.specs.declared.io.ErrorKind.{ErrorKind}
+use Rattle.std.specs.declared.io.ErrorKind.TheVariants.{OutOfMemory}
+use Rattle.cert.specs.declared.fields.CertFields.{CertFields}
 use Rattle.lines.specs.declared.key_line.LineFault.{LineFault}
 use Rattle.lines.specs.declared.key_line.LineFault.TheVariants as line
 use Rattle.guard.specs.declared.policy_fault.PolicyFault.{PolicyFault}
@@ -9,6 +13,11 @@ use Rattle.guard.specs.declared.retiring.RetireFault.{RetireFault}
 use Rattle.guard.specs.declared.retiring.RetireFault.TheVariants as retiring
 use Rattle.station_jobs.specs.declared.station_fault.StationFault.{StationFault}
 use Rattle.station_jobs.specs.declared.station_fault.StationFault.TheVariants as fault
+
+-- the fault of a file whose opening or reading ended with an error of this kind
+abbrev pub of_file : ErrorKind → StationFault
+of_file OutOfMemory = fault.NoMemory
+of_file kind = fault.File
 
 -- the fault of a register that didn't answer
 abbrev pub of_register : RegisterFault → StationFault
@@ -59,9 +68,49 @@ IsOfAPolicy fault.NoMemory = Unit {0}
 IsOfAPolicy (fault.BadPolicy line) = Unit {0}
 IsOfAPolicy other = ⊥
 
+-- The faults of printing a policy.
+abbrev pub IsOfAPrintedPolicy : StationFault → Type 0
+IsOfAPrintedPolicy fault.Write = Unit {0}
+IsOfAPrintedPolicy other = IsOfAPolicy other
+
 -- The faults of reading a key.
 abbrev pub IsOfAKey : StationFault → Type 0
 IsOfAKey fault.File = Unit {0}
 IsOfAKey fault.NoMemory = Unit {0}
 IsOfAKey (fault.Line e) = Unit {0}
 IsOfAKey other = ⊥
+
+-- The faults of printing the line of a row, if its body has these fields: only a body without any is damaged.
+abbrev pub IsOfARow : Option CertFields → StationFault → Type 0
+IsOfARow fields fault.Write = Unit {0}
+IsOfARow fields fault.NoMemory = Unit {0}
+IsOfARow fields fault.Damaged = fields ≡ None
+IsOfARow fields other = ⊥
+
+-- The faults of a register that didn't answer.
+abbrev pub IsOfARegister : StationFault → Type 0
+IsOfARegister fault.Device = Unit {0}
+IsOfARegister fault.Damaged = Unit {0}
+IsOfARegister fault.NoMemory = Unit {0}
+IsOfARegister other = ⊥
+
+-- The faults of printing the rows of a register.
+abbrev pub IsOfRows : StationFault → Type 0
+IsOfRows fault.Write = Unit {0}
+IsOfRows other = IsOfARegister other
+
+-- The faults of a question: those of the register, and of printing the answer.
+abbrev pub IsOfAQuestion : StationFault → Type 0
+IsOfAQuestion fault.Write = Unit {0}
+IsOfAQuestion other = IsOfARegister other
+
+-- The faults of judging bodies by a policy that was read: those of their files, of the clock, and of the questions.
+abbrev pub IsOfBodies : StationFault → Type 0
+IsOfBodies fault.File = Unit {0}
+IsOfBodies fault.Clock = Unit {0}
+IsOfBodies other = IsOfAQuestion other
+
+-- The faults of judging the bodies at the paths of an input: the policy is read again for each, and may be invalid.
+abbrev pub IsOfJudging : StationFault → Type 0
+IsOfJudging (fault.BadPolicy line) = Unit {0}
+IsOfJudging other = IsOfBodies other

@@ -1,5 +1,6 @@
 -- What each job does with the guard in a file, from opening it to closing it.
-use Rattle.std.specs.Prelude.{◌≡◌, ◌⊎◌, ℕ, List, IsTrue, map, string_bytes, OnOk, Option, Result, Ok, Err}
+use Rattle.std.specs.Prelude.{◌≡◌, ◌⊎◌, ℕ, List, Bool, IsTrue, false, map, string_bytes, Option, Result, Ok}
+use Rattle.std.specs.Prelude.{Err}
 use Rattle.std.specs.Io.KnownBytes.{Appends}
 use Rattle.wire.specs.Streams.{AppendsBeginning}
 use Rattle.office.specs.Openings.{are_serials}
@@ -11,14 +12,19 @@ use Rattle.station_jobs.specs.declared.job.GuardJob.TheVariants.{Init, Judge, Bo
 use Rattle.station_jobs.specs.declared.surroundings.Surroundings as surroundings
 use Rattle.station_jobs.specs.declared.station_fault.StationFault.{StationFault}
 use Rattle.station_jobs.specs.declared.station_fault.StationFault.TheVariants.{NoMemory, Write}
-use Rattle.station_jobs.specs.Bodies.{ListsBodies, PrintsBody}
+use Rattle.station_jobs.specs.Bodies.{PrintsBody, PrintsRows}
 use Rattle.station_jobs.specs.Leaving.{OfNone, OfRetiring}
-use Rattle.station_jobs.specs.Whole.{Follows, JudgesIn, MakesIn, Retires, RunsIn, ready_text, retired_text}
+use Rattle.station_jobs.specs.Whole.{Follows, JudgesIn, MakesIn, Retires, RunsIn, is_input, ready_text, retired_text}
 
 -- a guard is only made with valid serials
 abbrev pub IsLawful : GuardJob → Type 0
 IsLawful (Init scope) = IsTrue (are_serials scope.first scope.last)
 IsLawful other = Unit {0}
+
+-- whether the job reads paths from the input
+abbrev pub reads_input : GuardJob → Bool
+reads_input (Judge j) = is_input (map string_bytes j.bodies.now)
+reads_input other = false
 
 -- this was printed; or a prefix of it, and the output failed or memory was refused
 abbrev pub Prints : (told : List ℕ) → (held holds : Option (List ℕ)) → Result (Unit {0}) StationFault → Type 0
@@ -51,10 +57,9 @@ RunsJob world around remaining guard file db db' path (Judge j) input held holds
     JudgesIn world around remaining guard file db db' path j.policy.now j.ahead (map string_bytes j.bodies.now) input
     held holds result
 RunsJob world around remaining guard file db db' path Bodies input held holds result =
-    RunsIn guard file db db' path OfNone (λ s Left r. OnOk r (ListsBodies s held holds) × Left s (Ok tt)) (holds ≡ held)
-    result
+    RunsIn guard file db db' path OfNone (λ s Left r. PrintsRows s Left held holds r) (holds ≡ held) result
 RunsJob world around remaining guard file db db' path (Body serial) input held holds result =
-    RunsIn guard file db db' path OfNone (λ s Left r. PrintsBody s serial held holds r × Left s (Ok tt)) (holds ≡ held)
+    RunsIn guard file db db' path OfNone (λ s Left r. PrintsBody s serial held holds r × Left s r) (holds ≡ held)
     result
 RunsJob world around remaining guard file db db' path (Retire last) input held holds result =
     LowersIn guard file db db' path last held holds result

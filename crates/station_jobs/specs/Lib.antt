@@ -8,3 +8,4 @@ pub mod Bodies
 pub mod Policy
 pub mod Whole
 pub mod Jobs
+pub mod Names

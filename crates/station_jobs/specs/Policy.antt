@@ -2,6 +2,7 @@
 use Rattle.std.specs.Prelude.{◌≡◌, ◌++◌, ◌∷◌, [], ℕ, List, Option, Ok}
 use Rattle.std.specs.List.{flat_map}
 use Rattle.std.specs.Io.KnownBytes.{Appends}
+use Rattle.wire.specs.Streams.{AppendsBeginning}
 use Rattle.message.specs.declared.department.Department.{Department}
 use Rattle.guard.specs.Policies.{policy_at}
 
@@ -14,3 +15,9 @@ pub record PrintsNames (bytes : List ℕ) (held holds : Option (List ℕ)) : Typ
   pub policy : List Department
   pub is : policy_at bytes ≡ Ok policy
   pub printed : Appends held holds (names_text policy)
+
+-- the same, if the output fails: a prefix of the names is printed
+pub record PrintsFirstNames (bytes : List ℕ) (held holds : Option (List ℕ)) : Type 0 where
+  pub policy : List Department
+  pub is : policy_at bytes ≡ Ok policy
+  pub printed : AppendsBeginning held holds (names_text policy)

@@ -1,9 +1,8 @@
 -- Whole jobs, from opening a guard's file to closing it.
-use Rattle.std.specs.Prelude.{◌≡◌, ◌⊎◌, ◌<◌, ◌^◌, ◌++◌, ◌∷◌, [], ℕ, List, Bool, false, true, codes, decimal, bytes_eq}
-use Rattle.std.specs.Prelude.{Option, Some, None, IfSome, Result, Ok, Err}
-use Rattle.std.specs.Io.KnownBytes.{Appends}
+use Rattle.std.specs.Prelude.{◌≡◌, ◌<◌, ◌^◌, ◌++◌, ◌∷◌, [], ℕ, List, Bool, false, true, codes, decimal, bytes_eq}
+use Rattle.std.specs.Prelude.{Option, Some, None, IfErr, IfSome, Result, Ok, Err}
 use Rattle.lines.specs.Digests.{fingerprint_text}
-use Rattle.station_jobs.specs.KeyFiles.{IsKeyText}
+use Rattle.station_jobs.specs.KeyFiles.{IsKeyFault, IsKeyText}
 use Rattle.lines.specs.declared.key_line.KeyLine.{KeyLine}
 use Rattle.message.specs.declared.department.Department.{Department}
 use Rattle.guard.specs.declared.register.Register as register
@@ -19,8 +18,7 @@ use Rattle.station_jobs.specs.declared.policy_file.PolicyText.{PolicyText}
 use Rattle.station_jobs.specs.declared.surroundings.Surroundings as surroundings
 use Rattle.station_jobs.specs.declared.station_fault.StationFault.{StationFault}
 use Rattle.station_jobs.specs.declared.station_fault.StationFault.TheVariants.{BadPolicy, BadSerials, SerialApproved}
-use Rattle.station_jobs.specs.Bodies.{ListsBodies, PrintsBody}
-use Rattle.station_jobs.specs.Faults.{IsOfAKey, IsOfAPolicy}
+use Rattle.station_jobs.specs.Faults.{IsOfAPolicy, IsOfARegister, IsOfBodies, IsOfJudging}
 use Rattle.station_jobs.specs.Input.{JudgesInput}
 use Rattle.station_jobs.specs.Judging.{AsksNow, IsPolicyAt, Judges}
 use Rattle.station_jobs.specs.Leaving.{Leaves, OfBodies, OfNone, Outlasts, Step}
@@ -131,6 +129,11 @@ abbrev pub JudgesGiven : Bool → State → (Left : State → Result (Unit {0}) 
 JudgesGiven true s Left Asked bodies input held holds r = JudgesInput s Left Asked input held holds r
 JudgesGiven false s Left Asked bodies input held holds r = Judges s Left Asked bodies held holds r
 
+-- the faults of judging named bodies, or those at the paths of the input
+abbrev pub IsOfGiven : Bool → StationFault → Type 0
+IsOfGiven true e = IsOfJudging e
+IsOfGiven false e = IsOfBodies e
+
 -- the policy in a file at the path, or why there is none
 abbrev pub IsReadAs : {E F : Type 0} → surroundings.Ghosts E F → E → (remaining : F → Option (List ℕ)) → (path : List ℕ)
     → Result (List Department) StationFault → Type 0
@@ -144,8 +147,8 @@ abbrev pub departments_of : Result PolicyText StationFault → Result (List Depa
 departments_of (Ok known) = Ok known.policy
 departments_of (Err e) = Err e
 
--- The policy was read, then the guard was opened and the bodies were judged. Or there is no policy; then no guard was
--- looked for or opened, and nothing is printed.
+-- The policy was read, then the guard was opened and the bodies were judged, with a fault that judging may have. Or
+-- there is no policy; then no guard was looked for or opened, and nothing is printed.
 pub record JudgesIn {E F D G : Type 0} (world : surroundings.Ghosts E F) (around : E) (remaining : F → Option (List ℕ))
     (guard : register.Ghosts G) (file : file.Ghosts D G) (db db' : D) (path policy : List ℕ) (ahead : ℕ)
     (bodies : List (List ℕ)) (input held holds : Option (List ℕ)) (result : Result (Unit {0}) StationFault)
@@ -155,7 +158,7 @@ pub record JudgesIn {E F D G : Type 0} (world : surroundings.Ghosts E F) (around
   pub judged : Follows
       (λ _. RunsIn guard file db db' path (OfBodies (AsksNow world around remaining policy ahead))
       (λ s Left r. JudgesGiven (is_input bodies) s Left (AsksNow world around remaining policy ahead) bodies input held
-      holds r) (holds ≡ held))
+      holds r × IfErr r (IsOfGiven (is_input bodies))) (holds ≡ held))
       ((db' ≡ db) × (holds ≡ held)) known result
 
 -- ---- the last serial
@@ -166,7 +169,7 @@ RetiresTo last s Left (Ok first) =
     (retirement s last ≡ Ok (with_last s last)) × Left (with_last s last) × (first ≡ s.scope.first)
 RetiresTo last s Left (Err BadSerials) = (retirement s last ≡ Err retiring.BadSerials) × Left s
 RetiresTo last s Left (Err SerialApproved) = (retirement s last ≡ Err retiring.SerialApproved) × Left s
-RetiresTo last s Left (Err other) = Left s
+RetiresTo last s Left (Err other) = IsOfARegister other × Left s
 
 -- the serials of a guard are below 2^63
 abbrev pub Retires : ℕ → State → (Left : State → Result ℕ StationFault → Type 0) → Result ℕ StationFault → Type 0
@@ -181,9 +184,9 @@ retired_text first last = codes "retired " ++ (decimal first ++ (32 ∷ (decimal
 abbrev pub Begins : Option (List ℕ) → (first last : ℕ) → Result Scope StationFault → Type 0
 Begins file first last (Ok s) =
     (k : KeyLine) × IfSome file (λ text. IsKeyText text k) × (made_scope k.key first last ≡ Some s)
-Begins file first last (Err e) =
-    IsOfAKey e
-    ⊎ ((k : KeyLine) × IfSome file (λ text. IsKeyText text k) × (made_scope k.key first last ≡ None) × (e ≡ BadSerials))
+Begins file first last (Err BadSerials) =
+    (k : KeyLine) × IfSome file (λ text. IsKeyText text k) × (made_scope k.key first last ≡ None)
+Begins file first last (Err e) = IsKeyFault file e
 
 -- the text with these serials and this fingerprint
 abbrev pub ready_line : ℕ → ℕ → (fingerprint : List ℕ) → List ℕ

@@ -1,10 +1,13 @@
 //! Printing approved unsigned certificates (bodies).
 
-ghost use Rattle.std.specs.Prelude.{◌≡◌, ◌++◌, ◌∷◌, [], decimal, IfOk, OnOk};
+ghost use Rattle.std.specs.Prelude.{◌≡◌, ◌++◌, ◌∷◌, [], decimal, IfErr, IfOk, OnErr, OnOk};
 ghost use Rattle.std.specs.Io.KnownBytes.{Appends};
-ghost use Rattle.guard.specs.Machine.{State};
-ghost use Rattle.station_jobs.specs.Bodies.{ListsBodies, PrintsBody, PrintsFrom, named_line, row_line};
-ghost use Rattle.station_jobs.specs.Leaving.{Stays};
+ghost use Rattle.wire.specs.Streams.{AppendsBeginning};
+ghost use Rattle.guard.specs.Machine.{State, fields_of};
+ghost use Rattle.station_jobs.specs.Bodies.{AreReadable, ListsFirst, ListsRows, PrintsBody, PrintsFrom, named_line};
+ghost use Rattle.station_jobs.specs.Bodies.{row_line};
+ghost use Rattle.station_jobs.specs.Faults.{IsOfARow, IsOfRows};
+ghost use Rattle.station_jobs.specs.Leaving.{HasCause, Leaves, OfNone, Stays};
 
 use crate::output::print;
 use crate::station_fault::StationFault;
@@ -39,7 +42,10 @@ fn put_row(line: &mut Vec<u8>, row: &Approved, key_id: &[u8]) -> Result<(), NoMe
 
 /// The line of a row.
 fn line_of(alloc: Global, row: &Approved) -> Result<Vec<u8>, StationFault>
-    ensures { IfOk result (λ line. line.items ≡ row_line row.now) }
+    ensures line { IfOk result (λ line. line.items ≡ row_line row.now) }
+
+    // A body that can be read fails only for lack of memory.
+    ensures only { IfErr result (IsOfARow (fields_of row.now.body)) }
 {
     let mut line = Vec::new(alloc);
     match fields_of(alloc, row.body.as_slice()) {
@@ -56,13 +62,16 @@ fn line_of(alloc: Global, row: &Approved) -> Result<Vec<u8>, StationFault>
 
 /// Prints the line of a row.
 fn print_row<W: Write>(alloc: Global, row: &Approved, out: &mut W) -> Result<(), StationFault>
-    ensures { OnOk result (Appends (W.contents out.old) (W.contents out.new) (row_line row.now)) }
+    ensures ok { OnOk result (Appends (W.contents out.old) (W.contents out.new) (row_line row.now)) }
+    ensures err { OnErr result (AppendsBeginning (W.contents out.old) (W.contents out.new) (row_line row.now)) }
+    ensures only { IfErr result (IsOfARow (fields_of row.now.body)) }
 {
     let line = line_of(alloc, row)?;
     print(out, line.as_slice())
 }
 
 /// Prints the line of the first row from a serial on, and returns the serial after it; `None` if there is no row.
+#[tactic(auto, using(crate::proofs::Causes::rows_of_a_register, crate::proofs::Causes::rows_of_a_row))]
 fn print_from<G: Register, W: Write>(
     alloc: Global,
     register: &mut G,
@@ -72,8 +81,13 @@ fn print_from<G: Register, W: Write>(
     ensures honest { G.is_honest register.new → G.is_honest register.old }
     ensures prints { G.is_honest register.new → (s : State) → G.keeps register.old s
         → IfOk result (PrintsFrom s from (W.contents out.old) (W.contents out.new)) }
+    ensures cut { G.is_honest register.new → (s : State) → G.keeps register.old s
+        → OnErr result (ListsFirst s from (W.contents out.old) (W.contents out.new)) }
     ensures stays { G.is_honest register.new → (s : State) → G.keeps register.old s
         → Stays G.Register register.old register.new s }
+    ensures cause { G.is_honest register.new → (s : State) → G.keeps register.old s → AreReadable s
+        → IfErr result (HasCause (G.has_failed register.new)) }
+    ensures only { IfErr result IsOfRows }
 {
     match register.row_from(alloc, from) {
         Ok(Some(row)) => {
@@ -99,9 +113,14 @@ pub fn print_bodies<G: Register, W: Write>(
 ) -> Result<(), StationFault>
     ensures honest { G.is_honest register.new → G.is_honest register.old }
     ensures lists { G.is_honest register.new → (s : State) → G.keeps register.old s
-        → OnOk result (ListsBodies s (W.contents out.old) (W.contents out.new)) }
+        → ListsRows s (W.contents out.old) (W.contents out.new) result }
     ensures stays { G.is_honest register.new → (s : State) → G.keeps register.old s
         → Stays G.Register register.old register.new s }
+
+    // If each approved body can be read, no damage is reported, and a failure of the database only if it failed.
+    ensures cause { G.is_honest register.new → (s : State) → G.keeps register.old s → AreReadable s
+        → Leaves G.Register OfNone register.old register.new s s result }
+    ensures only { IfErr result IsOfRows }
 {
     let mut from = 0;
     for _row in 0..u64::MAX {
@@ -125,10 +144,11 @@ pub fn print_body<G: Register, W: Write>(
     ensures prints { G.is_honest register.new → (s : State) → G.keeps register.old s
         → PrintsBody s serial (W.contents out.old) (W.contents out.new) result }
     ensures stays { G.is_honest register.new → (s : State) → G.keeps register.old s
-        → Stays G.Register register.old register.new s }
+        → Leaves G.Register OfNone register.old register.new s s result }
 {
-    match register.body_of(alloc, serial)? {
-        Some(body) => print(out, body.as_slice()),
-        None => Err(StationFault::UnknownSerial),
+    match register.body_of(alloc, serial) {
+        Ok(Some(body)) => print(out, body.as_slice()),
+        Ok(None) => Err(StationFault::UnknownSerial),
+        Err(fault) => Err(StationFault::from(fault)),
     }
 }

@@ -1,7 +1,8 @@
 //! Reading files.
 
 ghost use Rattle.std.specs.Prelude.{◌≡◌, ◌<◌, ◌≤◌, IfErr, IfOk, IfSome, take, vec_len};
-ghost use Rattle.station_jobs.specs.Faults.{IsOfAFile};
+ghost use Rattle.std.specs.IoError.{error_kind};
+ghost use Rattle.station_jobs.specs.Faults.{IsOfAFile, of_file};
 
 use crate::station_fault::StationFault;
 use guard::LONGEST_BODY;
@@ -11,7 +12,8 @@ use std::io::{ErrorKind, Read};
 
 /// The fault of a file that can't be opened or read.
 pub fn file_fault(error: &io::Error) -> StationFault
-    ensures { IsOfAFile result }
+    ensures value { result ≡ of_file (error_kind error.now) }
+    ensures only { IsOfAFile result }
 {
     match error.kind() {
         ErrorKind::OutOfMemory => StationFault::NoMemory,

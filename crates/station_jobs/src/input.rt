@@ -4,7 +4,7 @@ ghost use Rattle.std.specs.Prelude.{◌≡◌, ◌∷◌, [], IfErr, IfOk, IfSom
 ghost use Rattle.std.specs.Io.BufRead.{strip_last};
 ghost use Rattle.guard.specs.Machine.{State};
 ghost use Rattle.guard.specs.Policies.{policy_at};
-ghost use Rattle.station_jobs.specs.Faults.{IsOfAFile};
+ghost use Rattle.station_jobs.specs.Faults.{IsOfAFile, IsOfJudging};
 ghost use Rattle.station_jobs.specs.Input.{JudgesInput, JudgesNext, TakesLine};
 ghost use Rattle.station_jobs.specs.Judging.{AsksNow, Judges};
 ghost use Rattle.station_jobs.specs.Leaving.{Leaves, OfBodies};
@@ -55,6 +55,7 @@ fn path_in(line: &[u8]) -> Result<&str, StationFault>
 
 /// Judges the unsigned certificate (body) in a file by the policy that its own file has now, and prints the line of the
 /// answer. Returns the policy.
+#[tactic(auto, using(crate::proofs::Causes::judging_of_a_policy, crate::proofs::Causes::judging_of_bodies))]
 fn judge_now<F: Read + Drop, P: Surroundings<File = F>, G: Register, W: Write>(
     alloc: Global,
     around: &P,
@@ -73,6 +74,7 @@ fn judge_now<F: Read + Drop, P: Surroundings<File = F>, G: Register, W: Write>(
         (OfBodies (AsksNow P.Surroundings around.now F.remaining policy.now ahead)) register.old register.new s)
         (AsksNow P.Surroundings around.now F.remaining policy.now ahead) (path.now ∷ [])
         (W.contents out.old) (W.contents out.new) (done_of result) }
+    ensures only { IfErr result IsOfJudging }
 {
     match refreshed(alloc, around, policy, known) {
         Ok(known) => {
@@ -86,6 +88,7 @@ fn judge_now<F: Read + Drop, P: Surroundings<File = F>, G: Register, W: Write>(
 }
 
 /// Judges the body at the path in a line, in the same way as `judge_now`.
+#[tactic(auto, using(crate::proofs::Causes::judging_of_a_file))]
 fn judge_line<F: Read + Drop, P: Surroundings<File = F>, G: Register, W: Write>(
     alloc: Global,
     around: &P,
@@ -104,6 +107,7 @@ fn judge_line<F: Read + Drop, P: Surroundings<File = F>, G: Register, W: Write>(
         (OfBodies (AsksNow P.Surroundings around.now F.remaining policy.now ahead)) register.old register.new s)
         (AsksNow P.Surroundings around.now F.remaining policy.now ahead) (strip_last 10 line.now ∷ [])
         (W.contents out.old) (W.contents out.new) (done_of result) }
+    ensures only { IfErr result IsOfJudging }
 {
     match path_in(line) {
         Ok(path) => judge_now(alloc, around, register, policy, ahead, known, path, out),
@@ -115,6 +119,7 @@ fn judge_line<F: Read + Drop, P: Surroundings<File = F>, G: Register, W: Write>(
 }
 
 /// Judges the body at the next path of an input, in the same way as `judge_now`. Returns `None` at the input's end.
+#[tactic(auto, using(crate::proofs::Causes::judging_of_a_file))]
 fn judge_next<F: Read + Drop, P: Surroundings<File = F>, G: Register, I: BufRead, W: Write>(
     alloc: Global,
     around: &P,
@@ -133,6 +138,7 @@ fn judge_next<F: Read + Drop, P: Surroundings<File = F>, G: Register, I: BufRead
         (OfBodies (AsksNow P.Surroundings around.now F.remaining policy.now ahead)) register.old register.new s)
         (AsksNow P.Surroundings around.now F.remaining policy.now ahead)
         (I.remaining input.old) (I.remaining input.new) (W.contents out.old) (W.contents out.new) result }
+    ensures only { IfErr result IsOfJudging }
 {
     match next_line(alloc, input) {
         Ok(line) => {
@@ -177,6 +183,7 @@ pub fn judge_lines<F: Read + Drop, P: Surroundings<File = F>, G: Register, I: Bu
         (Leaves G.Register (OfBodies (AsksNow P.Surroundings around.now F.remaining policy.now ahead))
         register.old register.new s) (AsksNow P.Surroundings around.now F.remaining policy.now ahead)
         (I.remaining input.old) (W.contents out.old) (W.contents out.new) result }
+    ensures only { IfErr result IsOfJudging }
 {
     let mut known = known;
     for _turn in 0..u64::MAX {

@@ -1,8 +1,8 @@
 //! Whole jobs over the guard in a file.
 
-ghost use Rattle.std.specs.Prelude.{◌≡◌, ℕ, List, IfOk, IsTrue};
+ghost use Rattle.std.specs.Prelude.{◌≡◌, ℕ, List, IfOk, IsTrue, false};
 ghost use Rattle.office.specs.Openings.{are_serials};
-ghost use Rattle.station_jobs.specs.Jobs.{InitsIn, IsLawful, LowersIn, Prints, RunsJob};
+ghost use Rattle.station_jobs.specs.Jobs.{InitsIn, IsLawful, LowersIn, Prints, RunsJob, reads_input};
 ghost use Rattle.station_jobs.specs.Whole.{KeepsFiles};
 
 use crate::guard_file::GuardFile;
@@ -104,8 +104,11 @@ pub fn run_in<
 
     // The opened guard is the one that the files held, and the closed one is what they hold then.
     requires keeps { KeepsFiles G.Register D.GuardFile }
-    ensures { RunsJob P.Surroundings around.now F.remaining G.Register D.GuardFile db.old db.new path.now job.now
+    ensures runs { RunsJob P.Surroundings around.now F.remaining G.Register D.GuardFile db.old db.new path.now job.now
         (I.remaining input.old) (W.contents out.old) (W.contents out.new) result }
+
+    // Only a job that judges the bodies at the input's paths reads the input.
+    ensures unread { reads_input job.now ≡ false → I.remaining input.new ≡ I.remaining input.old }
 {
     match job {
         GuardJob::Init(scope) => init_in(alloc, db, path, scope, out),

@@ -7,7 +7,7 @@ ghost use Rattle.wire.specs.Streams.{AppendsBeginning};
 ghost use Rattle.guard.specs.AnswerLines.{answer_line};
 ghost use Rattle.guard.specs.Decided.{question};
 ghost use Rattle.guard.specs.Machine.{State};
-ghost use Rattle.station_jobs.specs.Faults.{IsOfABody, IsOfAnAnswer};
+ghost use Rattle.station_jobs.specs.Faults.{IsOfABody, IsOfAQuestion, IsOfAnAnswer, IsOfBodies};
 ghost use Rattle.station_jobs.specs.Judging.{Asks, Judges};
 ghost use Rattle.station_jobs.specs.Leaving.{Leaves, OfBodies, OfQuestion};
 ghost use Rattle.station_jobs.specs.Steps.{Answered, AnswersOne, Weighs};
@@ -32,6 +32,7 @@ fn print_answer<W: Write>(alloc: Global, answer: Answer, out: &mut W) -> Result<
 }
 
 /// Judges a body, and prints the answer after the register has stored what is signed. The time is below 2^63.
+#[tactic(auto, using(crate::proofs::Causes::question_of_a_register, crate::proofs::Causes::question_of_an_answer))]
 fn answer_body<G: Register, W: Write>(
     alloc: Global,
     register: &mut G,
@@ -46,6 +47,7 @@ fn answer_body<G: Register, W: Write>(
         → AnswersOne s (Leaves G.Register (OfQuestion (question policy.now window body.now))
         register.old register.new s)
         (question policy.now window body.now) (W.contents out.old) (W.contents out.new) result }
+    ensures only { IfErr result IsOfAQuestion }
 {
     match judge(alloc, register, policy, window, body) {
         Ok(answer) => print_answer(alloc, answer, out),
@@ -73,6 +75,7 @@ fn weighed<F: Read + Drop, P: Surroundings<File = F>>(
 }
 
 /// Judges the body in a file, and prints the line of the answer.
+#[tactic(auto, using(crate::proofs::Causes::bodies_of_a_body, crate::proofs::Causes::bodies_of_a_question))]
 pub fn judge_file<F: Read + Drop, P: Surroundings<File = F>, G: Register, W: Write>(
     alloc: Global,
     around: &P,
@@ -88,6 +91,7 @@ pub fn judge_file<F: Read + Drop, P: Surroundings<File = F>, G: Register, W: Wri
         (OfBodies (Asks P.Surroundings around.now F.remaining (λ p. p ≡ policy.now) ahead)) register.old register.new s)
         (Asks P.Surroundings around.now F.remaining (λ p. p ≡ policy.now) ahead) (path.now ∷ []) (W.contents out.old)
         (W.contents out.new) result }
+    ensures only { IfErr result IsOfBodies }
 {
     match weighed(alloc, around, path) {
         Ok((body, moment)) => {
@@ -119,6 +123,7 @@ pub fn judge_files<F: Read + Drop, P: Surroundings<File = F>, G: Register, W: Wr
         (OfBodies (Asks P.Surroundings around.now F.remaining (λ p. p ≡ policy.now) ahead)) register.old register.new s)
         (Asks P.Surroundings around.now F.remaining (λ p. p ≡ policy.now) ahead) (map string_bytes paths.now)
         (W.contents out.old) (W.contents out.new) result }
+    ensures only { IfErr result IsOfBodies }
 {
     for path in paths {
         let path = path.as_str();

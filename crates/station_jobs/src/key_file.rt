@@ -1,9 +1,8 @@
 //! The CA's key, from a file.
 
-ghost use Rattle.std.specs.Prelude.{IfErr, IfOk, IfSome, IsTrue};
+ghost use Rattle.std.specs.Prelude.{IfErr, IfOk, IfSome, IsTrue, Some};
 ghost use Rattle.office.specs.Openings.{are_serials};
-ghost use Rattle.station_jobs.specs.Faults.{IsOfAKey};
-ghost use Rattle.station_jobs.specs.KeyFiles.{IsKeyText};
+ghost use Rattle.station_jobs.specs.KeyFiles.{IsKeyFault, IsKeyText};
 ghost use Rattle.station_jobs.specs.Whole.{Begins};
 
 use crate::file_reader::read_whole;
@@ -17,10 +16,9 @@ use std::io::Read;
 const MAX_KEY_FILE: u64 = 8192;
 
 // The key in a text: a public-key line, followed by a line feed or nothing.
-#[tactic(auto, using(crate::proofs::Causes::key_line))]
 fn key_in(alloc: Global, text: &[u8]) -> Result<KeyLine, StationFault>
     ensures key { IfOk result (IsKeyText text.now) }
-    ensures only { IfErr result IsOfAKey }
+    ensures fault { IfErr result (IsKeyFault (Some text.now)) }
 {
     let line = text.strip_suffix(b"\n".as_slice()).unwrap_or(text);
     match read_key_line(alloc, line) {
@@ -30,13 +28,14 @@ fn key_in(alloc: Global, text: &[u8]) -> Result<KeyLine, StationFault>
 }
 
 /// The key in a file with a public-key line, whose last line feed may be missing.
-#[tactic(auto, using(crate::proofs::Causes::key_file))]
 fn read_key<R: Read + Drop>(alloc: Global, reader: R) -> Result<KeyLine, StationFault>
     ensures key { IfOk result (λ k. IfSome (R.remaining reader) (λ text. IsKeyText text k)) }
-    ensures only { IfErr result IsOfAKey }
+    ensures fault { IfErr result (IsKeyFault (R.remaining reader)) }
 {
-    let bytes = read_whole(alloc, reader, MAX_KEY_FILE)?;
-    key_in(alloc, bytes.as_slice())
+    match read_whole(alloc, reader, MAX_KEY_FILE) {
+        Ok(bytes) => key_in(alloc, bytes.as_slice()),
+        Err(fault) => Err(fault),
+    }
 }
 
 /// The scope of a guard with the key in a file and with these serials.

@@ -2,9 +2,9 @@
 
 ghost use Rattle.std.specs.Prelude.{◌≡◌, ◌≢◌, ◌≤◌, ◌++◌, Err, IfErr, IfOk, IfSome, Ok, OnOk, ℕ, length};
 ghost use Rattle.guard.specs.Policies.{policy_at};
-ghost use Rattle.station_jobs.specs.Faults.{IsOfAFile, IsOfAPolicy};
+ghost use Rattle.station_jobs.specs.Faults.{IsOfAFile, IsOfAPolicy, IsOfAPrintedPolicy};
 ghost use Rattle.station_jobs.specs.Judging.{IsPolicyAt};
-ghost use Rattle.station_jobs.specs.Policy.{PrintsNames, names_text};
+ghost use Rattle.station_jobs.specs.Policy.{PrintsFirstNames, PrintsNames, names_text};
 
 use crate::file_reader::read_whole;
 use crate::output::print;
@@ -115,7 +115,10 @@ pub fn print_policy<F: Read + Drop, W: Write>(
         (W.contents out.new))) }
     ensures bad { (line : ℕ) → result ≡ Err (StationFault.BadPolicy line)
         → IfSome (F.remaining file) (λ bytes. policy_at bytes ≡ Err line) }
+    ensures only { IfErr result IsOfAPrintedPolicy }
     ensures silent { IfErr result (λ e. e ≢ StationFault.Write → out.new ≡ out.old) }
+    ensures cut { result ≡ Err StationFault.Write → IfSome (F.remaining file) (λ bytes. PrintsFirstNames bytes
+        (W.contents out.old) (W.contents out.new)) }
 {
     match read_policy(alloc, file) {
         Ok(known) => {

@@ -2,9 +2,8 @@
 
 use guard::{PolicyFault, RegisterFault, RetireFault};
 use lines::LineFault;
-use std::fmt;
 
-/// Why a job wasn't done. It is printed as its name.
+/// Why a job wasn't done. `tell_fault` prints its name.
 #[derive(Clone, Copy, Debug, PartialEq, Eq)]
 pub enum StationFault {
     /// A file or the input can't be read, or a file is longer than any of its kind.
@@ -35,16 +34,6 @@ pub enum StationFault {
     Damaged,
     /// The database failed.
     Device,
-}
-
-impl fmt::Display for StationFault {
-    fn fmt<W: fmt::Write>(&self, f: &mut fmt::Formatter<W>) -> fmt::Result {
-        match self {
-            StationFault::BadPolicy(line) => write!(f, "BadPolicy {line}"),
-            StationFault::Line(fault) => write!(f, "{fault:?}"),
-            _ => write!(f, "{self:?}"),
-        }
-    }
 }
 
 impl From<text::NoMemory> for StationFault {

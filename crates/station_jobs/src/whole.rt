@@ -2,14 +2,15 @@
 //!
 //! A guard is opened once, or not at all if a file can't be read. It is closed afterwards.
 
-ghost use Rattle.std.specs.Prelude.{◌≡◌, Err, IfOk, IsTrue, Ok, OnOk, map, string_bytes};
+ghost use Rattle.std.specs.Prelude.{◌≡◌, Err, IfErr, IfOk, IsTrue, Ok, false, map, string_bytes};
 ghost use Rattle.office.specs.Openings.{are_serials};
 ghost use Rattle.guard.specs.Machine.{State};
 ghost use Rattle.guard.specs.Policies.{policy_at};
-ghost use Rattle.station_jobs.specs.Bodies.{ListsBodies, PrintsBody};
+ghost use Rattle.station_jobs.specs.Bodies.{PrintsBody, PrintsRows};
+ghost use Rattle.station_jobs.specs.Faults.{IsOfBodies};
 ghost use Rattle.station_jobs.specs.Judging.{AsksNow, IsPolicyAt, Judges};
 ghost use Rattle.station_jobs.specs.Leaving.{Leaves, OfBodies, OfNone, OfRetiring};
-ghost use Rattle.station_jobs.specs.Whole.{IsReadAs, JudgesGiven, JudgesIn, KeepsFiles, MakesIn, Retires};
+ghost use Rattle.station_jobs.specs.Whole.{IsOfGiven, IsReadAs, JudgesGiven, JudgesIn, KeepsFiles, MakesIn, Retires};
 ghost use Rattle.station_jobs.specs.Whole.{RunsIn, departments_of, is_input};
 
 use crate::bodies::{print_bodies, print_body};
@@ -62,6 +63,7 @@ fn judge_named<F: Read + Drop, P: Surroundings<File = F>, G: Register, W: Write>
         register.old register.new s)
         (AsksNow P.Surroundings around.now F.remaining judging.now.policy.now judging.now.ahead)
         (map string_bytes judging.now.bodies.now) (W.contents out.old) (W.contents out.new) result }
+    ensures only { IfErr result IsOfBodies }
 {
     let (ahead, bodies) = (judging.ahead, judging.bodies);
     let done = judge_files(alloc, around, register, &known.policy, ahead, bodies, out);
@@ -90,6 +92,9 @@ fn judge_given<F: Read + Drop, P: Surroundings<File = F>, G: Register, I: BufRea
         (AsksNow P.Surroundings around.now F.remaining judging.now.policy.now judging.now.ahead)
         (map string_bytes judging.now.bodies.now) (I.remaining input.old) (W.contents out.old) (W.contents out.new)
         result }
+    ensures only { IfErr result (IsOfGiven (is_input (map string_bytes judging.now.bodies.now))) }
+    ensures unread { is_input (map string_bytes judging.now.bodies.now) ≡ false
+        → I.remaining input.new ≡ I.remaining input.old }
 {
     let (policy, ahead) = (judging.policy, judging.ahead);
     if is_input(judging.bodies) {
@@ -134,12 +139,15 @@ fn judge_over<
     requires read { policy_at known.text.items ≡ Ok known.policy }
     requires at { IsPolicyAt P.Surroundings around.now F.remaining judging.now.policy.now known.policy }
     requires keeps { KeepsFiles G.Register D.GuardFile }
-    ensures { RunsIn G.Register D.GuardFile db.old db.new path.now
+    ensures runs { RunsIn G.Register D.GuardFile db.old db.new path.now
         (OfBodies (AsksNow P.Surroundings around.now F.remaining judging.now.policy.now judging.now.ahead))
         (λ s Left r. JudgesGiven (is_input (map string_bytes judging.now.bodies.now)) s Left
         (AsksNow P.Surroundings around.now F.remaining judging.now.policy.now judging.now.ahead)
-        (map string_bytes judging.now.bodies.now) (I.remaining input.old) (W.contents out.old) (W.contents out.new) r)
+        (map string_bytes judging.now.bodies.now) (I.remaining input.old) (W.contents out.old) (W.contents out.new) r
+        × IfErr r (IsOfGiven (is_input (map string_bytes judging.now.bodies.now))))
         (W.contents out.new ≡ W.contents out.old) result }
+    ensures unread { is_input (map string_bytes judging.now.bodies.now) ≡ false
+        → I.remaining input.new ≡ I.remaining input.old }
 {
     match db.open(alloc, path) {
         Ok(guard) => {
@@ -178,9 +186,13 @@ pub fn judge_in<
     out: &mut W,
 ) -> Result<(), StationFault>
     requires { KeepsFiles G.Register D.GuardFile }
-    ensures { JudgesIn P.Surroundings around.now F.remaining G.Register D.GuardFile db.old db.new path.now
+    ensures judges { JudgesIn P.Surroundings around.now F.remaining G.Register D.GuardFile db.old db.new path.now
         judging.now.policy.now judging.now.ahead (map string_bytes judging.now.bodies.now) (I.remaining input.old)
         (W.contents out.old) (W.contents out.new) result }
+
+    // The input is read only for its paths.
+    ensures unread { is_input (map string_bytes judging.now.bodies.now) ≡ false
+        → I.remaining input.new ≡ I.remaining input.old }
 {
     match policy_at(alloc, around, judging.policy) {
         Ok(known) => judge_over(alloc, around, db, path, judging, known, input, out),
@@ -201,7 +213,7 @@ pub fn bodies_in<G: Register, D: GuardFile<Guard = G>, W: Write>(
 ) -> Result<(), StationFault>
     requires { KeepsFiles G.Register D.GuardFile }
     ensures { RunsIn G.Register D.GuardFile db.old db.new path.now OfNone
-        (λ s Left r. OnOk r (ListsBodies s (W.contents out.old) (W.contents out.new)) × Left s (Ok tt))
+        (λ s Left r. PrintsRows s Left (W.contents out.old) (W.contents out.new) r)
         (W.contents out.new ≡ W.contents out.old) result }
 {
     match db.open(alloc, path) {
@@ -228,7 +240,7 @@ pub fn body_in<G: Register, D: GuardFile<Guard = G>, W: Write>(
 ) -> Result<(), StationFault>
     requires { KeepsFiles G.Register D.GuardFile }
     ensures { RunsIn G.Register D.GuardFile db.old db.new path.now OfNone
-        (λ s Left r. PrintsBody s serial (W.contents out.old) (W.contents out.new) r × Left s (Ok tt))
+        (λ s Left r. PrintsBody s serial (W.contents out.old) (W.contents out.new) r × Left s r)
         (W.contents out.new ≡ W.contents out.old) result }
 {
     match db.open(alloc, path) {

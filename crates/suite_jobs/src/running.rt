@@ -5,6 +5,7 @@ use office_jobs::do_words;
 use server::ScriptedConnection;
 use std::alloc::Alloc;
 use std::test::Fail;
+use wire::FromWrite;
 
 /// The CA of the test cases in `examples/rows`.
 const CA: &[u8] =
@@ -126,12 +127,12 @@ pub fn run_in(script: &mut Script<'_>, arguments: &[&str]) -> Result<Ran, Fail> 
     for argument in arguments {
         words.push(String::from_str(alloc, argument)?)?;
     }
-    let mut err = Vec::new(alloc);
+    let mut err = FromWrite::new(Vec::new(alloc));
     let (status, out) = do_words(script, words.as_slice(), Vec::new(alloc), &mut err);
     Ok(Ran {
         calls: script.take_calls(),
         status,
         out,
-        err,
+        err: err.into_inner(),
     })
 }

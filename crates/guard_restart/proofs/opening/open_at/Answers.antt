@@ -9,6 +9,9 @@ returns-in-Ok-clause-held g c clean =
     has_what_is_held (image_at g.S.Start) (file_state c.in-Ok.conn) opened.0 opened.1 (c.in-Ok.ensures.found clean)
     c.what_is_found_is_had.ensures
 
+pub returns-in-Ok-clause-found : goal.returns-in-Ok-clause-found
+returns-in-Ok-clause-found g c clean = c.in-Ok.ensures.found clean
+
 pub returns-in-Ok-clause-blank : goal.returns-in-Ok-clause-blank
 returns-in-Ok-clause-blank g c clean =
     let opened = c.in-Ok.ensures.opened clean in

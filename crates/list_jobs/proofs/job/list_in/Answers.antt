@@ -21,9 +21,10 @@ returns-in-Ok-list_at g c = record {
 pub returns-in-Ok : goal.returns-in-Ok
 returns-in-Ok g c = record {
   asked = Err c.in-Err-list_at.fault;
-  read = of_a_file c.in-Err-list_at.fault c.in-Err-list_at.ensures.only;
+  read = of_a_file g.P.Surroundings c.args.around.now g.F.Read.remaining
+      (map string_bytes c.args.listing.now.cas.now) c.in-Err-list_at.fault c.in-Err-list_at.ensures.only;
   judged = (refl, (refl, refl));
 }
 
 pub returns : goal.returns
-returns g c = record { asked = Err c.in-Err.fault; read = c.in-Err.ensures.only; judged = (refl, (refl, refl)) }
+returns g c = record { asked = Err c.in-Err.fault; read = c.in-Err.ensures.fault; judged = (refl, (refl, refl)) }

@@ -1,5 +1,5 @@
 use Rattle.office_jobs.proofs.Words.{Applies, HasCleanDisk, State, ap, state, subst, sym}
-use Rattle.office_jobs.proofs.Carried.{applied}
+use Rattle.office_jobs.proofs.Carried.{applied, of_an_office, of_refused_rows}
 use Rattle.office_jobs.proofs.applying.apply_over.Goals as goal
 
 pub returns-in-Ok-clause-applies : goal.returns-in-Ok-clause-applies
@@ -22,3 +22,13 @@ pub returns-in-Ok-clause-honest : goal.returns-in-Ok-clause-honest
 returns-in-Ok-clause-honest g c = λ honest.
     let back = ap (state g.S.Store) c.into_connection.ensures in
     c.in-Ok.ensures.honest (c.replay.ensures.honest (subst HasCleanDisk back honest))
+
+pub returns-in-Ok-clause-rows : goal.returns-in-Ok-clause-rows
+returns-in-Ok-clause-rows g c honest rows has =
+    let back = ap (state g.S.Store) c.into_connection.ensures in
+    let clean : HasCleanDisk (state g.S.Store c.replay.new.store.conn) = subst HasCleanDisk back honest in
+    of_an_office rows _ _ ((c.in-Ok.ensures.opened (c.replay.ensures.honest clean)).office rows has)
+
+pub returns-in-Err-clause-rows : goal.returns-in-Err-clause-rows
+returns-in-Err-clause-rows g c honest rows has =
+    of_refused_rows (Unit {0}) rows _ c.in-Err.fault c.from.result c.from.ensures ((c.in-Err.ensures.unopened honest).refused rows has)

@@ -1,5 +1,6 @@
 use Rattle.office_jobs.proofs.Words.{HasCleanDisk, IfErr-weaker, ap, refl, state, subst, sym}
 use Rattle.office_jobs.proofs.Printed.{listed, lists_as, unlisted}
+use Rattle.office_jobs.proofs.Carried.{of_an_office, of_refused_rows}
 use Rattle.office_jobs.proofs.listing.list_over.Goals as goal
 
 pub returns-in-Ok-clause-lists : goal.returns-in-Ok-clause-lists
@@ -30,3 +31,13 @@ pub returns-in-Ok-clause-honest : goal.returns-in-Ok-clause-honest
 returns-in-Ok-clause-honest g c = λ honest.
     let back = ap (state g.S.Store) c.into_connection.ensures in
     c.in-Ok.ensures.honest (c.publish.ensures.honest (subst HasCleanDisk back honest))
+
+pub returns-in-Ok-clause-rows : goal.returns-in-Ok-clause-rows
+returns-in-Ok-clause-rows g c honest rows has =
+    let back = ap (state g.S.Store) c.into_connection.ensures in
+    let clean : HasCleanDisk (state g.S.Store c.publish.new.store.conn) = subst HasCleanDisk back honest in
+    of_an_office rows _ _ ((c.in-Ok.ensures.opened (c.publish.ensures.honest clean)).office rows has)
+
+pub returns-in-Err-clause-rows : goal.returns-in-Err-clause-rows
+returns-in-Err-clause-rows g c honest rows has =
+    of_refused_rows (Unit {0}) rows _ c.in-Err.fault c.from.result c.from.ensures ((c.in-Err.ensures.unopened honest).refused rows has)

@@ -1,6 +1,6 @@
 use Rattle.office_jobs.proofs.Words.{Err, HasCleanDisk, JobFault, MigratesOffice, State, StoreFault, ap, arith}
 use Rattle.office_jobs.proofs.Words.{of_store}
-use Rattle.office_jobs.proofs.Words.{refl, state, subst, sym, ◌≡◌}
+use Rattle.office_jobs.proofs.Words.{refl, state, subst, sym}
 use Rattle.office.specs.declared.store_fault.StoreFault.TheVariants as store
 use Rattle.office_jobs.specs.Making.{IsMoved, IsUnmoved}
 use Rattle.office_jobs.proofs.Unlike.{had_no_cas}

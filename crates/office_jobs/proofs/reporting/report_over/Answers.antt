@@ -1,5 +1,6 @@
 use Rattle.office_jobs.proofs.Words.{HasCleanDisk, Reports, State, ap, refl, state, subst, sym}
 use Rattle.office_jobs.proofs.Printed.{reports_from, unreported}
+use Rattle.office_jobs.proofs.Carried.{of_an_office, of_refused_rows}
 use Rattle.office_jobs.proofs.reporting.report_over.Goals as goal
 
 pub returns-in-Ok-clause-reports : goal.returns-in-Ok-clause-reports
@@ -21,3 +22,13 @@ pub returns-in-Ok-clause-honest : goal.returns-in-Ok-clause-honest
 returns-in-Ok-clause-honest g c = λ honest.
     let back = ap (state g.S.Store) c.into_connection.ensures in
     c.in-Ok.ensures.honest (c.report_in-done.ensures.honest (subst HasCleanDisk back honest))
+
+pub returns-in-Ok-clause-rows : goal.returns-in-Ok-clause-rows
+returns-in-Ok-clause-rows g c honest rows has =
+    let back = ap (state g.S.Store) c.into_connection.ensures in
+    let clean : HasCleanDisk (state g.S.Store c.report_in-done.new.store.conn) = subst HasCleanDisk back honest in
+    of_an_office rows _ _ ((c.in-Ok.ensures.opened (c.report_in-done.ensures.honest clean)).office rows has)
+
+pub returns-in-Err-clause-rows : goal.returns-in-Err-clause-rows
+returns-in-Err-clause-rows g c honest rows has =
+    of_refused_rows (Unit {0}) rows _ c.in-Err.fault c.from.result c.from.ensures ((c.in-Err.ensures.unopened honest).refused rows has)

@@ -1,12 +1,19 @@
 use Rattle.office_jobs.proofs.Words.{MeetsOver, state, subst, sym}
+use Rattle.server.specs.Connections.{visit_lines}
 use Rattle.office_jobs.proofs.Meeting.{met_over}
 use Rattle.office_jobs.proofs.served.serve_over.Goals as goal
 
 pub returns-clause-met : goal.returns-clause-met
 returns-clause-met g c = λ done.
-    subst (λ conn. MeetsOver c.args.connections (g.L.Listener.book c.args.listener.now)
-    (g.L.Listener.book c.serve_keeping-status.new.listener) (g.N.Source.remaining c.args.nonces.now)
-    (g.N.Source.remaining c.serve_keeping-status.new.nonces) (state g.S.Store c.args.store.conn) (state g.S.Store conn))
-    (sym c.into_connection.ensures)
-    (met_over c.args.connections _ _ _ _ _ _ _ (state g.S.Store c.args.store.conn)
-    (state g.S.Store c.serve_keeping-status.result.1.conn) (λ visits x. x) (c.serve_keeping-status.ensures.met done).meets)
+    let met = c.serve_keeping-status.ensures.met done in
+    let said = visit_lines 1 met.meets.visits in (
+      said,
+      met.lines,
+      subst (λ conn. MeetsOver c.args.connections (g.L.Listener.book c.args.listener.now)
+          (g.L.Listener.book c.serve_keeping-status.new.listener) (g.N.Source.remaining c.args.nonces.now)
+          (g.N.Source.remaining c.serve_keeping-status.new.nonces) said (state g.S.Store c.args.store.conn)
+          (state g.S.Store conn))
+          (sym c.into_connection.ensures)
+          (met_over c.args.connections _ _ _ _ _ _ _ (state g.S.Store c.args.store.conn)
+          (state g.S.Store c.serve_keeping-status.result.1.conn) (λ visits x. x) met.meets),
+    )

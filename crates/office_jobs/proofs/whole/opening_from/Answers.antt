@@ -18,4 +18,4 @@ returns-in-Ok-clause-begins g c =
     c.opening_of.ensures.made c.opening_of.ensures.fault
 
 pub returns-in-Err-clause-begins : goal.returns-in-Err-clause-begins
-returns-in-Err-clause-begins g c = inl c.in-Err.ensures.only
+returns-in-Err-clause-begins g c = inl c.in-Err.ensures.fault

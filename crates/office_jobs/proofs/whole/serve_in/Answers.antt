@@ -1,9 +1,10 @@
 use Rattle.office_jobs.proofs.Words.{AsksServing, EndFault, Err, IfOk, JobFault, Ok, Result, ap, heard_of, refl, state}
-use Rattle.office_jobs.proofs.Words.{subst, sym, ℕ, ◌≤◌}
+use Rattle.office_jobs.proofs.Words.{[], subst, sym, ℕ, ◌≤◌}
 use Rattle.office_jobs.specs.Ending.{closed}
 use Rattle.office_jobs.proofs.Additions.{served as added}
 use Rattle.office_jobs.proofs.Doing.{serves_asked}
 use Rattle.office_jobs.proofs.Found.{kept, opened_there, ran, ready_there}
+use Rattle.office_jobs.proofs.Said.{takes_none}
 use Rattle.office_jobs.proofs.whole.serve_in.Goals as goal
 
 -- closing the database leaves the status at most 1
@@ -14,45 +15,52 @@ status_kept (Ok x) (Err e) small = tt
 status_kept (Err e) closing small = tt
 
 pub returns-in-Ok-clause-serves : goal.returns-in-Ok-clause-serves
-returns-in-Ok-clause-serves g c = record {
-  found = Ok c.in-Ok.conn;
-  opened = c.open_there.new.world;
-  is_opened = c.in-Ok.ensures;
-  ran = record {
-    outcome = c.serve_at_port-served.result.0;
-    last = c.serve_at_port-served.result.1;
-    between = c.serve_at_port-served.new.world;
-    did = c.serve_at_port-served.ensures.serves;
-    honest = c.serve_at_port-served.ensures.honest;
-    closing = c.close_database.result;
-    is_closed = c.close_database.ensures;
-    keeps = kept g.S.Store g.W.World c.requires c.args.db.now c.open_there.new.world
-        c.serve_at_port-served.new.world c.close_database.new.self c.in-Ok.conn c.serve_at_port-served.result.1
-        c.close_database.result
-        (opened_there g.S.Store g.W.World c.requires c.args.db.now c.args.world.now c.in-Ok.conn
-        c.open_there.new.world c.in-Ok.ensures)
-        c.serve_at_port-served.ensures.honest
-        (λ was clean. added (state g.S.Store c.in-Ok.conn) (state g.S.Store c.serve_at_port-served.result.1) was
-        c.args.connections _ _ _ _ c.serve_at_port-served.result.0
-        (c.serve_at_port-served.ensures.serves.serves clean))
-        c.close_database.ensures;
-    runs = ran g.S.Store g.W.World c.requires c.args.db.now c.open_there.new.world
-        c.serve_at_port-served.new.world c.close_database.new.self c.in-Ok.conn c.serve_at_port-served.result.1
-        c.close_database.result
-        (AsksServing c.args.connections (g.W.File.Read.remaining c.args.nonces)
-        (heard_of g.W.Incoming.Listener.book c.serve_at_port-served.ensures.serves.heard)
-        c.serve_at_port-served.result.0)
-        (opened_there g.S.Store g.W.World c.requires c.args.db.now c.args.world.now c.in-Ok.conn
-        c.open_there.new.world c.in-Ok.ensures)
-        c.serve_at_port-served.ensures.honest
-        (λ clean was. serves_asked (state g.S.Store c.in-Ok.conn) (state g.S.Store c.serve_at_port-served.result.1) clean
-        c.args.connections _ _ _ _ c.serve_at_port-served.result.0
-        (λ seen. let none = c.serve_at_port-served.ensures.none seen in (none.0, ap (state g.S.Store) none.1))
-        (c.serve_at_port-served.ensures.serves.serves clean))
-        c.close_database.ensures;
-    came = c.closed.ensures;
-  };
-}
+returns-in-Ok-clause-serves g c =
+    let it = c.serve_at_port-served.ensures.serves in (
+      it.0,
+      it.1,
+      record {
+        found = Ok c.in-Ok.conn;
+        opened = c.open_there.new.world;
+        is_opened = c.in-Ok.ensures;
+        ran = record {
+          outcome = c.serve_at_port-served.result.0;
+          last = c.serve_at_port-served.result.1;
+          between = c.serve_at_port-served.new.world;
+          did = (
+            it.2,
+            record { none = c.serve_at_port-served.ensures.none; rows = c.serve_at_port-served.ensures.rows },
+          );
+          honest = c.serve_at_port-served.ensures.honest;
+          closing = c.close_database.result;
+          is_closed = c.close_database.ensures;
+          keeps = kept g.S.Store g.W.World c.requires.keeps c.args.db.now c.open_there.new.world
+              c.serve_at_port-served.new.world c.close_database.new.self c.in-Ok.conn c.serve_at_port-served.result.1
+              c.close_database.result
+              (opened_there g.S.Store g.W.World c.requires.keeps c.args.db.now c.args.world.now c.in-Ok.conn
+              c.open_there.new.world c.in-Ok.ensures)
+              c.serve_at_port-served.ensures.honest
+              (λ was clean. added (state g.S.Store c.in-Ok.conn) (state g.S.Store c.serve_at_port-served.result.1) was
+              c.args.connections _ _ _ _ _ c.serve_at_port-served.result.0 it.2.serves clean)
+              c.close_database.ensures;
+          runs = ran g.S.Store g.W.World c.requires.keeps c.args.db.now c.open_there.new.world
+              c.serve_at_port-served.new.world c.close_database.new.self c.in-Ok.conn c.serve_at_port-served.result.1
+              c.close_database.result
+              (AsksServing c.args.connections (g.W.File.Read.remaining c.args.nonces)
+              (heard_of g.W.Incoming.Listener.book it.2.heard) c.serve_at_port-served.result.0)
+              (opened_there g.S.Store g.W.World c.requires.keeps c.args.db.now c.args.world.now c.in-Ok.conn
+              c.open_there.new.world c.in-Ok.ensures)
+              c.serve_at_port-served.ensures.honest
+              (λ clean was. serves_asked (state g.S.Store c.in-Ok.conn)
+              (state g.S.Store c.serve_at_port-served.result.1) clean c.args.connections _ _ _ _ _
+              c.serve_at_port-served.result.0
+              (λ seen. let none = c.serve_at_port-served.ensures.none seen in (none.0, ap (state g.S.Store) none.1))
+              it.2.serves)
+              c.close_database.ensures;
+          came = c.closed.ensures;
+        };
+      },
+    )
 
 pub returns-in-Ok-clause-status : goal.returns-in-Ok-clause-status
 returns-in-Ok-clause-status g c =
@@ -60,19 +68,23 @@ returns-in-Ok-clause-status g c =
     (status_kept c.serve_at_port-served.result.0 c.close_database.result c.serve_at_port-served.ensures.status)
 
 pub returns-in-Err-clause-serves : goal.returns-in-Err-clause-serves
-returns-in-Err-clause-serves g c = record {
-  found = Err c.in-Err.unopened;
-  opened = c.open_there.new.world;
-  is_opened = c.in-Err.ensures;
-  ran = (refl, (refl, refl));
-}
+returns-in-Err-clause-serves g c = (
+  [],
+  takes_none _ _,
+  record {
+    found = Err c.in-Err.unopened;
+    opened = c.open_there.new.world;
+    is_opened = c.in-Err.ensures;
+    ran = (refl, (refl, (refl, refl)));
+  },
+)
 
 pub serve_at_port-served-requires-clause-outside : goal.serve_at_port-served-requires-clause-outside
 serve_at_port-served-requires-clause-outside g c =
-    (ready_there g.S.Store g.W.World c.requires c.args.db.now c.args.world.now c.in-Ok.conn
+    (ready_there g.S.Store g.W.World c.requires.keeps c.args.db.now c.args.world.now c.in-Ok.conn
     c.open_there.new.world c.in-Ok.ensures).outside
 
 pub serve_at_port-served-requires-clause-unlimited : goal.serve_at_port-served-requires-clause-unlimited
 serve_at_port-served-requires-clause-unlimited g c =
-    (ready_there g.S.Store g.W.World c.requires c.args.db.now c.args.world.now c.in-Ok.conn
+    (ready_there g.S.Store g.W.World c.requires.keeps c.args.db.now c.args.world.now c.in-Ok.conn
     c.open_there.new.world c.in-Ok.ensures).unlimited

@@ -1,10 +1,11 @@
-use Rattle.std.proofs.Common.{◌≡◌, Err, List, Ok, Option, Result, inl, subst, ℕ}
+use Rattle.std.proofs.Common.{◌≡◌, ◌∙◌, Err, List, Ok, Option, Result, inl, subst, sym, ℕ}
 use Rattle.std.specs.Prelude.{IfErr, OnErr, OnOk}
 use Rattle.std.specs.Io.KnownBytes.{Appends}
 use Rattle.wire.specs.Streams.{AppendsBeginning}
 use Rattle.station_jobs.specs.declared.station_fault.StationFault.{StationFault}
 use Rattle.station_jobs.specs.declared.station_fault.StationFault.TheVariants.{Write}
 use Rattle.station_jobs.specs.Jobs.{Prints}
+use Rattle.sshstation.proofs.Telling.{is_done}
 use Rattle.sshstation.proofs.command.answer_words.Goals as goal
 
 prints : (told : List ℕ) (held holds : Option (List ℕ)) (r : Result (Unit {0}) StationFault)
@@ -23,5 +24,10 @@ returns-in-Help-clause-declines g c =
     rw c.in-Help.is (
       shown,
       subst (λ (told : List ℕ). Prints told held holds shown) c.as_bytes.ensures.value is,
+      c.status_of.ensures.told,
       c.status_of.ensures.status,
     )
+
+pub returns-in-Help-clause-silent : goal.returns-in-Help-clause-silent
+returns-in-Help-clause-silent g c zero =
+    c.status_of.ensures.silent (is_done c.print-shown.result (sym c.status_of.ensures.status ∙ zero))

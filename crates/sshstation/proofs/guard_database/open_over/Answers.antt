@@ -1,10 +1,10 @@
-use Rattle.std.proofs.Common.{Err, ap, ◌∙◌}
+use Rattle.std.proofs.Common.{ap, ◌∙◌}
 use Rattle.std.specs.List.{list_any}
 use Rattle.sqlite_wal.specs.Files.{image_at}
 use Rattle.sqlite.specs.Schema.{Schema}
 use Rattle.guard_sql.specs.Look.{is_guard_table, none_is_guard}
 use Rattle.sshstation.proofs.Kept.{is_no_fault}
-use Rattle.sshstation.proofs.Unopened.{hold_again}
+use Rattle.sshstation.proofs.Unopened.{holds_again}
 use Rattle.sshstation.proofs.guard_database.open_over.Goals as goal
 
 pub open-requires-clause-outside : goal.open-requires-clause-outside
@@ -24,18 +24,16 @@ returns-in-Ok-clause-found g c = record {
   found = c.in-Ok.ensures.opened;
 }
 
-pub returns-in-Err-clause-none : goal.returns-in-Err-clause-none
-returns-in-Err-clause-none g c = record {
+pub returns-in-Err-clause-left : goal.returns-in-Err-clause-left
+returns-in-Err-clause-left g c = record {
   conn = c.args.conn;
-  last = c.in-Err.conn;
+  last = c.in-Err.found;
   files = c.requires;
   fault = c.in-Err.fault;
-  is = ap (λ e. Err e) c.unopened_fault.ensures;
+  is = c.unopened_fault.ensures;
+  leaves = c.abandoned-files.ensures.leaves;
   honest = c.in-Err.ensures.honest_back;
   caused = λ clean. (c.in-Err.ensures.refused clean, c.in-Err.ensures.missed clean);
+  holds = holds_again c.abandoned-files.ensures.settles (image_at g.S.Start) c.args.conn c.in-Err.found c.requires
+      c.abandoned-files.result c.abandoned-files.ensures.leaves c.in-Err.ensures.crash_back;
 }
-
-pub returns-in-Err-clause-left : goal.returns-in-Err-clause-left
-returns-in-Err-clause-left g c =
-    hold_again c.abandoned-files.ensures.settles (image_at g.S.Start) c.args.conn c.in-Err.conn c.requires
-    c.abandoned-files.result c.abandoned-files.ensures.leaves c.in-Err.ensures.crash_back

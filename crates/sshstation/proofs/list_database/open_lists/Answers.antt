@@ -1,4 +1,10 @@
 use Rattle.sshstation.proofs.list_database.open_lists.Goals as goal
 
-pub returns-in-Ok : goal.returns-in-Ok
-returns-in-Ok g c = record { new = c.in-Ok.ensures.new; held = c.in-Ok.ensures.held; blank = c.in-Ok.ensures.blank }
+pub returns-in-Ok-clause-ok : goal.returns-in-Ok-clause-ok
+returns-in-Ok-clause-ok g c = record {
+  new = c.in-Ok.ensures.new;
+  opened = c.in-Ok.ensures.opened;
+  found = c.in-Ok.ensures.found;
+  held = c.in-Ok.ensures.held;
+  blank = c.in-Ok.ensures.blank;
+}

@@ -1,7 +1,7 @@
-use Rattle.std.proofs.Common.{subst}
+use Rattle.std.proofs.Common.{arith, subst}
 use Rattle.station_jobs.specs.Bodies.{PrintsFrom}
 use Rattle.station_jobs.proofs.Leavings.{stays_same, stays_then}
-use Rattle.station_jobs.proofs.Rows.{all_listed, one_more, starts}
+use Rattle.station_jobs.proofs.Rows.{counted_more, cut_after, none_listed, one_more, starts}
 use Rattle.station_jobs.proofs.bodies.print_bodies.Goals as goal
 
 pub loop-row-init : goal.loop-row-init
@@ -9,6 +9,7 @@ loop-row-init g c = record {
   honest = λ h. h;
   stays = λ h s kept. stays_same g.G.Register c.args.register.now s kept;
   listed = λ h s kept. starts s (g.W.Write.contents c.args.out.now);
+  counted = λ h s kept are. (omega arith, omega arith);
 }
 
 pub loop-row-preserved : goal.loop-row-preserved
@@ -26,4 +27,24 @@ loop-row-preserved g c =
           (g.W.Write.contents c.print_from.new.out) c.loop-row.from c.in-Ok-Some.next (inv.listed before s kept)
           (subst (PrintsFrom s c.loop-row.from (g.W.Write.contents c.loop-row.out) (g.W.Write.contents c.print_from.new.out))
           c.in-Ok-Some.field-0-is (c.in-Ok-Some.ensures.prints h s (inv.stays before s kept).kept));
+      counted = λ h s kept are.
+          let before = c.print_from.ensures.honest h in
+          counted_more s c.loop-row._row c.loop-row.from c.in-Ok-Some.next (g.W.Write.contents c.loop-row.out)
+          (g.W.Write.contents c.print_from.new.out) are (inv.counted before s kept are)
+          (subst (PrintsFrom s c.loop-row.from (g.W.Write.contents c.loop-row.out) (g.W.Write.contents c.print_from.new.out))
+          c.in-Ok-Some.field-0-is (c.in-Ok-Some.ensures.prints h s (inv.stays before s kept).kept));
     }
+
+pub returns-in-Err-clause-lists : goal.returns-in-Err-clause-lists
+returns-in-Err-clause-lists g c h s kept =
+    let inv = c.loop-row.invariant in
+    let before = c.print_from.ensures.honest h in
+    cut_after s (g.W.Write.contents c.args.out.now) (g.W.Write.contents c.loop-row.out)
+    (g.W.Write.contents c.print_from.new.out) c.loop-row.from (inv.listed before s kept)
+    (c.in-Err.ensures.cut h s (inv.stays before s kept).kept)
+
+pub returns-clause-lists : goal.returns-clause-lists
+returns-clause-lists g c h s kept =
+    let mid = g.W.Write.contents c.loop-row.out in
+    cut_after s (g.W.Write.contents c.args.out.now) mid mid c.loop-row.from (c.loop-row.invariant.listed h s kept)
+    (none_listed s c.loop-row.from mid)

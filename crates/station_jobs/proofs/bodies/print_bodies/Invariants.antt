@@ -1,4 +1,6 @@
+use Rattle.std.proofs.Common.{◌≤◌, ◌^◌}
 use Rattle.guard.specs.Machine.{State}
+use Rattle.station_jobs.specs.Bodies.{AreReadable}
 use Rattle.station_jobs.specs.Leaving.{Stays}
 use Rattle.station_jobs.proofs.Rows.{Listed}
 use Rattle.station_jobs.proofs.bodies.print_bodies.Given as goal
@@ -11,4 +13,6 @@ invariant-loop-row g l = record {
       → Stays g.G.Register l.fn.register l.register s;
   listed : g.G.Register.is_honest l.register → (s : State) → g.G.Register.keeps l.fn.register s
       → Listed s (g.W.Write.contents l.fn.out) (g.W.Write.contents l.out) l.from;
+  counted : g.G.Register.is_honest l.register → (s : State) → g.G.Register.keeps l.fn.register s → AreReadable s
+      → (l._row ≤ l.from) × (l.from ≤ 2 ^ 63);
 }

@@ -5,7 +5,7 @@ use Rattle.station_jobs.specs.Input.{JudgesNext}
 use Rattle.station_jobs.specs.Judging.{AsksNow, left_by}
 use Rattle.station_jobs.specs.Leaving.{Leaves, OfBodies}
 use Rattle.station_jobs.proofs.Leavings.{stays_same}
-use Rattle.station_jobs.proofs.Lines.{ends, fails, goes_on, starts, stops}
+use Rattle.station_jobs.proofs.Lines.{fails, goes_on, starts, stops}
 use Rattle.station_jobs.proofs.input.judge_lines.Goals as goal
 
 pub loop-turn-init : goal.loop-turn-init

@@ -1,4 +1,4 @@
-use Rattle.std.proofs.Common.{◌≡◌, ◌+◌, ◌++◌, ◌∷◌, [], List, ℕ, Err, Ok, drop, map, string_bytes, subst, take}
+use Rattle.std.proofs.Common.{◌≡◌, ◌+◌, ◌∷◌, [], List, ℕ, Err, Ok, drop, map, string_bytes, subst, take}
 use Rattle.station_jobs.specs.Judging.{Asks, Judges, left_by}
 use Rattle.station_jobs.specs.Leaving.{Leaves, OfBodies}
 use Rattle.station_jobs.proofs.Judgements.{given_after, judged_then, more_given, next_path, none_judged}

@@ -4,7 +4,7 @@ use Rattle.sshstation.proofs.guard_database.GuardDatabaseGuardFile.close.Goals a
 
 pub returns : goal.returns
 returns g c = (
-  subst (λ conn. EndsWell conn c.end_path-ended.result.0 c.end_path-ended.result.1) c.into_connection.ensures
+  subst (λ conn. EndsWell conn c.end_path-ended.result.0 c.end_path-ended.result.1) c.into_connection-conn.ensures
       c.end_path-ended.ensures,
   c.of_ending-done.ensures,
 )

@@ -1,0 +1,37 @@
+use Rattle.office_jobs.proofs.Words.{OfficeJob, ap, subst, sym}
+use Rattle.office_jobs.specs.Jobs.{Wants}
+use Rattle.office_jobs.proofs.job.do_on.Goals as goal
+
+pub returns-in-Apply-clause-wants : goal.returns-in-Apply-clause-wants
+returns-in-Apply-clause-wants g c =
+    let run = c.apply_over-outcome in
+    subst (λ (job : OfficeJob). Wants g.S.Store job c.args.conn run.result.1 run.result.0) (sym c.in-Apply.is) (record {
+      none = λ seen. (ap (λ p. p.0) (run.ensures.none seen), ap (λ p. p.1) (run.ensures.none seen));
+      rows = run.ensures.rows;
+    })
+
+pub returns-in-Krl-clause-wants : goal.returns-in-Krl-clause-wants
+returns-in-Krl-clause-wants g c =
+    let run = c.list_over in
+    subst (λ (job : OfficeJob). Wants g.S.Store job c.args.conn run.result.conn run.result.outcome) (sym c.in-Krl.is)
+    (record {
+      none = λ seen. (ap (λ d. d.outcome) (run.ensures.none seen), ap (λ d. d.conn) (run.ensures.none seen));
+      rows = run.ensures.rows;
+    })
+
+pub returns-in-Signers-clause-wants : goal.returns-in-Signers-clause-wants
+returns-in-Signers-clause-wants g c =
+    let run = c.report_over-outcome in
+    subst (λ (job : OfficeJob). Wants g.S.Store job c.args.conn run.result.1 run.result.0) (sym c.in-Signers.is)
+    (record {
+      none = λ seen. (ap (λ p. p.0) (run.ensures.none seen), ap (λ p. p.1) (run.ensures.none seen));
+      rows = run.ensures.rows;
+    })
+
+pub returns-in-Table-clause-wants : goal.returns-in-Table-clause-wants
+returns-in-Table-clause-wants g c =
+    let run = c.report_over-outcome-in-Table in
+    subst (λ (job : OfficeJob). Wants g.S.Store job c.args.conn run.result.1 run.result.0) (sym c.in-Table.is) (record {
+      none = λ seen. (ap (λ p. p.0) (run.ensures.none seen), ap (λ p. p.1) (run.ensures.none seen));
+      rows = run.ensures.rows;
+    })
