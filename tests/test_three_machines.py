@@ -165,12 +165,14 @@ class Site(boxes.Rack):
             self.reigns = sorted({*self.reigns, *[Reign(float(it), box.name) for it in LISTENING.findall(text)]})
 
     def new_text(self, box):
-        """The whole lines that came to a box's log since the last call. The log begins again with its machine."""
+        """The whole lines that came to a box's log since the last call. The log begins again with its machine, and with
+        the unit of its way, which has a folder of its own."""
         with contextlib.suppress(OSError), open(f"/proc/{box.init}/root{LOG}", "rb") as it:
-            it.seek(self.read.get((box.name, box.init), 0))
+            log = box.name, box.init, os.fstat(it.fileno()).st_ino
+            it.seek(self.read.get(log, 0))
             text = it.read()
             text = text[:text.rfind(b"\n") + 1]
-            self.read[box.name, box.init] = self.read.get((box.name, box.init), 0) + len(text)
+            self.read[log] = self.read.get(log, 0) + len(text)
             return text.decode(errors="replace")
         return ""
 
@@ -297,7 +299,7 @@ class Site(boxes.Rack):
         if not self.serving() or len(self.listening()) > 1:
             return False
         with ThreadPoolExecutor(2) as pool:
-            said = [*pool.map(lambda it: it.run("office-volume check", check=False, timeout=120), self.pair())]
+            said = [*pool.map(lambda it: it.run("office-volume check", check=False, timeout=240), self.pair())]
         self.ill = "\n".join(it.stdout for it in said)
         return not any(it.returncode for it in said)
 
@@ -443,12 +445,15 @@ def site(sites):
     return sites[0]
 
 
-# By name: what fails, of the machine that serves (None: of any machine), and the seconds until it is brought back.
+# By name: what fails, of the machine that serves (False: of any machine), and the seconds until it is brought back, or
+# from which to which these are drawn. What is frozen briefly is back while the other machine takes over.
 FAULTS = {
     "server killed": (Site.kill_server, True, 0),
     "mount killed": (Site.kill_mount, True, 0),
     "mount frozen": (Site.freeze_mount, True, 45),
     "machine frozen": (Site.freeze_machine, True, 60),
+    "mount frozen briefly": (Site.freeze_mount, True, (20, 30)),
+    "machine frozen briefly": (Site.freeze_machine, True, (20, 30)),
     "brick killed": (Site.kill_brick, False, 4),
     "disk full": (Site.fill_disk, False, 4),
     "metadata server killed": (Site.kill_metadata_server, False, 0),
@@ -457,9 +462,9 @@ FAULTS = {
     "rebooted": (Site.reboot, True, 0),
 }
 # How many of sixty rounds: those that take longer come less often. "Link cut, brick killed" leaves one copy alone.
-WEIGHTS = {"server killed": 11, "mount killed": 9, "mount frozen": 3, "machine frozen": 3, "brick killed": 7,
-           "disk full": 5, "metadata server killed": 5, "link cut": 6, "offices parted": 3, "rebooted": 5,
-           "link cut, brick killed": 3}
+WEIGHTS = {"server killed": 8, "mount killed": 8, "mount frozen": 3, "machine frozen": 3, "mount frozen briefly": 2,
+           "machine frozen briefly": 4, "brick killed": 5, "disk full": 5, "metadata server killed": 5, "link cut": 6,
+           "offices parted": 3, "rebooted": 5, "link cut, brick killed": 3}
 # The longest takeover, in seconds, after a fault of the machine that serves. With `--patience N` it may take N times as
 # long.
 LONGEST = {"server killed": 10, "mount killed": 10, "mount frozen": 40, "machine frozen": 40, "link cut": 40,
@@ -487,7 +492,7 @@ def begin_fault(site, name):
         # Two faults at once are of two machines.
         any_box = site.other(serving) if ", " in name else site.boxes[random.choice(("one", "two", "three"))]
         backs.append(act(site, serving if of_server else any_box))
-        wait = max(wait, seconds)
+        wait = max(wait, random.uniform(*seconds) if isinstance(seconds, tuple) else seconds)
     return [it for it in backs if callable(it)], 30 if ", " in name else wait, moment
 
 
@@ -526,7 +531,9 @@ def one_round(site, calling, name, patience=1):
     assert not found, f"callers saw errors: {found[:5]}"
     calling.tell("go")
     waited = max(it["ended"] - it["begun"] for it in seen)
-    how = f"{machine} answered after {took:.1f} s" if machine else "nobody had to take over"
+    begun = next((it for it in site.reigns if it.begun > moment), None)
+    how = (f"{machine} answered after {took:.1f} s" if machine else "nobody had to take over" if not begun else
+           f"{begun.machine} began to serve after {begun.begun - moment:.1f} s")
     print(f"{name}: {how}; {len(seen)} answers, the longest took {waited:.1f} s; {time.time() - moment:.0f} s in all")
     return took
 
@@ -638,6 +645,15 @@ def test_faults_at_random(sites, request):
     ("sed -i '/^mds_session_blocklist_on_evict/d' /etc/ceph/ceph.conf",
      "mds_session_blocklist_on_evict is not set in /etc/ceph/ceph.conf, and has to be true",
      "sed -i '/^.global/a mds_session_blocklist_on_evict = true' /etc/ceph/ceph.conf"),
+    # The files say what is right, and what runs was told otherwise.
+    ("ceph tell mds.three config set mds_session_blocklist_on_evict false",
+     "mds_session_blocklist_on_evict of the running mds.three is false, and has to be true",
+     "ceph tell mds.three config set mds_session_blocklist_on_evict true"),
+    ("ceph daemon mon.$(hostname -s) config set mon_osd_blocklist_default_expire 3600",
+     "mon_osd_blocklist_default_expire of the running mon.",
+     "ceph daemon mon.$(hostname -s) config set mon_osd_blocklist_default_expire 315360000"),
+    ("ceph daemon /run/ceph/ceph-client.office.$(pgrep -x ceph-fuse).*.asok config set client_reconnect_stale true",
+     "client_reconnect_stale of the running client.office.", "true"),
 ])
 def test_each_setting_is_looked_at(site, wrong, said, right):
     """An office whose volume lacks a setting is ended, and none starts, until the setting is back."""
@@ -709,24 +725,154 @@ def test_the_machine_that_waits_hangs(site, request):
     assert not site.intruders()
 
 
-def test_who_evicts_waits_for_the_lease_of_the_other(site):
-    """A machine that evicts the other one has the lock at once. Nobody is led to its office before the other's lease is
-    certainly over."""
+# Ceph's own command, for a machine's name.
+EVICT = """ceph tell mds.office:0 session ls 2>/dev/null | python3 -c '
+import json, sys
+print(*[it["id"] for it in json.load(sys.stdin) if it["client_metadata"].get("hostname") == sys.argv[1]])' %s |
+xargs -n 1 sh -c 'ceph tell mds.office:0 client evict id=$0'"""
+
+
+@pytest.mark.parametrize("where, command", [("other", "office-volume evict %s"), ("three", EVICT)])
+def test_who_gets_the_lock_waits_for_the_lease_of_the_other(site, where, command):
+    """A machine whose other one is evicted has the lock at once. Nobody is led to its office before the other's lease
+    is certainly over, whoever evicted that one."""
     until_well(site, site.is_well)
     box = until(site.serving, seconds=60)
     other = site.other(box)
     # The office that is evicted gives no answer meanwhile, also none that it may.
     box.run("systemctl stop office-way")
-    other.run(f"office-volume evict {box.name}")
     moment = time.time()
-    until(lambda: other in site.listening(), seconds=60)
-    begun = time.time()
-    until(lambda: gives_page(other, "/run/office-way/way.sock"), seconds=60)
-    print(f"the other one serves after {begun - moment:.1f} s, and is asked after {time.time() - moment:.1f} s")
-    assert time.time() - moment > LEASE
+    (other if where == "other" else site.boxes[where]).run(command % box.name)
+    until(lambda: gives_page(other, "/run/office-way/way.sock"), seconds=60, pause=0.1)
+    asked, begun = time.time(), float(other.says("stat -c %.Y /run/office-waiting/listening"))
+    print(f"the other one serves after {begun - moment:.1f} s, and is asked after {asked - moment:.1f} s")
+    assert asked - begun > LEASE
     box.run("systemctl start office-way")
     until_well(site, site.is_well)
     assert not site.intruders()
+
+
+def test_a_machine_that_does_not_notice_that_its_lock_is_gone(site):
+    """It has its lease for some seconds more, and its office gives pages. The other office has the lock, and gives none
+    until that is over."""
+    until_well(site, site.is_well)
+    box = until(site.serving, seconds=60)
+    other = site.other(box)
+    box.run("systemctl kill -s STOP office-watch")
+    moment = time.time()
+    site.boxes["three"].run(EVICT % box.name)
+    evicted = time.time()
+
+    def of(it):
+        return [answer for answer in site.answers if answer.machine == it.name and answer.asked > moment]
+
+    def both_asked():
+        for it in (box, other):
+            gives_page(it, "/run/office-way/way.sock")
+        site.collect()
+        return of(other)
+
+    try:
+        until(both_asked, seconds=60, pause=0.05)
+    finally:
+        box.run("systemctl kill -s CONT office-watch")
+    first = min(it.answered for it in of(other))
+    last = max((it.asked for it in of(box)), default=moment)
+    print(f"evicted after {evicted - moment:.1f} s: the old one was asked until {last - moment:.1f} s after the fault, "
+          f"and the new one answers after {first - moment:.1f} s")
+    assert last < first
+    # So nobody had an answer of the new one yet when these were asked for.
+    site.answers -= {it for it in of(box) if it.asked < first}
+    until_well(site, site.is_well)
+    assert not site.intruders()
+
+
+# How long it takes until a page comes again: the way is asked ten times, and the door 45 times.
+@pytest.mark.parametrize("unit, longest", [("office-way", 40), ("office-door.socket", 90)])
+def test_an_office_that_nobody_reaches_is_ended(site, unit, longest, request):
+    """By its own machine: its lock would keep the other one from serving. None begins there before the way is back."""
+    until_well(site, site.is_well)
+    box = until(site.serving, seconds=60)
+    other = site.other(box)
+    moment = time.time()
+    box.run(f"systemctl stop {unit}")
+    until(lambda: not gives_page(other, "/run/office-way/way.sock"), seconds=10)
+    longest *= request.config.getoption("--patience")
+    until(lambda: gives_page(other, "/run/office-way/way.sock"), seconds=longest)
+    print(f"{unit} was stopped: a page comes after {time.time() - moment:.1f} s")
+    if unit == "office-way":
+        assert [other] == site.listening()
+        assert "the way here gives no answer" in box.run("office-volume check", check=False).stdout
+        assert "the way here gives no answer" in box.says("journalctl -u office-watch -o cat --no-pager")
+        time.sleep(5)
+        assert [other] == site.listening()
+    box.run(f"systemctl start {unit}")
+    until_well(site, site.is_well)
+    assert not site.intruders()
+
+
+def test_the_ways_are_looked_at(site):
+    """One that is stopped, and one with another key. No office waits for that, and none is ended."""
+    until_well(site, site.is_well)
+    box = until(site.serving, seconds=60)
+    other, before = site.other(box), [*site.reigns]
+
+    def said(it):
+        return it.run("office-volume check", check=False).stdout
+
+    other.run("systemctl stop office-way")
+    assert f"the way of {other.name} gives no answer" in said(box) and "the way here gives no answer" in said(other)
+    other.run("systemctl start office-way")
+    until_well(site, site.is_well)
+    place = "install -m 640 -g office-way {0}way.key {0}way.crt /etc/vethlumi/way; systemctl restart office-way"
+    other.run("mkdir kept; cp /etc/vethlumi/way/way.* kept; office-volume key; " + place.format(""))
+    found = said(other)
+    assert f"the way of {other.name} gives no answer" in said(box)
+    assert f"the way of {box.name} gives no answer" in found and "no office answers by the way here" in found
+    other.run(place.format("kept/"))
+    until_well(site, site.is_well)
+    site.collect()
+    assert before == site.reigns
+
+
+def test_a_copy_that_is_lost_ends_no_office(site):
+    """Nor does it keep a mount from beginning. Its own machine says that it is lost, too."""
+    until_well(site, site.is_well)
+    until_well(site, site.is_healed)
+    box = until(site.serving, seconds=60)
+    before, number = [*site.reigns], VOLUME.index(box.name)
+    box.run(f"systemctl stop ceph-osd@{number}; mv /srv/office-brick/block /srv/office-brick/away")
+    found = box.run("office-volume check", check=False).stdout
+    assert f"osd.{number} gives no answer" in found and "the copy here gives no answer" in found
+    # The watch has looked meanwhile.
+    time.sleep(75)
+    assert box is site.serving() and before == site.reigns
+    pid = site.mount_of(box)
+    site.kill_mount(box)
+    until(lambda: box.run("systemctl is-active office-volume", check=False).stdout.strip() == "active"
+          and site.mount_of(box) != pid, seconds=120, pause=0.5)
+    box.run(f"mv /srv/office-brick/away /srv/office-brick/block; systemctl start ceph-osd@{number}")
+    until_well(site, site.is_healed)
+    until_well(site, site.is_well)
+
+
+def test_the_alert_is_raised(site):
+    """The office goes on without a copy, so somebody has to be told."""
+    until_well(site, site.is_well)
+    until_well(site, site.is_healed)
+    one = site.boxes["one"]
+    assert "active" == one.says("systemctl is-active office-volume-check.timer")
+    look = "systemctl restart office-volume-check"
+    one.run(look, timeout=400)
+    back = site.kill_brick(site.boxes["three"])
+    assert one.run(look, check=False, timeout=400).returncode
+    alert = "office-volume-check.service has failed"
+    until(lambda: alert in one.says("journalctl -b -p alert -o cat --no-pager"), seconds=60)
+    found = one.says("journalctl -u office-volume-check -o cat --no-pager")
+    assert "osd.2 gives no answer" in found and "Ceph reports OSD_DOWN" in found
+    back()
+    until_well(site, site.is_healed)
+    one.run(look, timeout=400)
 
 
 @contextlib.contextmanager
@@ -793,16 +939,18 @@ def test_a_machine_with_an_office_is_replaced(site, request):
 
 
 def test_the_program_is_updated(site, request):
-    """The page's commands, first on the machine that waits and then on the one that serves: the other takes over."""
+    """The page's commands, first on the machine that waits and then on the one that serves. The other takes over, or the
+    one that is updated begins again before that."""
     until_well(site, site.is_well)
     programs = "crates/sshoffice/out/sshoffice examples/volume/office-{volume,waiting}"
     with asked(site) as calling:
         serving = until(site.serving, seconds=60)
         for box in (site.other(serving), serving):
+            moment = time.time()
             box.run(f"cd vethlumi; install -m 755 {programs} /usr/local/bin; systemctl daemon-reload; "
-                    "systemctl restart office office-watch; systemctl reload office-way")
+                    "systemctl reload office-way; systemctl restart office office-watch")
             until_well(site, site.is_well)
-        assert site.other(serving) == site.serving()
+        assert site.reigns[-1].begun > moment
     assert not errors(calling.since(0), request.config.getoption("--patience"))
 
 
@@ -824,3 +972,47 @@ def test_the_two_offices_are_parted(site, request):
         back()
         waiting.run("systemctl start office-front")
     assert not errors(calling.since(0), request.config.getoption("--patience"))
+
+
+def rows(copy):
+    """What is wrong with the tables of a copy, its accepted messages with their answers, and its certificates."""
+    with opened(copy) as tables:
+        faults = [it for it in tables.execute("PRAGMA integrity_check") if it != ("ok",)]
+        requests = tables.execute("SELECT caller, key, message, reply FROM request")
+        messages = {(caller, key): (bytes(message).decode(), reply) for caller, key, message, reply in requests}
+        return faults, messages, sorted(tables.execute("SELECT serial, body FROM cert"))
+
+
+def test_a_copy_is_made_and_restored(site):
+    """It is made while callers ask, and has what was answered before. It is restored once no office runs on either
+    machine, by the commands of the page."""
+    until_well(site, site.is_well)
+    with asked(site) as calling:
+        until(lambda: len(calling.since(0)) > 30, seconds=120)
+        box = until(site.serving, seconds=60)
+        other, moment = site.other(box), time.time()
+        assert "no office serves here" in other.run("office-volume copy today", check=False).stdout
+        box.run("office-volume copy today")
+        until(lambda: len(calling.since(moment)) > 30, seconds=120)
+        before = [it for it in calling.accepted()[0] if it["ended"] < moment]
+    copy = box.files / "root/today"
+    faults, messages, certificates = rows(copy)
+    assert not faults and before
+    assert not [it for it in before if messages.get((it["caller"], it["key"])) != (it["message"], it["reply"])]
+
+    def refused(why):
+        said = box.run("office-restore today/office.db", check=False)
+        assert 1 == said.returncode and why in said.stdout and "nothing was changed" in said.stdout
+
+    refused("an office runs here")
+    box.run("systemctl stop office")
+    refused(f"an office runs on {other.name}")
+    other.run("systemctl stop office")
+    box.run("cp /var/lib/office/office.db* /root; office-restore today/office.db")
+    assert box is site.serving()
+    other.run("systemctl start office")
+    until_well(site, site.is_well)
+    found = rows(until(site.copied, seconds=60, pause=0.5))
+    assert ([], messages, certificates) == found
+    [kept] = box.says("ls -d /var/lib/office/replaced-*").split()
+    box.run(f"cmp {kept}/office.db office.db")

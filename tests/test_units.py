@@ -1,13 +1,14 @@
-"""The units of examples/systemd, as systemd-analyze and systemd-sysusers read them. test_boxes.py runs them."""
+"""The units of examples/systemd and examples/volume, as systemd-analyze and systemd-sysusers read them. test_boxes.py
+and test_three_machines.py run them."""
 import os
 import re
 import shutil
 
 import pytest
 
-from running import EXAMPLES, left_out, run
+from running import EXAMPLES, TOP, left_out, run
 
-UNITS = EXAMPLES / "systemd"
+UNITS, VOLUME = EXAMPLES / "systemd", EXAMPLES / "volume"
 NAMES = sorted(it.name for it in UNITS.iterdir() if it.suffix in (".service", ".socket", ".timer"))
 SERVICES = [it for it in NAMES if it.endswith(".service")]
 # The most that systemd may say of a unit: 1.5 of 10.
@@ -33,6 +34,31 @@ def test_systemd_finds_no_fault(analyze, room):
         (room / name).write_text(re.sub(r"/usr/local/bin/\S+|/usr/sbin/nginx", "/bin/true", text))
     ended = analyze("verify", "--man=no", *(room / it for it in NAMES))
     assert (0, b"") == (ended.returncode, ended.stderr)
+
+
+def test_systemd_finds_no_fault_in_those_of_a_volume(analyze, room):
+    """With what they add to the others."""
+    places = {it.name: it for folder in (UNITS, VOLUME) for it in folder.iterdir()
+              if it.suffix in (".service", ".socket", ".timer")}
+    added = {it.stem: it for kind in ("service", "socket") for it in VOLUME.glob(f"*.{kind}.conf")}
+    assert {*added} < {*places} and 4 == len(added)
+    places |= {f"{unit}.d/volume.conf": it for unit, it in added.items()}
+    for name, it in places.items():
+        (room / name).parent.mkdir(exist_ok=True)
+        text = re.sub(r"/usr/local/bin/\S+|/usr/sbin/nginx|/usr/bin/ceph-fuse", "/bin/true", it.read_text())
+        (room / name).write_text(text)
+    ended = analyze("verify", "--man=no", *(room / it for it in places if ".d/" not in it))
+    assert (0, b"") == (ended.returncode, ended.stderr)
+
+
+def test_each_unit_of_a_volume_is_enabled_by_the_page_and_disabled_again():
+    page, script = (TOP / "docs/GROWING.md").read_text(), (VOLUME / "office-volume").read_text()
+    wanted = {it.name.removesuffix(".service") for kind in ("service", "timer") for it in VOLUME.glob(f"*.{kind}")
+              if "[Install]" in it.read_text()}
+    enabled = {word for words in re.findall(r"^systemctl enable --now (.*)$", page, re.M) for word in words.split()}
+    [disabled] = re.findall(r"^leave\(\) \{\n.*\n  for it in (.*); do$", script, re.M)
+    assert 4 == len(wanted) and wanted <= enabled and wanted <= {*disabled.split()}
+    assert "examples/volume/*.{service,timer} /etc/systemd/system" in page
 
 
 @pytest.mark.parametrize("unit", SERVICES)
