@@ -88,7 +88,8 @@ class Callers:
     def __init__(self, folder, addresses):
         self.fronts = {name: Fronts(folder, name, addresses) for name in ("ana", "root", "station")}
         self.lock, self.answered, self.over = threading.Lock(), [], threading.Event()
-        self.serials, self.count = [], itertools.count()
+        # An office refuses another message under a key that these callers had when they ran before.
+        self.serials, self.count, self.own = [], itertools.count(), os.urandom(4).hex()
         # Whether the callers are to rest, and how many do.
         self.turn, self.is_rest, self.resting = threading.Condition(), False, 0
 
@@ -98,7 +99,7 @@ class Callers:
 
     def send(self, caller, message):
         """Sends a message until it is answered, and writes the answer down."""
-        key, begun = f"k-{next(self.count)}", time.time()
+        key, begun = f"k-{self.own}-{next(self.count)}", time.time()
         status, reply, instead = self.fronts[caller].until_answered(
             "POST", f"/v1/requests/{key}", message.encode(), self.over.is_set)
         if status is None:

@@ -1,6 +1,7 @@
 """What tests of the scripts that fetch have in common: a server that answers anything, and a disk that is small."""
 import contextlib
 import os
+import socket
 
 from recording import Recorder, whole_request
 from running import EXAMPLES, run
@@ -28,6 +29,19 @@ class Web(Recorder):
             peer.sendall(self.answer)
             while self.endless:
                 peer.sendall(self.endless)
+
+
+@contextlib.contextmanager
+def silent(address):
+    """A listener that takes no more connections, and doesn't say so."""
+    with contextlib.ExitStack() as kept, socket.socket() as listener:
+        listener.bind(address)
+        listener.listen(0)
+        for peer in [kept.enter_context(socket.socket()) for _ in range(4)]:
+            peer.setblocking(False)
+            with contextlib.suppress(BlockingIOError):
+                peer.connect(address)
+        yield
 
 
 def script(name, *words, **how):

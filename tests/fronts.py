@@ -37,10 +37,12 @@ class Front:
     """nginx before an office, as examples/front sets it up.
 
     `authority` is the folder of its certificates, `conf` the folder of its configuration, and `state` where nginx
-    writes. `edits` are texts of nginx.conf, each with what takes its place."""
+    writes. `edits` are texts of nginx.conf, each with what takes its place. A front `beside` another has its port
+    and another address."""
 
-    def __init__(self, programs, folder, authority, office_port, *, edits=()):
-        self.port, self.office_port, self.programs = free_port(), office_port, programs
+    def __init__(self, programs, folder, authority, office_port, *, edits=(), address="127.0.0.1", beside=None):
+        self.port, self.office_port, self.programs = beside.port if beside else free_port(), office_port, programs
+        self.address = address
         self.url = f"https://localhost:{self.port}"
         folder = pathlib.Path(folder).absolute()
         self.authority, self.conf, self.state = (folder / it for it in ("authority", "conf", "state"))
@@ -49,10 +51,10 @@ class Front:
         self.state.mkdir()
         for name in ("server.crt", "server.key", "ca.crt", "crl.pem"):
             shutil.copy(self.authority / name, self.conf)
-        by_ipv6 = f"listen [::1]:{self.port}" if has_ipv6() else "# listen"
+        by_ipv6 = f"listen [::1]:{self.port}" if has_ipv6() and not beside else "# listen"
         self.configure(("server 127.0.0.1:8022;", f"server 127.0.0.1:{office_port};"),
                        ("server 127.0.0.1:8022 max_conns", f"server 127.0.0.1:{office_port} max_conns"),
-                       ("listen 8443", f"listen 127.0.0.1:{self.port}"), ("listen [::]:8443", by_ipv6),
+                       ("listen 8443", f"listen {address}:{self.port}"), ("listen [::]:8443", by_ipv6),
                        ("/etc/vethlumi/front;", f"{self.conf};"),
                        ("/usr/local/share/office/page", str(EXAMPLES / "page")), *edits)
         self.begin()
@@ -76,7 +78,7 @@ class Front:
         words = ["nginx", "-p", self.state, "-c", self.conf / "nginx.conf", "-g", f"user {user}; daemon off;"]
         with open(self.state / "nginx.faults", "ab") as faults:
             self.process = self.programs.begin(words, stderr=faults)
-        until(functools.partial(is_listening, self.port))
+        until(functools.partial(is_listening, self.port, self.address))
 
     def end(self):
         end(self.process)

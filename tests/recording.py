@@ -36,9 +36,9 @@ class Recorder(socketserver.ThreadingTCPServer):
     daemon_threads = True
     request_queue_size = 1024
 
-    def __init__(self, answer=HEARD, seconds=0, port=0):
+    def __init__(self, answer=HEARD, seconds=0, port=0, address="127.0.0.1"):
         self.requests, self.answer, self.seconds = [], answer, seconds
-        super().__init__(("127.0.0.1", port), None)
+        super().__init__((address, port), None)
         self.port = self.server_address[1]
         threading.Thread(target=self.serve_forever, daemon=True).start()
 

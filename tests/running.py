@@ -172,8 +172,8 @@ def until(is_so, seconds=10, pause=0.02):
         time.sleep(pause)
 
 
-def is_listening(port):
-    with contextlib.suppress(OSError), socket.create_connection(("127.0.0.1", port), timeout=1):
+def is_listening(port, address="127.0.0.1"):
+    with contextlib.suppress(OSError), socket.create_connection((address, port), timeout=1):
         return True
     return False
 

@@ -95,6 +95,22 @@ class Station:
             program.symlink_to(guard.program)
         self.environment = os.environ | {"PATH": f"{self.folder}:{os.environ['PATH']}"}
 
+    def resolve(self, *addresses):
+        """Has each name have these addresses, in place of what getent says of it."""
+        new = self.folder / "getent.new"
+        new.write_text(f"#!/bin/sh\nprintf '%s STREAM\\n' {' '.join(addresses)}\n")
+        new.chmod(0o755)
+        new.rename(self.folder / "getent")
+
+    def change(self, old, new):
+        """Has it run a copy of the script, with a text in the place of another."""
+        text = (EXAMPLES / "station").read_text()
+        assert 1 == text.count(old)
+        copy = self.folder / "station"
+        copy.write_text(text.replace(old, new))
+        copy.chmod(0o755)
+        self.words[0] = copy
+
     def once(self, *more, **environment):
         """Status, lines of output, and lines of errors of a station that looks once."""
         done = run([*self.words, *more, "--once", self.url], env=self.environment | environment)
@@ -108,16 +124,22 @@ class Station:
 
     def begin(self, programs, *more, **how):
         """A station that goes on."""
-        how = {"stdout": subprocess.PIPE, "stderr": subprocess.PIPE, "env": self.environment} | how
+        how = {"stdout": subprocess.PIPE, "stderr": subprocess.PIPE, "bufsize": 0, "env": self.environment} | how
         return programs.begin([*self.words, *more, self.url], **how)
 
 
-def stopped(process):
-    """Stops a station, and returns its status, and the lines of its output and of its errors."""
+def stopped(process, lines=0):
+    """Stops a station once it has put out so many more lines, and returns its status, and the lines of its output and
+    of its errors. An office has a signature a moment before the station says so."""
+    out = b"".join(process.stdout.readline() for _ in range(lines))
     process.send_signal(signal.SIGTERM)
-    out, errors = process.communicate(timeout=20)
+    more, errors = process.communicate(timeout=20)
     end(process)
-    return process.returncode, out.decode().splitlines(), errors.decode().splitlines()
+    out = (out + more).decode().splitlines()
+    # It may have been stopped after its line for a signature, and before it noted that.
+    signed = [it.removeprefix("signed ") for it in out if it.startswith("signed ")]
+    needless = [f"station: the signature of {it} may have been sent, and the station ends" for it in signed]
+    return process.returncode, out, [it for it in errors.decode().splitlines() if it not in needless]
 
 
 def new_guard(sshstation, office, db="guard.db", policy=WIDE, **serials):

@@ -255,6 +255,14 @@ def test_a_link_to_an_empty_file_is_followed(program, laid):
     assert (0, b"total 0 version 0\n", b"") == outcome(run([program, "table", "--db", "real.db"]))
 
 
+def test_a_new_file_has_no_sums_of_its_pages(program, laid):
+    """Its header has SQLite's name, pages of 4096 bytes, and none of these reserved for anything else. SQLite's "Database
+    File Format" has the places."""
+    assert (0, READY, b"") == outcome(run([program, *init("office.db")]))
+    header = pathlib.Path("office.db").read_bytes()[:100]
+    assert (b"SQLite format 3\0", 4096, 0) == (header[:16], int.from_bytes(header[16:18], "big"), header[20])
+
+
 def test_an_office_is_founded_once(program, laid):
     assert (0, READY, b"") == outcome(run([program, *init("office.db")]))
     write_exchanges("web.exchange", [post("root", "web", department())])

@@ -206,7 +206,24 @@ def test_a_file_for_lists_is_its_owners_alone_and_made_once(lists, room):
     assert 0o600 == stat.S_IMODE((room / "lists.db").stat().st_mode)
     assert 5 == lists.judge(published(ONE, {ALICE}, 5), "--begin")
     before = (room / "lists.db").read_bytes()
-    assert (1, "", "sshstation: AlreadyAGuard\n") == lists.init()
+    for mode in (0o600, 0o640):
+        (room / "lists.db").chmod(mode)
+        assert (1, "", "sshstation: AlreadyAGuard\n") == lists.init()
+        assert mode == stat.S_IMODE((room / "lists.db").stat().st_mode), "an init leaves the file's mode"
+    assert before == (room / "lists.db").read_bytes()
+
+
+@pytest.mark.rows
+@pytest.mark.parametrize(("tables", "fault"), [
+    ("CREATE TABLE note (id INTEGER PRIMARY KEY, text TEXT); INSERT INTO note VALUES (1, 'a')", "NotAGuard"),
+    ("CREATE TABLE lists (id INTEGER); CREATE TABLE guard (id INTEGER)", "NotAGuard"),
+    ("CREATE VIEW one AS SELECT 1", "NotAGuard"), ("CREATE TABLE LIST (id INTEGER)", "AlreadyAGuard"),
+    ("CREATE TABLE note (id INTEGER); CREATE TABLE list (id INTEGER)", "AlreadyAGuard")])
+def test_no_guard_of_lists_is_made_beside_other_tables(sshstation, room, tables, fault):
+    with contextlib.closing(sqlite3.connect("lists.db")) as made, made:
+        made.executescript(tables)
+    before = (room / "lists.db").read_bytes()
+    assert (1, "", f"sshstation: {fault}\n") == Lists(sshstation).init()
     assert before == (room / "lists.db").read_bytes()
 
 
@@ -231,9 +248,10 @@ def test_faults_are_found_in_their_order(lists, room):
     assert (1, "", "sshstation: File\n") == lists.ask("none")
     assert (1, "", "sshstation: File\n") == lists.ask(".")
     os.rename("lists.db", "away.db")
+    there = set(os.listdir(room))
     assert (1, "", "sshstation: File\n") == lists.ask("none")
     assert (1, "", "sshstation: NotAGuard\n") == lists.ask()
-    assert not (room / "lists.db").exists()
+    assert there == set(os.listdir(room)), "a file that isn't there isn't made"
     (room / "lists.db").touch()
     assert (1, "", "sshstation: NotAGuard\n") == lists.ask()
 

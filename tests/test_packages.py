@@ -1774,14 +1774,17 @@ def test_a_host_renews_its_certificate_by_its_timer(fleet):
     server = fleet.boxes["server"]
     serial = "ssh-keygen -L -f /var/lib/office-host/host-cert.pub | sed -n 's/^ *Serial: //p'"
     server.run("sed -i 's/^LIFE=.*/LIFE=2m/' /etc/vethlumi/host.env")
-    server.run("rm /var/lib/office-host/host-cert.pub && systemctl start vethlumi-host")
+    server.run("rm /var/lib/office-host/host-cert.pub && systemctl restart vethlumi-host")
     first = server.says(serial)
     boxes.wait_until(lambda: int(server.says(serial)) > int(first), "the timer has renewed it", 180)
     assert first == server.says(serial.replace("host-cert.pub", "host-cert.pub.old"))
-    # sshd shows the new one: its end is later than that of the certificate before.
-    offered = fleet.boxes["client"].run("ssh -v -o BatchMode=yes nobody@server.example.org true", False).stdout
-    assert f"serial {server.says(serial)} " in offered, offered
+    # sshd shows the new one: its end is later than that of the certificate before. While sshd reads its files again,
+    # nobody listens for a moment.
+    ssh = "ssh -v -o BatchMode=yes nobody@server.example.org true"
+    boxes.wait_until(lambda: f"serial {server.says(serial)} " in fleet.boxes["client"].run(ssh, False).stdout,
+                     "sshd shows the new one", 60)
     # One that sshd can't read gives way to the old one.
+    server.run("systemctl stop vethlumi-host.timer")
     server.run("cp /var/lib/office-host/host-cert.pub kept; echo damaged >/var/lib/office-host/host-cert.pub")
     told = server.run("vethlumi-host --reload", False)
     assert 1 == told.returncode and "the old one is back" in told.stdout
@@ -1937,6 +1940,8 @@ def test_an_upgrade_keeps_all_and_a_purge_keeps_databases_and_keys(base, package
         assert ["1.0.0"] * 4 == solo.says(f"dpkg-query -W -f '${{Version}}\\n' {' '.join(NAMES)}").split()
         boxes.wait_until(lambda: 0 == solo.run("vethlumi status", False).returncode, "the office answers again")
         solo.run(request.format("after"), timeout=120)
+        # A timer may have started one of them while the office was restarted.
+        solo.run("systemctl restart office-list office-ca-keys vethlumi-host vethlumi-figures")
         assert "" == solo.says("systemctl --failed --no-legend --plain")
         purge(solo)
 
@@ -1944,6 +1949,9 @@ def test_an_upgrade_keeps_all_and_a_purge_keeps_databases_and_keys(base, package
 def purge(solo):
     keys = {name: text for name, text in files_of(solo.files / "etc/vethlumi").items() if b"PRIVATE KEY" in text}
     assert {"front/server.key", "station/first.key", "station/station.pem", "host.pem", "figures.pem"} == {*keys}
+    # A timer may start a unit while the office goes, and a unit that failed would stay listed.
+    solo.run("systemctl stop office-front && systemctl restart office-ca-keys", False)
+    assert "failed" == solo.says("systemctl is-failed office-ca-keys || true")
     solo.run(f"apt-get purge -y -qq {' '.join(NAMES)} >/dev/null", timeout=400)
     left = files_of(solo.files / "etc/vethlumi")
     assert keys == {name: text for name, text in left.items() if b"PRIVATE KEY" in text}

@@ -68,6 +68,9 @@ ELSEWHERE = {
         Elsewhere("it asks two fronts", "tests/test_growing.py", "tail -c"),
     "office-restore /var/backups/office/office.db":
         Elsewhere("it wants the units in service", "tests/test_boxes.py", "office-restore"),
+    "office-volume copy /root/today":
+        Elsewhere("it wants three machines", "tests/test_three_machines.py", "office-volume copy today"),
+    "systemctl stop office": Elsewhere("it wants three machines", "tests/test_three_machines.py", "office-restore today"),
     "cat /etc/vethlumi/alert": Elsewhere("it wants the units in service", "tests/test_boxes.py", "etc/vethlumi/alert"),
 }
 # Pages of which another test runs the blocks of a shell. What README shows of them is that test's as well.

@@ -8,15 +8,18 @@ import pathlib
 import random
 import re
 import signal
+import socket
+import threading
 import time
 
 import pytest
 
 from asking import department
-from fetching import Web, response, script, small_disk
+from fetching import Web, response, script, silent, small_disk
+from fronts import has_ipv6
 from publishing import HIGHEST, OTHER_CA, Signer, bitmaps, is_signed, key_line, krl, parted, statement
 from recording import getting, statuses, whole_request
-from running import EXAMPLES, free_port, is_listening, run, until, write_secret
+from running import EXAMPLES, free_port, is_listening, left_out, preloaded, run, until, write_secret
 from stations import Lists, Station, new_guard, stopped
 
 pytestmark = [pytest.mark.front, pytest.mark.xdist_group("published")]
@@ -25,8 +28,8 @@ pytestmark = [pytest.mark.front, pytest.mark.xdist_group("published")]
 class FalseOffice(Web):
     """An office of which nothing is known but its list. Nothing is pending."""
 
-    def __init__(self, data):
-        super().__init__()
+    def __init__(self, data, **how):
+        super().__init__(**how)
         self.list = data
 
     def finish_request(self, peer, address):
@@ -35,6 +38,27 @@ class FalseOffice(Web):
         peer.settimeout(60)
         if came:
             peer.sendall(response({b"/v1/krl": self.list, b"/v1/pending": b""}.get(came.split(b" ")[1], b"")))
+
+
+class FalseFront(FalseOffice):
+    """A front of which nothing is known but its list, and what it answers if another is put. `taken` has what was put.
+    It waits for `holds`, if that is an event, before it says so, and for `hangs` before it reads anything."""
+    holds = hangs = None
+
+    def __init__(self, data, status="204 No Content", **how):
+        super().__init__(data, **how)
+        self.status, self.taken = status, []
+
+    def finish_request(self, peer, address):
+        if self.hangs:
+            self.hangs.wait()
+            return None
+        if peer.recv(4, socket.MSG_PEEK) != b"PUT ":
+            return super().finish_request(peer, address)
+        self.taken.append(whole_request(peer).partition(b"\r\n\r\n")[2])
+        if self.holds:
+            self.holds.wait()
+        peer.sendall(response(b"", self.status))
 
 
 class Site:
@@ -66,10 +90,19 @@ class Site:
         (self.room / "first").write_bytes(data)
         assert self.lists.state("first", "--begin").startswith("list ")
 
-    def station(self):
+    def station(self, *addresses):
+        """A station for which the front's name has these addresses, if any are given."""
         made = Station(self.guard, self.front.url, self.key, certificate=self.front.certificate("station"),
                        trusted=self.front.authority / "ca.crt", lists=self.lists)
         made.environment |= self.environment
+        if addresses:
+            made.resolve(*addresses)
+        return made
+
+    def station_of(self, front, *addresses):
+        """A station for false fronts, without TLS, at the port of one of them."""
+        made = Station(self.guard, f"http://localhost:{front.port}", self.key, lists=self.lists)
+        made.resolve(*addresses)
         return made
 
     def fetch(self, *options):
@@ -210,6 +243,177 @@ def test_it_is_published_again_and_again(site, programs):
     assert (0, ["published 3", "published 4"], []) == stopped(process)
 
 
+# ---- several fronts of one name
+
+ONE, TWO, THREE = "127.0.0.1", "127.0.0.2", "127.0.0.3"
+DOWN = "station: the list isn't published at {}: [Errno 111] Connection refused"
+
+
+@pytest.fixture
+def another(site, make_front):
+    """Makes a front at another address of the first one's name."""
+    def make(address=TWO):
+        made = make_front(site.office.port, edits=FRESH, address=address, beside=site.front)
+        made.file = made.state / "published"
+        return made
+
+    return make
+
+
+def test_each_front_of_a_name_gets_the_list(site, another):
+    """Also one that has none yet. The certificate of both is for the name, and not for the second address."""
+    second = another()
+    site.gives(site.krl(4, [1, 2, 5, 9]))
+    station = site.station(ONE, TWO)
+    assert (0, ["published 4"], []) == station.once()
+    text, signature, data = parted(second.file.read_bytes())
+    assert site.office.list == data and is_signed(text, signature, site.allowed)
+    assert site.file.read_bytes() == second.file.read_bytes()
+    # The same list again, with another statement.
+    until(lambda: int(time.time()) > int(text.split()[-1]))
+    assert (0, ["published 4"], []) == station.once()
+    assert text != parted(second.file.read_bytes())[0]
+    assert site.file.read_bytes() == second.file.read_bytes()
+
+
+def test_a_front_that_is_down_is_named_and_gets_the_list_later(site, another, programs):
+    second = another()
+    second.end()
+    station = site.station(ONE, TWO)
+    assert (1, ["published 3"], [DOWN.format(TWO)]) == station.once()
+    process = station.begin(programs, "--publish-every", "1")
+    assert b"published 3\n" == process.stdout.readline()
+    assert f"{DOWN.format(TWO)}\n" == process.stderr.readline().decode()
+    site.office.list = site.krl(4, [1, 2, 5, 9])
+    assert b"published 4\n" == process.stdout.readline()
+    assert site.office.list == parted(site.file.read_bytes())[2]
+    second.begin()
+    until(second.file.exists, seconds=60)
+    assert site.office.list == parted(second.file.read_bytes())[2]
+    # It was said once.
+    assert (0, [], []) == stopped(process)
+
+
+def test_the_first_front_is_down(site, another):
+    """What the station asks goes to the second."""
+    second = another()
+    site.front.end()
+    assert (1, ["published 3"], [DOWN.format(ONE)]) == site.station(ONE, TWO).once()
+    assert site.old == parted(second.file.read_bytes())[2]
+
+
+def test_no_front_takes_the_list(site):
+    with FalseFront(site.old, "507 Insufficient Storage") as first, \
+            FalseFront(site.old, "507 Insufficient Storage", port=first.port, address=TWO):
+        said = [f"station: the list isn't published at {it}: 507" for it in (ONE, TWO)]
+        assert (1, [], said) == site.station_of(first, ONE, TWO).once()
+
+
+@pytest.mark.parametrize("status", ["409 Conflict", "412 Precondition Failed", "200 OK", "302 Found"])
+def test_a_front_that_refuses_the_list_keeps_it_from_no_other(site, status):
+    """One that has a newer list, for example. No front of this repository does that."""
+    with FalseFront(site.old, status) as first, FalseFront(site.old, port=first.port, address=TWO) as second:
+        said = [f"station: the list isn't published at {ONE}: {status[:3]}"]
+        assert (1, ["published 3"], said) == site.station_of(first, ONE, TWO).once()
+        assert 1 == len(first.taken) and first.taken == second.taken
+        assert site.old == parted(second.taken[0])[2]
+
+
+def test_a_front_that_takes_one_list_at_a_time_is_asked_again(site):
+    """As the front of this repository does, which may not be done yet with what it got at its other address."""
+    with FalseFront(site.old, "429 Too Many Requests") as front:
+        said = ["station: the list isn't published: 429"]
+        assert (1, [], said) == site.station_of(front, ONE).once()
+        assert [site.old] * 2 == [parted(it)[2] for it in front.taken], front.taken
+
+
+def begin_with(site, programs, front, request, publishing):
+    """A station that publishes each second to the fronts at ONE and TWO, with so many seconds for a request and for
+    publishing in place of 20 and 60. It has published once."""
+    station = site.station_of(front, ONE, TWO)
+    station.change("= 20, 60, 30, 120, 60", f"= {request}, {publishing}, 30, 120, 60")
+    process = station.begin(programs, "--publish-every", "1")
+    assert b"published 3\n" == process.stdout.readline()
+    return process
+
+
+def test_a_slow_front_keeps_the_list_from_no_other(site, programs):
+    """Each gets its part of the time."""
+    with FalseFront(site.old) as first, FalseFront(site.old, port=first.port, address=TWO) as second:
+        first.holds = threading.Event()
+        process = begin_with(site, programs, first, 20, 8)
+        said = f"station: the list isn't published at {ONE}: not within 4 seconds\n"
+        assert said == process.stderr.readline().decode()
+        first.list = second.list = site.krl(4, [1, 2, 5, 9])
+        assert b"published 4\n" == process.stdout.readline()
+        assert second.list == parted(second.taken[-1])[2]
+        first.holds.set()
+        first.holds = None
+        count = len(first.taken)
+        until(lambda: len(first.taken) > count, seconds=60)
+        assert (0, [], []) == stopped(process)
+
+
+def test_a_front_that_hangs_keeps_the_list_from_no_other(site, programs):
+    """Its machine takes connections, and answers nothing: after the first request the other front is asked."""
+    with FalseFront(site.old) as first, FalseFront(site.old, port=first.port, address=TWO) as second:
+        first.hangs = threading.Event()
+        process = begin_with(site, programs, first, 2, 4)
+        assert second.list == parted(second.taken[0])[2]
+        first.hangs.set()
+        first.hangs = None
+        until(lambda: first.taken, seconds=60)
+        assert 0 == stopped(process)[0]
+
+
+def test_a_front_that_takes_no_connection_is_given_up_soon(site):
+    """As if its machine were off."""
+    with FalseFront(site.old) as second, silent((TWO, second.port)):
+        said = [f"station: the list isn't published at {TWO}: timed out"]
+        assert (1, ["published 3"], said) == site.station_of(second, ONE, TWO).once()
+
+
+def test_a_name_whose_addresses_change(site, another, programs):
+    station = site.station(ONE, TWO)
+    process = station.begin(programs, "--publish-every", "1")
+    assert b"published 3\n" == process.stdout.readline()
+    assert f"{DOWN.format(TWO)}\n" == process.stderr.readline().decode()
+    third = another(THREE)
+    station.resolve(ONE, THREE)
+    until(third.file.exists, seconds=60)
+    assert site.old == parted(third.file.read_bytes())[2]
+    assert (0, [], []) == stopped(process)
+
+
+def test_of_many_addresses_the_first_get_the_list(site):
+    many = [f"127.0.0.{it}" for it in range(1, 101)]
+    with FalseFront(site.old) as front:
+        down = ["127.0.0.10", "127.0.0.100", *(f"127.0.0.{it}" for it in range(11, 16))]
+        more = "station: the list isn't published at 92 of the 100 addresses of localhost: it goes to 8"
+        assert (1, ["published 3"], [*map(DOWN.format, down), more]) == site.station_of(front, *many).once()
+        assert 1 == len(front.taken)
+
+
+def test_a_front_with_addresses_of_both_kinds_gets_the_list_by_each(site):
+    if not has_ipv6():
+        left_out("this machine has no IPv6")
+    log = site.front.state / "asked.log"
+
+    def by(address):
+        return log.read_text().count(f' {address} "CN=station,OU=office" "station" "PUT /published HTTP/1.1" 20')
+
+    until(lambda: by(ONE) == 1)
+    assert (0, ["published 3"], []) == site.station("::1", ONE).once()
+    until(lambda: (by("::1"), by(ONE)) == (1, 2))
+
+
+def test_an_address_of_a_kind_that_this_machine_does_not_have_is_left_out(site, room):
+    """A machine without IPv6 reaches a front that has both by the other."""
+    hindered = {"LD_PRELOAD": str(preloaded("strange_library.c", room)), "NO_IPV6": "1"}
+    station = site.station("2001:db8::1", ONE)
+    assert (0, ["published 3"], []) == station.once(**hindered)
+
+
 # ---- what a false office gives the station
 
 # Lists that the guard would approve after the one of version 3, although no server takes them: the station's refusal,
@@ -244,8 +448,7 @@ def test_no_list_of_a_false_office_is_published(site, programs):
     """A station that goes on says why it doesn't publish it. What is published stays, and so does the server's list."""
     station = site.station()
     process = station.begin(programs, "--publish-every", "1")
-    os.set_blocking(process.stdout.fileno(), False)
-    until(lambda: process.stdout.readline() == b"published 3\n", seconds=60)
+    assert b"published 3\n" == process.stdout.readline()
     for what, made, name in FALSE_LISTS:
         site.office.list = made(site)
         line = process.stderr.readline().decode()
@@ -305,6 +508,13 @@ def test_a_list_that_takes_too_long_to_read_is_not_published(site):
     slow.chmod(0o755)
     said = ["station: the list isn't published: ssh-keygen reads it for more than 60 seconds"]
     assert (1, [], said) == station.once()
+
+
+def test_a_limit_of_memory_that_cannot_be_set_is_said(site, room):
+    """No list is read without one, and the station goes on."""
+    hindered = {"LD_PRELOAD": str(preloaded("strange_library.c", room)), "NO_LIMITS": "1"}
+    said = ["station: the list isn't published: prlimit: failed to set the AS resource limit: Operation not permitted"]
+    assert (1, [], said) == site.station().once(**hindered)
 
 
 def test_a_guard_that_was_not_begun_publishes_nothing(make_site):
@@ -428,8 +638,8 @@ def putting(body, *lines, target="/published", method="PUT"):
 
 
 def folder_of(front):
-    """The files below the front's state but its log, with their bytes, and but the pages that it keeps, which it removes
-    some time after they were last asked for."""
+    """The files below the front's state, with their bytes, but not its log, and not the pages that it keeps, which it
+    removes some time after they were last asked for."""
     return {str(it.relative_to(front.state)): it.read_bytes() for it in front.state.rglob("*")
             if it.is_file() and it.suffix not in (".log", ".pid", ".faults") and it.parent.name != "cache"}
 

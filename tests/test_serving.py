@@ -8,6 +8,7 @@ import contextlib
 import json
 import os
 import pathlib
+import select
 import shutil
 import signal
 import socket
@@ -209,6 +210,19 @@ def test_hundreds_are_served_in_turn(system, room):
 def test_forty_nonce_bytes_serve_one_of_two(system, room):
     (room / "forty.nonces").write_bytes(b"\x33" * 40)
     assert ([NO_LIST, b""], ends(b"2 Nonces")) == system.met(LIST, LIST, nonces="forty.nonces")
+
+
+def test_a_fault_is_printed_before_the_next_connection_comes(system, room):
+    """The server goes on serving, and its errors are a pipe."""
+    (room / "forty.nonces").write_bytes(b"\x33" * 40)
+    with system.serving(3, nonces="forty.nonces") as server:
+        peers = [server.client(LIST), server.client(LIST)]
+        server.go_on()
+        assert [NO_LIST, b""] == [given(peer) for peer in peers]
+        told, _, _ = select.select([server.process.stderr], [], [], 30)
+        assert [b"sshoffice: connection 2 Nonces\n"] == [file.readline() for file in told]
+        assert server.process.poll() is None
+        assert (b"", ends(b"3 Nonces")) == (given(server.client(LIST)), server.ended())
 
 
 def test_a_peer_that_has_hung_up_is_no_fault(system):

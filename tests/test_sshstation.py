@@ -227,6 +227,54 @@ def test_a_second_init_changes_nothing(guard, room):
     assert before == (room / "guard.db").read_bytes()
 
 
+@pytest.mark.parametrize("mode", [0o400, 0o600, 0o640, 0o666])
+def test_a_file_that_is_there_keeps_its_mode(guard, room, mode):
+    assert (0, "lists ready\n", "") == guard.run("lists", "--init", "--db", "lists.db")
+    for name in ("guard.db", "lists.db"):
+        (room / name).chmod(mode)
+        assert 1 == guard.run("init", "--db", name, "--ca", "ca.pub", "--first", 1, "--last", 100)[0]
+        assert mode == stat.S_IMODE((room / name).stat().st_mode), name
+        assert 1 == guard.run("lists", "--init", "--db", name)[0]
+        assert mode == stat.S_IMODE((room / name).stat().st_mode), name
+
+
+@pytest.mark.parametrize("tables, fault", [
+    ("CREATE TABLE note (id INTEGER PRIMARY KEY, text TEXT); INSERT INTO note VALUES (1, 'a')", "NotAGuard"),
+    ("CREATE TABLE guards (id INTEGER); CREATE TABLE approve (id INTEGER)", "NotAGuard"),
+    ("CREATE VIEW one AS SELECT 1", "NotAGuard"), ("CREATE TABLE Approved (id INTEGER)", "AlreadyAGuard"),
+    ("CREATE TABLE note (id INTEGER); CREATE TABLE guard (id INTEGER)", "AlreadyAGuard"),
+], ids=["foreign", "like-names", "view", "approved", "guard-and-foreign"])
+def test_no_guard_is_made_beside_other_tables(sshstation, room, tables, fault):
+    (room / "ca.pub").write_text(CA)
+    with contextlib.closing(sqlite3.connect("guard.db")) as made, made:
+        made.executescript(tables)
+    before = (room / "guard.db").read_bytes()
+    words = ["init", "--db", "guard.db", "--ca", "ca.pub", "--first", 1, "--last", 100]
+    assert (1, "", f"sshstation: {fault}\n") == Guard(sshstation).run(*words)
+    assert before == (room / "guard.db").read_bytes()
+
+
+def test_each_guard_has_a_file_of_its_own(guard, room):
+    assert (0, "lists ready\n", "") == guard.run("lists", "--init", "--db", "lists.db")
+    guards, lists = (room / "guard.db").read_bytes(), (room / "lists.db").read_bytes()
+    again = guard.run("init", "--db", "lists.db", "--ca", "ca.pub", "--first", 1, "--last", 100)
+    assert (1, "", "sshstation: NotAGuard\n") == again
+    assert (1, "", "sshstation: NotAGuard\n") == guard.run("lists", "--init", "--db", "guard.db")
+    assert (guards, lists) == ((room / "guard.db").read_bytes(), (room / "lists.db").read_bytes())
+
+
+@pytest.mark.parametrize("content", ["nothing", "no tables", "a table that was dropped"])
+def test_a_guard_is_made_in_a_file_without_tables(sshstation, room, content):
+    (room / "ca.pub").write_text(CA)
+    (room / "guard.db").touch()
+    if content != "nothing":
+        with contextlib.closing(sqlite3.connect("guard.db")) as made, made:
+            made.executescript("CREATE TABLE note (id INTEGER); DROP TABLE note" if "dropped" in content else "VACUUM")
+    words = ["init", "--db", "guard.db", "--ca", "ca.pub", "--first", 1, "--last", 100]
+    assert 0 == Guard(sshstation).run(*words)[0]
+    assert (0, "", "") == Guard(sshstation).run("bodies", "--db", "guard.db")
+
+
 @pytest.mark.parametrize("first, last", [(0, 1), (2, 1), (1, LAST_SERIAL + 1), (0, 0), (MOST, MOST), (1, MOST)])
 def test_init_wants_serials_in_order(sshstation, room, first, last):
     (room / "ca.pub").write_text(CA)
@@ -405,6 +453,22 @@ def test_a_dash_beside_other_files_is_a_file(guard, room):
     assert (0, sign(1, data) * 2, "") == guard.judge("--", "-", "-", stdin=None, input=b"none\n")
 
 
+@pytest.mark.parametrize("words", [
+    ["judge", "--db", "guard.db", "--policy", "policy", "a"],
+    ["judge", "--db", "guard.db", "--policy", "policy", "a", "-"], ["bodies", "--db", "guard.db"],
+    ["judge", "--db", "guard.db", "--policy", "policy", "none"], ["body", "--db", "guard.db", 1], ["policy", "policy"],
+    ["retire", "--db", "guard.db", "--last", 50], ["lists", "--init", "--db", "lists.db"],
+    ["init", "--db", "new.db", "--ca", "ca.pub", "--first", 1, "--last", 100], ["judge"], ["--help"],
+])
+def test_the_input_is_left_unread_unless_it_is_asked_for(guard, room, words):
+    put(room, **{"a": body(1), "-": body(2), "paths": b"b\nc\n"})
+    with open("paths", "rb") as paths:
+        guard.run(*words, stdin=paths)
+        assert 0 == os.lseek(paths.fileno(), 0, os.SEEK_CUR)
+        assert guard.judge("-", stdin=paths)[2] == "sshstation: File\n"
+        assert os.lseek(paths.fileno(), 0, os.SEEK_CUR) > 0
+
+
 def test_a_body_is_kept_before_its_line_is_printed(guard, room):
     put(room, a=body(1))
     words = [guard.program, "judge", "--db", "guard.db", "--policy", "policy", "a"]
@@ -449,11 +513,17 @@ def test_what_reads_a_guard_makes_no_file(sshstation, room, words):
     ("UPDATE guard SET first = 0", "Damaged"), ("DELETE FROM guard", "NotAGuard"), ("DROP TABLE guard", "NotAGuard"),
     ("INSERT INTO approved VALUES (3, -1, x'00')", "Damaged"),
 ], ids=["schema", "ca", "first", "no-row", "no-table", "moment"])
-def test_tables_that_somebody_changed_are_named(guard, change, fault):
-    connection = sqlite3.connect("guard.db")
-    with contextlib.closing(connection), connection:
-        connection.execute(change)
-    assert (1, "", f"sshstation: {fault}\n") == guard.run("body", "--db", "guard.db", 3)
+def test_tables_that_somebody_changed_are_named_and_left(guard, room, change, fault):
+    put(room, a=body(3))
+    with contextlib.closing(sqlite3.connect("guard.db")) as tables, tables:
+        tables.execute(change)
+        before = [*tables.iterdump()]
+    for words in (["body", "--db", "guard.db", 3], ["bodies", "--db", "guard.db"],
+                  ["judge", "--db", "guard.db", "--policy", "policy", "a"],
+                  ["retire", "--db", "guard.db", "--last", 2]):
+        assert (1, "", f"sshstation: {fault}\n") == guard.run(*words), words
+        with contextlib.closing(sqlite3.connect("guard.db")) as tables:
+            assert before == [*tables.iterdump()], words
 
 
 def test_an_office_is_no_guard(guard, program, room):

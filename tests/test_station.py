@@ -8,21 +8,23 @@ import os
 import pathlib
 import random
 import re
+import select
 import shutil
 import signal
 import socket
 import stat
 import subprocess
+import threading
 import time
 
 import pytest
 
 from asking import (LAST_SERIAL, LATEST, blob_of, body, department, digest_of, issue, key_blob, lasting, revoke_keyid,
                     revoke_range, rollover, string)
-from fetching import Web, response
+from fetching import Web, response, silent
 from recording import whole_request
-from running import EXAMPLES, free_port, is_listening, loaded, run, until, write_secret
-from stations import Guard, Station, new_guard, new_station, stopped
+from running import EXAMPLES, free_port, is_listening, loaded, preloaded, run, until, write_secret
+from stations import Guard, Lists, Station, new_guard, new_station, stopped
 
 WEB = department("web", principals="alice", extensions="permit-pty")
 
@@ -116,11 +118,12 @@ class FalseOffice(Web):
     def finish_request(self, peer, address):
         came = whole_request(peer)
         self.requests.append(came)
+        peer.settimeout(60)
         target = came.split(b" ")[1].decode()
         found = re.fullmatch(r"/v1/certs/(\d+)/body", target)
         if came.startswith(b"POST "):
             self.delivered.append(came.partition(b"\r\n\r\n")[2].decode())
-            peer.sendall(response(self.delivered[-1].splitlines()[0].replace("deliver", "signed").encode() + b"\n"))
+            peer.sendall(self.answer_to(self.delivered[-1]))
         elif target == "/v1/pending":
             peer.sendall(response(self.rows.encode()))
         elif found and int(found[1]) in self.broken:
@@ -129,6 +132,61 @@ class FalseOffice(Web):
             peer.sendall(response(self.bodies[int(found[1])]))
         else:
             peer.sendall(response(b"refused 17 UnknownSerial\n", "404 Not Found"))
+
+    def answer_to(self, delivery):
+        return response(delivery.splitlines()[0].replace("deliver", "signed").encode() + b"\n")
+
+    def begins_rounds(self, more, seconds=90):
+        """Waits until the station has begun so many more rounds. Those before the last one are over."""
+        def count():
+            return sum(it.startswith(b"GET /v1/pending ") for it in self.requests)
+        until(lambda before=count(): count() >= before + more, seconds)
+
+    def shows(self, serials):
+        """These are pending from now on."""
+        self.rows = "".join(f"{serial} {digest_of(self.bodies[serial])}\n" for serial in serials)
+
+
+class RefusingOffice(FalseOffice):
+    """One that takes no signature, and has them all the same."""
+
+    def answer_to(self, delivery):
+        return response(b"refused 19 Revoked\n", "409 Conflict")
+
+
+class WaitingOffice(FalseOffice):
+    """One that answers requests with this beginning only when it may."""
+
+    def __init__(self, beginning, bodies):
+        super().__init__(bodies)
+        self.beginning, self.was_asked, self.may_answer = beginning, threading.Event(), threading.Event()
+
+    def finish_request(self, peer, address):
+        if self.beginning == peer.recv(len(self.beginning), socket.MSG_PEEK):
+            self.was_asked.set()
+            self.may_answer.wait(60)
+        super().finish_request(peer, address)
+
+
+class Through:
+    """A connection over which a function sends what is answered."""
+
+    def __init__(self, peer, send):
+        self.recv, self.settimeout, self.sendall = peer.recv, peer.settimeout, lambda text: send(peer, text)
+
+
+def drip(peer, text):
+    """Sends a text for 18 seconds, so that no single wait is long."""
+    size = -(-len(text) // 18)
+    with contextlib.suppress(OSError):
+        for place in range(0, len(text), size):
+            time.sleep(1)
+            peer.sendall(text[place:place + size])
+
+
+def next_line(stream, seconds=60):
+    """The next line of a pipe, or nothing if none comes within this time."""
+    return stream.readline() if select.select([stream], [], [], seconds)[0] else b""
 
 
 @pytest.fixture
@@ -277,6 +335,33 @@ def test_what_is_no_list_of_pending_certificates_is_not_followed(alone, rows):
         assert 1 == len(web.requests)
 
 
+def test_short_lines_take_no_more_memory_than_long_ones(alone):
+    """There are 22 million of them, which as texts of Python would take 1.3 GiB."""
+    with Web(response(b"ab\n" * ((1 << 26) // 3))) as web:
+        station = Station(alone, web.url, alone.key)
+        station.words = ["prlimit", f"--as={1 << 30}", "--", *station.words]
+        said = f"station: {web.url} doesn't answer: what came isn't a list of pending certificates"
+        assert (1, [], [said]) == station.once()
+
+
+@pytest.mark.slow
+def test_the_memory_of_the_unit_suffices_for_as_many_rows_as_are_read(alone, programs):
+    """Each has a reason of its own, of which a false office makes up as many as it likes: that takes the most. Beside
+    the station there is room for a guard with a million certificates, of which docs/GROWING.md has the size, and for
+    ssh-keygen."""
+    with FalseOffice({}) as web:
+        web.rows = "".join(f"{place % 9 + 1} {place:064x}\n" for place in range(1_001_625))
+        station = Station(alone, web.url, alone.key)
+        station.change("body = self.bodies.get(row)\n",
+                       'raise OSError(3 * " ".join(re.findall(8 * ".", digest)))\n')
+        process = station.begin(programs, stderr=subprocess.DEVNULL)
+        web.begins_rounds(3, seconds=500)
+        [peak] = re.findall(r"^VmHWM:\s+(\d+) kB$", pathlib.Path(f"/proc/{process.pid}/status").read_text(), re.M)
+    unit = (EXAMPLES / "systemd/office-station@.service").read_text()
+    [limit] = re.findall(r"^MemoryMax=(\d+)G$", unit, re.M)
+    assert (int(peak) << 10) + 372_000_000 + loaded(EXAMPLES / "station").MOST_MEMORY < int(limit) << 30
+
+
 # An answer with a chunk of fewer than no bytes, at which Python's http.client raises a ValueError.
 NEGATIVE_CHUNK = b"HTTP/1.1 200 OK\r\ntransfer-encoding: chunked\r\n\r\n-5\r\nabc"
 
@@ -328,12 +413,10 @@ def test_an_endless_redirect_is_cut_off(alone):
 def test_no_cookie_is_kept(alone):
     class Baking(FalseOffice):
         def finish_request(self, peer, address):
-            super().finish_request(Baked(peer), address)
+            super().finish_request(Through(peer, bake), address)
 
-    class Baked:
-        def __init__(self, peer):
-            self.recv, self.settimeout = peer.recv, peer.settimeout
-            self.sendall = lambda text: peer.sendall(text.replace(b"\r\n", b"\r\nset-cookie: a=b\r\n", 1))
+    def bake(peer, text):
+        peer.sendall(text.replace(b"\r\n", b"\r\nset-cookie: a=b\r\n", 1))
 
     with Baking({1: body(ca=alone.blob)}) as web:
         assert (0, ["signed 1"], []) == Station(alone, web.url, alone.key, ahead=3600).once()
@@ -387,6 +470,45 @@ def test_a_long_round_says_what_was_refused(alone, programs):
         assert time.monotonic() - begun < 60
 
 
+@pytest.mark.slow
+def test_a_long_signature_says_what_was_refused(alone, programs):
+    """The body after one that is refused takes nearly as long as a request may take, and so does its delivery."""
+    class Slow(FalseOffice):
+        def finish_request(self, peer, address):
+            begun = peer.recv(len(b"GET /v1/certs/2/body"), socket.MSG_PEEK)
+            is_slow = begun == b"GET /v1/certs/2/body" or begun.startswith(b"POST")
+            super().finish_request(Through(peer, drip) if is_slow else peer, address)
+
+    with Slow({1: body(ca=alone.blob, **ROOT), 2: body(2, ca=alone.blob)}) as web:
+        process = Station(alone, web.url, alone.key).begin(programs)
+        web.begins_rounds(1)
+        assert b"station: not signed: 1, refused as NotPermitted: 1\n" == next_line(process.stderr, 30)
+
+
+@pytest.mark.slow
+def test_what_was_refused_is_said_before_a_list_is_published(alone, programs, sshstation):
+    """A front may make that last for minutes. The first list comes at once, and the second body while the next list is
+    not due yet."""
+    class Slow(FalseOffice):
+        was_asked = False
+
+        def finish_request(self, peer, address):
+            begun = peer.recv(len(b"GET /v1/certs/2/body"), socket.MSG_PEEK)
+            if begun == b"GET /v1/certs/2/body":
+                time.sleep(2)
+            if begun.startswith(b"GET /v1/krl ") and self.was_asked:
+                time.sleep(60)
+            self.was_asked = self.was_asked or begun.startswith(b"GET /v1/krl ")
+            super().finish_request(peer, address)
+
+    with Slow({serial: body(serial, ca=alone.blob, **ROOT) for serial in (1, 2, 3)}) as web:
+        station = Station(alone, web.url, alone.key, lists=Lists(sshstation, "lists.db", alone.ca))
+        process = station.begin(programs, "--publish-every", "1")
+        said = b"station: the list isn't published: 404 refused 17 UnknownSerial\n"
+        assert said == next_line(process.stderr)
+        assert re.match(rb"station: not signed: [12], refused as NotPermitted: 1", next_line(process.stderr, 30))
+
+
 class Dripping(Web):
     """A server that gives so many bytes of its answer at once, and then one a second, so that no single wait is
     long."""
@@ -414,38 +536,47 @@ def test_an_answer_that_drips_is_given_up(alone, at_once):
         assert 19 < time.monotonic() - begun < 60
 
 
-# A name with two addresses, for a program of Python.
-TWO_ADDRESSES = """\
-import socket
-socket.getaddrinfo = lambda host, port, *_: [
-    (socket.AF_INET, socket.SOCK_STREAM, 0, "", (it, port)) for it in ("127.0.0.2", "127.0.0.1")]
-"""
-
-
-@contextlib.contextmanager
-def silent(address):
-    """A listener that takes no more connections, and doesn't say so."""
-    with contextlib.ExitStack() as kept, socket.socket() as listener:
-        listener.bind(address)
-        listener.listen(0)
-        for peer in [kept.enter_context(socket.socket()) for _ in range(4)]:
-            peer.setblocking(False)
-            with contextlib.suppress(BlockingIOError):
-                peer.connect(address)
-        yield
-
-
 @pytest.mark.slow
-def test_the_time_of_a_request_is_that_of_all_addresses(alone, room):
-    """The first address doesn't answer, so the time is over before the second one begins to drip. The library goes on
-    to the next address after each OSError."""
-    with Dripping() as web, silent(("127.0.0.2", web.port)):
+def test_the_time_of_a_request_is_that_of_all_addresses(alone):
+    """Each of the first five would take five seconds, so the time is over before the last one begins to drip. The
+    library goes on to the next address after each OSError."""
+    with Dripping() as web, contextlib.ExitStack() as kept:
+        off = [f"127.0.0.{it}" for it in range(2, 7)]
+        for it in off:
+            kept.enter_context(silent((it, web.port)))
         begun = time.monotonic()
-        station = Station(alone, f"http://front.test:{web.port}", alone.key)
-        changed_station(room, station, "\nimport requests\n", f"\nimport requests\n{TWO_ADDRESSES}")
+        station = Station(alone, f"http://localhost:{web.port}", alone.key)
+        station.resolve(*off, "127.0.0.1")
         said = f"station: {station.url} doesn't answer: not within 20 seconds"
         assert (1, [], [said]) == station.once()
         assert 19 < time.monotonic() - begun < 60 and [] == web.requests
+
+
+@pytest.mark.slow
+def test_a_machine_that_is_off_leaves_time_for_the_next_address(alone):
+    with FalseOffice({1: body(ca=alone.blob)}) as web, silent(("127.0.0.2", web.port)):
+        station = Station(alone, f"http://localhost:{web.port}", alone.key)
+        station.resolve("127.0.0.2", "127.0.0.1")
+        assert (0, ["signed 1"], []) == station.once()
+
+
+@pytest.mark.slow
+def test_a_silent_name_server_is_given_up(alone, programs, room):
+    """The C library waits for one that takes a connection and sends nothing, also after a signal. The station says that
+    no answer comes, and it ends when it is told to."""
+    silent_name = {"LD_PRELOAD": str(preloaded("strange_library.c", room)), "SILENT_NAME": "front.test"}
+    station = Station(alone, "https://front.test", alone.key)
+    process = station.begin(programs, env=station.environment | silent_name)
+    assert b"station: https://front.test doesn't answer: not within 20 seconds\n" == next_line(process.stderr)
+    # The next round waits for the name too.
+    time.sleep(3)
+    process.send_signal(signal.SIGTERM)
+    assert 0 == process.wait(20)
+
+
+def test_a_name_is_looked_up(alone):
+    with FalseOffice({1: body(ca=alone.blob)}) as web:
+        assert (0, ["signed 1"], []) == Station(alone, f"http://localhost:{web.port}", alone.key).once()
 
 
 def test_what_is_another_text_each_time_is_left_out():
@@ -481,33 +612,23 @@ def test_a_body_that_cannot_be_had_starves_no_other(alone, broken, why):
     assert re.fullmatch(f"station: not signed: 1, {why}: 2", errors[0])
 
 
-def changed_station(room, station, old, new):
-    """Has a station run a copy of the script, with this change."""
-    text = (EXAMPLES / "station").read_text()
-    assert 1 == text.count(old)
-    copy = room / "changed-station"
-    copy.write_text(text.replace(old, new))
-    copy.chmod(0o755)
-    station.words[0] = copy
-
-
-def test_the_first_of_more_than_fit_are_signed(alone, room):
+def test_the_first_of_more_than_fit_are_signed(alone):
     """A row has 67 bytes, so 200 bytes are two rows and a piece of the third."""
     with FalseOffice({serial: body(serial, ca=alone.blob) for serial in (1, 2, 3)}) as web:
         station = Station(alone, web.url, alone.key, ahead=3600)
-        changed_station(room, station, "LONGEST_PENDING, LONGEST_BODY, LONGEST_REPLY, LONGEST_LIST = 1 << 26,",
-                        "LONGEST_PENDING, LONGEST_BODY, LONGEST_REPLY, LONGEST_LIST = 200,")
+        station.change("LONGEST_PENDING, LONGEST_BODY, LONGEST_REPLY, LONGEST_LIST = 1 << 26,",
+                       "LONGEST_PENDING, LONGEST_BODY, LONGEST_REPLY, LONGEST_LIST = 200,")
         said = "station: of what is pending only the first 200 bytes are looked at"
         assert (1, ["signed 1", "signed 2"], [said]) == station.once()
 
 
-def test_what_was_refused_holds_up_nothing_new(alone, programs, room):
+def test_what_was_refused_holds_up_nothing_new(alone, programs):
     """A station that keeps no bodies fetches each that it tries to sign: the requests show which, and in which order.
     What was refused comes after what is new, and after pauses of 1, 2, 4 .. seconds, unless the policy has changed."""
     bodies = {serial: body(serial, ca=alone.blob, **ROOT if serial < 3 else {}) for serial in (1, 2, 3)}
     with FalseOffice(bodies, [(serial, digest_of(bodies[serial])) for serial in (1, 2)]) as web:
         station = Station(alone, web.url, alone.key, ahead=3600)
-        changed_station(room, station, "MOST_KEPT = 1 << 24", "MOST_KEPT = 0")
+        station.change("MOST_KEPT = 1 << 24", "MOST_KEPT = 0")
 
         def asked():
             return [it.split()[1].decode().removeprefix("/v1/") for it in web.requests]
@@ -527,7 +648,7 @@ def test_what_was_refused_holds_up_nothing_new(alone, programs, room):
         alone.permit(WEB)
         rounds(3)
         assert asked().count("certs/1/body") > tries
-        status, out, errors = stopped(process)
+        status, out, errors = stopped(process, lines=1)
         assert (0, {"signed 3"}) == (status, {*out})
         assert ["station: not signed: 2, refused as NotPermitted: 1-2"] == errors
 
@@ -552,18 +673,53 @@ def test_many_are_counted_in_a_line(alone):
 
 
 def test_the_office_says_why_a_delivery_is_refused(alone):
-    class Refusing(FalseOffice):
-        def finish_request(self, peer, address):
-            super().finish_request(peer if b"POST" not in peer.recv(4, 2) else Refused(peer), address)
+    with RefusingOffice({1: body(ca=alone.blob)}) as web:
+        said = ["station: the signature of 1 isn't taken: 409 refused 19 Revoked",
+                "station: not signed: 1, its signature isn't taken: 409 refused 19 Revoked: 1"]
+        assert (1, [], said) == Station(alone, web.url, alone.key).once()
 
-    class Refused:
-        def __init__(self, peer):
-            self.recv, self.settimeout = peer.recv, peer.settimeout
-            self.sendall = lambda _: peer.sendall(response(b"refused 19 Revoked\n", "409 Conflict"))
 
-    with Refusing({1: body(ca=alone.blob)}) as web:
-        said = "station: not signed: 1, its signature isn't taken: 409 refused 19 Revoked: 1"
-        assert (1, [], [said]) == Station(alone, web.url, alone.key).once()
+# Serials that are no neighbours, so that a list of them is longer than what is shown.
+FAR = [10 ** 18 + 2 * place for place in range(60)]
+
+
+def test_each_signature_that_is_not_taken_has_a_line(alone, programs):
+    """Also if the list of serials is cut before it, and another row has taken the place of its own: neither the number
+    nor what is shown changes then."""
+    later = FAR[-1] + 2
+    with RefusingOffice({serial: body(serial, ca=alone.blob) for serial in [*FAR, later]}) as web:
+        web.shows(FAR)
+        process = Station(alone, web.url, alone.key).begin(programs)
+        until(lambda: len(web.delivered) >= len(FAR), seconds=60)
+        web.begins_rounds(2)
+        web.shows([*FAR[:-1], later])
+        until(lambda: any(it.startswith(f"deliver {later}\n") for it in web.delivered), seconds=60)
+        web.begins_rounds(2)
+        status, out, errors = stopped(process)
+    assert (0, []) == (status, out)
+    said = [f"station: the signature of {it} isn't taken: 409 refused 19 Revoked" for it in [*FAR, later]]
+    assert said == [it for it in errors if "the signature of" in it and it.endswith(": 409 refused 19 Revoked")]
+
+
+def test_what_is_refused_in_the_place_of_another_is_said(alone, programs):
+    """Also if the line is the same, since the list of serials is cut before both."""
+    later = FAR[-1] + 2
+    with FalseOffice({serial: body(serial, ca=alone.blob, **ROOT) for serial in [*FAR, later]}) as web:
+        web.shows(FAR)
+        process = Station(alone, web.url, alone.key).begin(programs)
+        begins = b"station: not signed: 60, refused as NotPermitted: %d, %d, " % (*FAR[:2],)
+        until(lambda: next_line(process.stderr).startswith(begins), seconds=60)
+        web.shows([*FAR[:-1], later])
+        assert next_line(process.stderr).startswith(begins)
+
+
+def test_a_long_list_of_serials_is_cut_between_two():
+    joined = loaded(EXAMPLES / "station").joined
+    assert ["", "4, 7-9"] == [joined([]), joined([4, 7, 8, 8, 9])]
+    shown_serials = joined(range(10 ** 18, 10 ** 18 + 10 ** 9, 2))
+    assert shown_serials.endswith(" ..") and 900 < len(shown_serials) <= 1003
+    numbers = [int(it) for it in shown_serials.removesuffix(" ..").split(", ")]
+    assert [10 ** 18 + 2 * it for it in range(len(numbers))] == numbers
 
 
 def test_a_signature_that_is_not_taken_is_shown_apart(alone):
@@ -608,14 +764,17 @@ BAD_WORDS = [
      "one of --key, --agent and --pkcs11 is wanted"),
     (["--db", "d", "--policy", "p", "--pkcs11", "m", "http://a"], "--pkcs11 needs --id and --pin-file"),
     (["--db", "d", "--policy", "p", "--key", "k", "file:///etc/passwd"], "no URL: file:///etc/passwd"),
-    (["--db", "d", "--policy", "p", "--key", "k", "--caller", "a/../b", "http://a"], "no caller's name: a/../b"),
-    (["--db", "d", "--policy", "p", "--key", "k", "--interval", "0", "http://a"],
+    *[(["--db", "d", "--policy", "p", "--key", "k", it], f"http is only for an office on this machine: {it}")
+      for it in ("http://office.example.org", "http://10.0.0.1:8022", "http://[fe80::1]/", "http://localhost.a",
+                 "http://127.0.0.1.a/", "http://127.0.0.1@a", "http://127.0.0.1:80@a/", "http://a/127.0.0.1")],
+    (["--db", "d", "--policy", "p", "--key", "k", "--caller", "a/../b", "https://a"], "no caller's name: a/../b"),
+    (["--db", "d", "--policy", "p", "--key", "k", "--interval", "0", "https://a"],
      "--interval is at least 1, and --ahead at least 0"),
-    (["--db", "d", "--policy", "p", "--key", "k", "--lists", "l", "http://a"],
+    (["--db", "d", "--policy", "p", "--key", "k", "--lists", "l", "https://a"],
      "--lists needs --list-ca, and --list-ca needs --lists"),
-    (["--db", "d", "--policy", "p", "--key", "k", "--list-ca", "c", "http://a"],
+    (["--db", "d", "--policy", "p", "--key", "k", "--list-ca", "c", "https://a"],
      "--lists needs --list-ca, and --list-ca needs --lists"),
-    (["--db", "d", "--policy", "p", "--key", "k", "--publish-every", "0", "http://a"],
+    (["--db", "d", "--policy", "p", "--key", "k", "--publish-every", "0", "https://a"],
      "--publish-every is at least 1"),
     (["--no-such-word", "http://a"], "unrecognized arguments: --no-such-word"),
 ]
@@ -625,6 +784,12 @@ BAD_WORDS = [
 def test_bad_words(room, words, why):
     done = run([EXAMPLES / "station", *words])
     assert (2, b"", f"station: error: {why}") == (done.returncode, done.stdout, done.stderr.decode().splitlines()[-1])
+
+
+@pytest.mark.parametrize("url", ["http://localhost", "http://127.0.0.1:8022", "http://127.1.2.3/office",
+                                 "http://[::1]:8022/", "https://office.example.org"])
+def test_urls_of_this_machine_and_of_fronts_are_taken(alone, url):
+    assert (1, [], ["station: can't read none"]) == Station(alone, url, ["--key", "none"]).once()
 
 
 def test_help(room):
@@ -685,10 +850,29 @@ def test_root_may_give_a_service_a_secret_by_its_group(room, monkeypatch, owner,
         station.check_secret("secret")
 
 
-@pytest.mark.parametrize("missing", ["sshstation", "openssl", "pkcs11-tool"])
+@pytest.mark.parametrize("secret", ["--key", "--cert"])
+def test_a_secret_that_others_can_use_later_is_refused(alone, programs, room, secret):
+    """It is opened again for each signature, or for each connection."""
+    write_secret("secret", alone.key_file.read_bytes())
+    with FalseOffice({serial: body(serial, ca=alone.blob) for serial in (1, 2)}) as web:
+        web.shows([1])
+        key = ["--key", "secret"] if secret == "--key" else [*alone.key, "--cert", "secret"]
+        process = Station(alone, web.url, key).begin(programs)
+        assert b"signed 1\n" == process.stdout.readline()
+        (room / "secret").chmod(0o644)
+        web.shows([2])
+        assert 1 == process.wait(60)
+        said = b"station: secret has mode 644, which lets others use it: chmod 600 secret\n"
+        assert (b"", said, 1) == (process.stdout.read(), process.stderr.read(), len(web.delivered))
+
+
+NEEDED = ["sshstation", "openssl", "getent", "pkcs11-tool"]
+
+
+@pytest.mark.parametrize("missing", NEEDED)
 def test_a_program_that_is_missing_is_named(alone, room, missing):
     write_secret("pin", "1234\n")
-    for program in {"sshstation", "openssl", "pkcs11-tool"} - {missing}:
+    for program in {*NEEDED} - {missing}:
         (room / "bin").mkdir(exist_ok=True)
         (room / "bin" / program).symlink_to("/bin/true")
     made = Station(alone, "http://127.0.0.1:1", ["--pkcs11", "m", "--id", "01", "--pin-file", "pin"])
@@ -707,10 +891,10 @@ def test_a_guard_that_cannot_judge_ends_the_station(alone, spoil, why):
     assert (1, [], f"sshstation: {why}") == (status, out, errors[0])
 
 
-def test_a_guard_that_hangs_ends_the_station(alone, programs, room):
+def test_a_guard_that_hangs_ends_the_station(alone, programs):
     with FalseOffice({1: body(ca=alone.blob)}, []) as web:
         station = Station(alone, web.url, alone.key)
-        changed_station(room, station, "LONGEST_JUDGING = 600", "LONGEST_JUDGING = 2")
+        station.change("LONGEST_JUDGING = 600", "LONGEST_JUDGING = 2")
         process = station.begin(programs)
         until(lambda: web.requests, seconds=60)
         [guard] = children(process.pid)
@@ -718,6 +902,49 @@ def test_a_guard_that_hangs_ends_the_station(alone, programs, room):
         web.rows = f"1 {digest_of(web.bodies[1])}\n"
         assert 1 == process.wait(60)
         assert b"station: the guard doesn't answer: not within 2 seconds\n" == process.stderr.read()
+
+
+@pytest.mark.parametrize("ends, status, more", [
+    (lambda process, guard: process.send_signal(signal.SIGTERM), 0, []),
+    (lambda process, guard: guard.permit("department web\n"), 1,
+     ["sshstation: BadPolicy 2", "station: the guard has ended with status 1"]),
+], ids=["it is told to", "a bad policy"])
+def test_a_station_that_ends_says_what_it_has_refused(alone, programs, ends, status, more):
+    """In the middle of a round, while the body after the one that it has refused is on its way."""
+    bodies = {1: body(ca=alone.blob, **ROOT), 2: body(2, ca=alone.blob)}
+    with WaitingOffice(b"GET /v1/certs/2/", bodies) as web:
+        process = Station(alone, web.url, alone.key).begin(programs)
+        assert web.was_asked.wait(60)
+        ends(process, alone)
+        if status:
+            web.may_answer.set()
+        out, errors = process.communicate(timeout=60)
+        web.may_answer.set()
+    said = ["station: not signed: 1, refused as NotPermitted: 1", *more]
+    assert (status, b"", sorted(said)) == (process.returncode, out, sorted(errors.decode().splitlines()))
+
+
+def test_a_station_that_ends_says_which_signature_it_has_sent(alone, programs):
+    """A false front has it, and may never list it as pending again."""
+    with WaitingOffice(b"POST ", {1: body(ca=alone.blob)}) as web:
+        process = Station(alone, web.url, alone.key).begin(programs)
+        assert web.was_asked.wait(60)
+        said = ["station: the signature of 1 may have been sent, and the station ends"]
+        assert (0, [], said) == stopped(process)
+        web.may_answer.set()
+
+
+@pytest.mark.parametrize("name, said", [
+    ("stdout", b"station: the signature of 1 may have been sent, and the station ends\n"
+               b"station: can't print 'signed 1': No space left on device\n"), ("stderr", b"")])
+def test_a_station_that_cannot_print_ends(alone, programs, name, said):
+    """Nobody would see what it signs. What was delivered isn't said to be unsigned."""
+    bodies = {1: body(ca=alone.blob), 2: body(2, ca=alone.blob, **ROOT)}
+    with FalseOffice(bodies) as web, open("/dev/full", "wb") as full:
+        web.shows([1] if name == "stdout" else [2])
+        process = Station(alone, web.url, alone.key).begin(programs, **{name: full})
+        assert 1 == process.wait(60)
+        assert said == (process.stderr.read() if process.stderr else b"")
 
 
 # ---- a station that goes on
@@ -767,7 +994,7 @@ def test_a_station_whose_temporary_files_are_removed_goes_on(alone, programs, ro
         until(lambda: len(web.requests) > count + 3, seconds=60)
         folder.mkdir()
         until(lambda: web.delivered[-1].startswith("deliver 2\n"), seconds=60)
-        status, out, errors = stopped(process)
+        status, out, errors = stopped(process, lines=2)
     assert (0, {"signed 1", "signed 2"}, []) == (status, {*out}, errors)
 
 
@@ -781,7 +1008,7 @@ def test_a_station_waits_for_an_office_that_is_away(sshstation, office, programs
         new_key("alice")
         issued(served, "alice")
         until(lambda: served.get("/v1/certs/1").status == 200, seconds=20)
-    status, out, errors = stopped(process)
+    status, out, errors = stopped(process, lines=1)
     assert (0, ["signed 1"]) == (status, out)
     assert all(it.startswith(f"station: http://127.0.0.1:{port} doesn't answer: ") for it in errors)
     assert 1 <= len(errors) <= 4
@@ -917,6 +1144,23 @@ def test_a_guard_from_an_old_copy_may_approve_a_second_body(alone, room, sshstat
     assert ["refuse OtherSerial"] * 2 == new.judge("0", "1")
 
 
+@pytest.mark.slow
+def test_an_approval_without_a_signature_outlives_the_policy(alone):
+    """The right key is away, a false office has bodies approved, and the key comes back after the policy was narrowed,
+    or after a body has ended. `bodies` shows both."""
+    before = int(time.time()) + 15
+    bodies = {1: body(ca=alone.blob), 2: body(2, ca=alone.blob, before=before)}
+    run(["openssl", "genpkey", "-algorithm", "ed25519", "-out", "other.pem"], check=True)
+    alone.key = ["--key", "other.pem"]
+    said = "station: not signed: 2, the key isn't the CA's: its signature doesn't verify: 1-2"
+    assert (1, [], [said], []) == shown(alone, bodies)
+    alone.permit(department("web", principals="bob", extensions="permit-pty"))
+    until(lambda: time.time() > before + 1, seconds=30)
+    assert ["1", "2"] == [it[0] for it in alone.bodies()]
+    alone.key = ["--key", alone.key_file]
+    assert (0, ["signed 1", "signed 2"], []) == shown(alone, bodies)[:3]
+
+
 # ---- where the key may lie
 
 def served_with(make_office, sshstation, line, key, room, **environment):
@@ -1042,7 +1286,8 @@ def test_a_rollover_with_two_stations(asked, make_office, sshstation, programs, 
     until(lambda: asked.get("/v1/pending").body == b"", seconds=20)
     certificate_of(asked, 3, "later")
     until(lambda: all(children(it.pid) for it in running), seconds=60)
-    assert [(0, [], []), (0, ["signed 2", "signed 3"], [])] == [stopped(it) for it in running]
+    ended = [stopped(running[0]), stopped(running[1], lines=2)]
+    assert [(0, [], []), (0, ["signed 2", "signed 3"], [])] == ended
     assert [["1"], ["2", "3"]] == [[row[0] for row in it.bodies()] for it in guards]
     # The old CA can't be had for a serial of the new one, nor the new one for an old serial.
     for it, office, serial in ((guards[0], asked.office, 2), (guards[1], new, 1)):

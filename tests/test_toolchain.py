@@ -44,7 +44,7 @@ def lacking(name, another):
 
 
 names = json.load(sys.stdin)
-print(json.dumps([{it: lacking(it, another) for it in names} for another in (None, lambda: None)] + [files]))
+print(json.dumps([{it: lacking(it, another) for it in names} for another in (None, lambda: None)] + [files, hasattr(rt, "share_work")]))
 """
 
 
@@ -62,7 +62,7 @@ def told():
 
 @pytest.mark.parametrize("name", [*NAMES, *VALUES.split()])
 def test_another_toolchain_is_found(told, name):
-    gone, without_arguments, _ = told
+    gone, without_arguments, *_ = told
     assert [name] == [it.partition("(")[0] for it in gone[name]]
     due = [name] if name in NAMES and name not in TAKES_NONE else []
     assert due == [it.partition("(")[0] for it in without_arguments[name]]
@@ -76,9 +76,13 @@ def test_the_scripts_take_what_is_listed_and_nothing_else():
 
 
 def test_the_stamp_of_a_crate_reads_each_file_once(told):
-    """There are thousands of ways from the program down to the lowest crates."""
-    files = told[2]
-    assert len({*files}) == len(files) > 500
+    """There are thousands of ways from the program down to the lowest crates. Older toolchains go all of them, which
+    takes seconds more: the scripts replace nothing of a toolchain."""
+    *_, files, is_newer = told
+    assert len({*files}) > 500
+    if not is_newer:
+        left_out("this toolchain reads the files of a crate once for each way that leads to it")
+    assert len({*files}) == len(files)
 
 
 @pytest.mark.parametrize(("change", "complaint"), [
