@@ -1,8 +1,10 @@
 """The fixtures of the tests. tests/README.md says what each is."""
 import functools
+import json
 import os
 import pathlib
 import random
+import re
 import signal
 
 import pytest
@@ -44,6 +46,8 @@ def pytest_addoption(parser):
     group.addoption("--waiting-seconds", type=int, default=5, help="for how many seconds they wait (5)")
     group.addoption("--heads", type=int, default=100_000, help="how many changed heads test_heads compares (100000)")
     group.addoption("--counts", action="store_true", help="end with the lines of counts that ./check reads")
+    group.addoption("--failures", metavar="FILE", type=pathlib.Path,
+                    help="a file for the names of the tests that failed, as JSON")
 
 
 @pytest.hookimpl(tryfirst=True)
@@ -67,7 +71,12 @@ def pytest_unconfigure(config):
         return
     passed = reporter.stats.get("passed", [])
     skipped = [it for it in reporter.stats.get("skipped", []) if "left out: " not in str(it.longrepr)]
-    failed = sum(len(reporter.stats.get(it, [])) for it in ("failed", "error")) + len(skipped)
+    reports = [it for how in ("failed", "error") for it in reporter.stats.get(how, [])]
+    failed = len(reports) + len(skipped)
+    if config.getoption("--failures"):
+        # Side by side, a name ends with that of its group.
+        names = [re.sub(r"@[^@\]]+$", "", it.nodeid) for it in [*reports, *skipped]]
+        config.getoption("--failures").write_text(json.dumps(names))
     print(f"{sum('rows' in it.keywords for it in passed)} worked rows")
     print(f"{len(passed)} passed, {failed} failed", flush=True)
 
