@@ -85,5 +85,5 @@ def test_what_fails_again_fails_the_check(check):
 
 
 def test_failures_of_many_files_are_not_tried_again(check):
-    done = check(STEADY, UNSTEADY, *3 * [UNSTEADY.replace('"b@c"', '"d"')])
-    assert 8 == done.failed and [] == done.unsteady
+    done = check(STEADY, UNSTEADY, *5 * [UNSTEADY.replace('"b@c"', '"d"')])
+    assert 12 == done.failed and [] == done.unsteady
