@@ -111,7 +111,7 @@ def test_the_example_of_a_server(founded, example, program, programs):
         assert (1, True) == example(command, "sshoffice: Device\n"), command
     served = Served(None, server, port)
     assert [200] * count == [served.ask(get("/v1/krl")).status for _ in range(count)]
-    assert (b"", b"", 0) == (*server.communicate(timeout=20), server.returncode)
+    assert (b"", b"", 0) == (*server.communicate(timeout=60), server.returncode)
 
 
 def test_the_version_names_a_toolchain_that_readme_names(program):
