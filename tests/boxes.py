@@ -34,6 +34,8 @@ TOOLS = "debootstrap systemd-nspawn unshare nsenter ip mount".split()
 ENVIRONMENT = {"PATH": "/usr/local/sbin:/usr/local/bin:/usr/sbin:/usr/bin:/sbin:/bin", "HOME": "/root", "USER": "root",
                "LANG": "C.UTF-8", "TZ": "UTC"}
 DOMAIN = "example.org"
+# Debian's own timers of which one may come due in any test, and then has apt's lock, or fails for want of a network.
+TIMERS_OFF = ("apt-daily", "apt-daily-upgrade", "dpkg-db-backup")
 # With this status systemd-nspawn says that the box wants to be started again.
 REBOOT = 133
 NETWORK = "[Match]\nName=host0\n[Network]\nAddress={}/24\nLinkLocalAddressing=no\nIPv6AcceptRA=no\n"
@@ -173,7 +175,7 @@ def descendants(pid):
         yield from descendants(it)
 
 
-def wait_until(is_so, what, seconds=60):
+def wait_until(is_so, what, seconds=180):
     """Waits until a function returns something true, and returns that."""
     end = time.monotonic() + seconds
     while time.monotonic() < end:
@@ -242,13 +244,13 @@ class Rack:
         for box in self.boxes.values():
             box.switch_off()
         for box in self.boxes.values():
-            box.running.wait(60)
+            box.running.wait(240)
             subprocess.run(["cp", "-a", self.files / box.name / "over", folder / box.name], check=True)
 
     def end(self):
         """Ends every box at once, as if the plug were pulled."""
         self.keeper.stdin.close()
-        self.keeper.wait(30)
+        self.keeper.wait(120)
         for pipe in (self.keeper.stdout, self.keeper.stderr):
             pipe.close()
         for box in self.boxes.values():
@@ -300,6 +302,9 @@ class Box:
             wants.mkdir(parents=True, exist_ok=True)
             with contextlib.suppress(FileExistsError):
                 (wants / f"{unit}.service").symlink_to(f"/lib/systemd/system/{unit}.service")
+        for it in TIMERS_OFF:
+            with contextlib.suppress(FileExistsError):
+                (self.files / f"etc/systemd/system/{it}.timer").symlink_to("/dev/null")
         self.write("root/.ssh/authorized_keys", self.rack.public, 0o600)
 
     def write(self, path, text, mode=0o644):
@@ -330,7 +335,7 @@ class Box:
     def wait_until_up(self):
         try:
             self.init = wait_until(self.find_init, f"{self.name} begins")
-            wait_until(self.is_up, f"{self.name} is up", seconds=180)
+            wait_until(self.is_up, f"{self.name} is up", seconds=400)
         except AssertionError as fault:
             said = (self.rack.files / self.name / "log").read_text(errors="replace")
             raise CannotBoot(f"{fault}: {said[-800:]}") from None
@@ -356,7 +361,7 @@ class Box:
     def words(self, *words):
         return ["nsenter", "-t", str(self.init), "-a", "--", *words]
 
-    def run(self, command, check=True, timeout=180):
+    def run(self, command, check=True, timeout=400):
         """Runs a command of bash as root. Its standard output and faults are one text."""
         done = subprocess.run(self.words("bash", "-euo", "pipefail", "-c", f"cd; {command}"), stdin=subprocess.DEVNULL,
                               stdout=subprocess.PIPE, stderr=subprocess.STDOUT, text=True, errors="replace",
@@ -378,7 +383,7 @@ class Box:
     def reboot(self):
         with contextlib.suppress(AssertionError):
             self.run("systemctl reboot")
-        ended = self.running.wait(60)
+        ended = self.running.wait(240)
         assert ended == REBOOT, f"{self.name} ended with {ended}"
         self.start()
         self.wait_until_up()
@@ -391,11 +396,11 @@ class Box:
         """Ends the box within a moment. Its files stay as they are."""
         with contextlib.suppress(ProcessLookupError):
             os.kill(self.init, 9)
-        self.running.wait(30)
+        self.running.wait(120)
         self.init = None
 
     def forget(self):
-        self.running.wait(30)
+        self.running.wait(120)
         for it in self.groups:
             remove_group(it)
 
@@ -437,7 +442,7 @@ class Shell:
         with contextlib.suppress(subprocess.TimeoutExpired):
             self.running.wait(2)
         self.running.kill()
-        self.running.wait(30)
+        self.running.wait(120)
         self.running.stdout.close()
 
 

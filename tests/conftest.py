@@ -90,7 +90,7 @@ def pytest_collection_modifyitems(config, items):
         if not BUILT & {*getattr(item, "fixturenames", ())}:
             item.add_marker("early")
         if item.get_closest_marker("slow") and not item.get_closest_marker("timeout"):
-            item.add_marker(pytest.mark.timeout(600))
+            item.add_marker(pytest.mark.timeout(1500))
         for name in ("front", "browser"):
             if {name, f"make_{name}"} & {*getattr(item, "fixturenames", ())}:
                 item.add_marker(name)

@@ -73,12 +73,15 @@ class Front:
         return {name: getattr(self, name) for name in ("port", "url", "authority", "conf", "state")}
 
     def begin(self):
-        """Starts nginx, and waits until it listens."""
+        """Starts nginx, and waits until it listens and has begun all of its processes: one for each processor, and one
+        that looks after the pages that are kept. Before, a signal to read its files again would end it, or reach some
+        of them alone."""
         user = pwd.getpwuid(os.getuid()).pw_name
         words = ["nginx", "-p", self.state, "-c", self.conf / "nginx.conf", "-g", f"user {user}; daemon off;"]
         with open(self.state / "nginx.faults", "ab") as faults:
             self.process = self.programs.begin(words, stderr=faults)
         until(functools.partial(is_listening, self.port, self.address))
+        until(lambda: len(self.workers()) > os.cpu_count())
 
     def end(self):
         end(self.process)
@@ -92,7 +95,7 @@ class Front:
         """Has nginx read its files again, and waits until the processes of before are gone."""
         old = self.workers()
         self.process.send_signal(signal.SIGHUP)
-        until(lambda: not set(old) & set(self.workers()), seconds=30)
+        until(lambda: not set(old) & set(self.workers()))
 
     def certificate(self, name):
         """The file with a client's key and certificate."""
@@ -112,7 +115,7 @@ class Front:
 
     def connect_plainly(self, address="127.0.0.1"):
         """A connection before TLS."""
-        plain = socket.create_connection(("127.0.0.1", self.port), timeout=20, source_address=(address, 0))
+        plain = socket.create_connection(("127.0.0.1", self.port), timeout=60, source_address=(address, 0))
         plain.setsockopt(socket.IPPROTO_TCP, socket.TCP_NODELAY, 1)
         return plain
 
@@ -126,5 +129,7 @@ class Front:
     def ask(self, request, name=None):
         """All that comes back for these bytes, until the connection ends."""
         with self.connect(name) as peer:
-            peer.sendall(request)
+            # The front may have answered, and closed, before it was sent all.
+            with contextlib.suppress(OSError):
+                peer.sendall(request)
             return rest(peer)

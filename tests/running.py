@@ -1,5 +1,7 @@
 """Programs that run beside a test and end with it, free ports, waiting, and an office in a file."""
+import collections
 import contextlib
+import errno
 import os
 import pathlib
 import random
@@ -44,12 +46,19 @@ def left_out(why):
 
 # ---- programs
 
-def end(process, patience=5):
+def signal_group(process, *signs):
+    """Sends signals to the group of a program that `begin` has begun, if any of it is left. Once the program has ended
+    and was waited for, another one may have its number, and a group of this number."""
+    if process.poll() is None or not os.path.exists(f"/proc/{process.pid}"):
+        with contextlib.suppress(ProcessLookupError):
+            for sign in signs:
+                os.killpg(process.pid, sign)
+
+
+def end(process, patience=20):
     """Ends a program that `begin` has begun, with all of its session's group, and waits until it is gone."""
     for sign in (signal.SIGTERM, signal.SIGKILL):
-        with contextlib.suppress(ProcessLookupError):
-            os.killpg(process.pid, sign)
-            os.killpg(process.pid, signal.SIGCONT)
+        signal_group(process, sign, signal.SIGCONT)
         with contextlib.suppress(subprocess.TimeoutExpired):
             process.wait(patience)
             return
@@ -72,8 +81,7 @@ class Programs:
         for process in reversed(self.begun):
             end(process)
         for process in self.begun:
-            with contextlib.suppress(ProcessLookupError):
-                os.killpg(process.pid, signal.SIGKILL)
+            signal_group(process, signal.SIGKILL)
             for pipe in (process.stdout, process.stderr):
                 if pipe:
                     pipe.close()
@@ -94,7 +102,7 @@ def listening(words, **how):
 
 def run(words, **how):
     """Runs a program to its end, with what it prints."""
-    how = {"capture_output": True, "timeout": 100, "stdin": subprocess.DEVNULL} | how
+    how = {"capture_output": True, "timeout": 250, "stdin": subprocess.DEVNULL} | how
     return subprocess.run([str(it) for it in words], **how)
 
 
@@ -150,17 +158,31 @@ def preloaded(source, folder):
 
 # ---- ports and waiting
 
+# Sockets whose names stand for ports that were given out: so nobody else gets a port between its choice and its use.
+# The names are the kernel's, for all tests of this machine, and end with the process, which keeps the last ones.
+PORTS_GIVEN = collections.deque()
+
+
 def free_port():
-    """A port of 127.0.0.1 at which nobody listens, and which the machine gives to no client of its own accord. Tests
-    that run side by side get ports of different ranges."""
-    number = int(os.environ.get("PYTEST_XDIST_WORKER", "gw0").removeprefix("gw")) % 10
+    """A port of 127.0.0.1 at which nobody listens, and which the machine gives to no client of its own accord. It is
+    given once: also tests that run side by side get different ones."""
     while True:
-        port = random.randrange(20000 + 1000 * number, 21000 + 1000 * number)
-        with contextlib.suppress(OSError), socket.create_server(("127.0.0.1", port)):
-            return port
+        port, name = random.randrange(20000, 30000), socket.socket(socket.AF_UNIX, socket.SOCK_DGRAM)
+        try:
+            name.bind(f"\0vethlumi-test-port-{port}")
+            socket.create_server(("127.0.0.1", port)).close()
+        except OSError as fault:
+            name.close()
+            if fault.errno != errno.EADDRINUSE:
+                raise
+            continue
+        PORTS_GIVEN.append(name)
+        if len(PORTS_GIVEN) > 100:
+            PORTS_GIVEN.popleft().close()
+        return port
 
 
-def until(is_so, seconds=10, pause=0.02):
+def until(is_so, seconds=60, pause=0.02):
     """Waits until it is so, and returns what was found, or fails after some seconds."""
     end_of_wait = time.monotonic() + seconds
     while True:

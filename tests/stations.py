@@ -5,7 +5,7 @@ import signal
 import subprocess
 
 from asking import LAST_SERIAL, LATEST, department
-from running import EXAMPLES, end, run
+from running import EXAMPLES, end, run, until
 
 EVERY_OPTION = ("force-command", "source-address", "verify-required")
 EVERY_EXTENSION = ("no-touch-required", "permit-X11-forwarding", "permit-agent-forwarding", "permit-port-forwarding",
@@ -104,12 +104,17 @@ class Station:
 
     def change(self, old, new):
         """Has it run a copy of the script, with a text in the place of another."""
-        text = (EXAMPLES / "station").read_text()
+        text = self.words[0].read_text()
         assert 1 == text.count(old)
         copy = self.folder / "station"
         copy.write_text(text.replace(old, new))
         copy.chmod(0o755)
         self.words[0] = copy
+
+    def speaks_at_the_end_of_a_round(self):
+        """Has it say what it leaves once it has looked at all, however long that takes: after five seconds it would
+        say what it has so far."""
+        self.change("LONGEST_SILENCE = 1000, 20, 5\n", "LONGEST_SILENCE = 1000, 20, 500\n")
 
     def once(self, *more, **environment):
         """Status, lines of output, and lines of errors of a station that looks once."""
@@ -128,12 +133,22 @@ class Station:
         return programs.begin([*self.words, *more, self.url], **how)
 
 
+def begin_agent(programs, address):
+    """Starts an ssh-agent without keys, and returns what programs have in their environment that ask it. Its socket is
+    there before it answers."""
+    asks_it = {"SSH_AUTH_SOCK": str(address)}
+    programs.begin(["ssh-agent", "-D", "-a", address])
+    # With 1 ssh-add says that it has no keys, and with 2 that nobody answers.
+    until(lambda: 1 == run(["ssh-add", "-l"], env=os.environ | asks_it).returncode)
+    return asks_it
+
+
 def stopped(process, lines=0):
     """Stops a station once it has put out so many more lines, and returns its status, and the lines of its output and
     of its errors. An office has a signature a moment before the station says so."""
     out = b"".join(process.stdout.readline() for _ in range(lines))
     process.send_signal(signal.SIGTERM)
-    more, errors = process.communicate(timeout=20)
+    more, errors = process.communicate(timeout=60)
     end(process)
     out = (out + more).decode().splitlines()
     # It may have been stopped after its line for a signature, and before it noted that.

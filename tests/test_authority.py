@@ -97,17 +97,17 @@ def look(folder):
 def at_once(commands):
     """What commands print that begin at once. Each may wait for all others."""
     with concurrent.futures.ThreadPoolExecutor(len(commands)) as threads:
-        return list(threads.map(lambda words: authority(*words, timeout=280), commands))
+        return list(threads.map(lambda words: authority(*words, timeout=800), commands))
 
 
-@pytest.mark.timeout(300)
+@pytest.mark.timeout(900)
 def test_twenty_at_once_lose_nothing(folder):
     done = at_once([("caller", folder, f"c-{number}") for number in range(20)])
     assert [(0, f"{folder}/c-{number}.pem\n", "") for number in range(20)] == done
     assert {"/CN=front", "/CN=ana", "/OU=reader/CN=watch", *(f"/CN=c-{it}" for it in range(20))} == look(folder)
 
 
-@pytest.mark.timeout(300)
+@pytest.mark.timeout(900)
 def test_commands_of_all_kinds_at_once(folder):
     for number in range(4):
         must("caller", folder, f"old-{number}")
@@ -197,7 +197,7 @@ def killed_then_next(made, copy, line, words):
 
 
 @pytest.mark.slow
-@pytest.mark.timeout(400)
+@pytest.mark.timeout(1500)
 @pytest.mark.parametrize("words", [["renew", "ana", "--revoke"], ["server"]], ids=lambda it: it[0])
 def test_a_kill_at_a_line_leaves_the_old_or_the_new(folder, room, words):
     shutil.copytree(folder, room / "whole")
@@ -213,7 +213,7 @@ def test_a_kill_at_a_line_leaves_the_old_or_the_new(folder, room, words):
 
 
 @pytest.mark.slow
-@pytest.mark.timeout(400)
+@pytest.mark.timeout(1500)
 def test_a_kill_at_any_moment_loses_nothing(folder):
     """The program is killed, alone or with the openssl that it has begun."""
     chance = random.Random(7)
@@ -273,7 +273,7 @@ def test_a_damaged_line_of_the_index_is_named(folder):
 
 @pytest.mark.root
 @pytest.mark.slow
-@pytest.mark.timeout(300)
+@pytest.mark.timeout(900)
 def test_a_full_disk_loses_nothing(folder, room):
     disk = room / "disk"
     disk.mkdir()

@@ -18,7 +18,7 @@ import pages
 from running import TOP, left_out
 
 # The first test may have to make the folder that every box starts from.
-pytestmark = [pytest.mark.boxes, pytest.mark.root, pytest.mark.slow, pytest.mark.timeout(900)]
+pytestmark = [pytest.mark.boxes, pytest.mark.root, pytest.mark.slow, pytest.mark.timeout(1800)]
 IN_SERVICE = "In service"
 MACHINES = ["admin", "office", "station", "server"]
 # The programs that are built on a machine.
@@ -197,7 +197,7 @@ import boxes
 rack = boxes.Rack(sys.argv[2], pathlib.Path(sys.argv[3]))
 box, = rack.add("lonely")
 print(box.init, flush=True)
-time.sleep(60)
+time.sleep(600)
 """
 
 
@@ -208,10 +208,10 @@ def test_no_box_outlives_its_maker(base, tmp_path):
         init = pathlib.Path("/proc", maker.stdout.readline().decode().strip())
         assert init.exists()
         maker.kill()
-    boxes.wait_until(lambda: not init.exists(), "the box has ended", 10)
+    boxes.wait_until(lambda: not init.exists(), "the box has ended")
     assert [] == list(tmp_path.iterdir())
     # The kernel lets go of the last of them within a moment.
-    boxes.wait_until(lambda: not (boxes.remove_old_groups() or left_of(maker.pid)), "nothing is left", 10)
+    boxes.wait_until(lambda: not (boxes.remove_old_groups() or left_of(maker.pid)), "nothing is left")
 
 
 def left_of(pid):
@@ -235,7 +235,7 @@ def test_an_office_comes_back_after_a_kill_a_reboot_and_a_power_cut(site, office
     wait_until_up(office)
     time.sleep(2.1)
     assert before == table(site)
-    assert "" == office.says("systemctl --failed --no-legend --plain")
+    assert "" == office.says("systemctl --failed --no-legend --plain 'office*' 'nginx*' 'ssh*'")
 
 
 def test_a_stopped_office_stays_stopped(office):
@@ -261,14 +261,15 @@ def test_an_office_that_cannot_serve_ends_failed_and_raises_the_alert(office):
     office.write("etc/vethlumi/alert", "#!/bin/sh\necho \"called for $1 by $(id -un)\"\n", 0o755)
     begun = time.monotonic()
     office.run("chown root: /var/lib/office/office.db && systemctl kill -s KILL office")
-    boxes.wait_until(lambda: ["failed"] == states(office, "office"), "the office has failed", 120)
+    boxes.wait_until(lambda: ["failed"] == states(office, "office"), "the office has failed", 240)
     starts = int(office.says("systemctl show -P NRestarts office"))
     assert 5 <= starts <= 10
     # Two seconds lie between a failure and the next start.
     assert 2 * (starts - 1) <= time.monotonic() - begun
     said = boxes.wait_until(lambda: "called for" in (it := office.says("journalctl -b -t office-alert -o cat")) and it,
                             "the alert is raised")
-    assert "office.service has failed and stays down" in office.says("journalctl -b -p alert -o cat")
+    boxes.wait_until(lambda: "office.service has failed and stays down" in office.says("journalctl -b -p alert -o cat"),
+                     "the alert is in the journal")
     assert "called for office.service by " in said and "by root" not in said
     # No request starts it again.
     assert ["502"] * 3 == [answer(office) for _ in range(3)]
@@ -286,7 +287,7 @@ def test_the_end_after_its_connections_is_no_failure(office):
     begun = "journalctl -b -u office -o cat | grep -c listening"
     ask = f"for it in 1 2 3 4 5 6; do curl -s {DOOR}/v1/cas || true; done"
     # Twice as often as a unit may start that fails.
-    boxes.wait_until(lambda: office.run(ask) and 20 < int(office.says(begun)), "the program has ended often", 60)
+    boxes.wait_until(lambda: office.run(ask) and 20 < int(office.says(begun)), "the program has ended often")
     wait_until_up(office)
     assert "0" == office.says("systemctl show -P NRestarts office")
 
@@ -296,7 +297,8 @@ def test_a_broken_list_of_revoked_certificates_makes_the_reload_fail(site, offic
     office.run("echo broken >/etc/vethlumi/front/crl.pem")
     reload = office.run("systemctl reload office-front", False)
     assert 0 != reload.returncode
-    assert "crl.pem" in office.says("journalctl -b -u office-front -o cat -n 20")
+    # The journal has a line a moment after it was said.
+    boxes.wait_until(lambda: "crl.pem" in office.says("journalctl -b -u office-front -o cat -n 20"), "nginx says why")
     assert is_up(office)
     # A front that is started with it is started until the file is good.
     office.run("systemctl restart office-front", False)
@@ -333,11 +335,14 @@ def test_the_log_is_rotated(site, office):
     """By the unit of Debian's logrotate, which runs once a day, and here because the log is larger than it may be."""
     folder = "/var/lib/office-front"
     office.run(f"cat {folder}/asked.log; truncate -s 101M {folder}/asked.log")
-    office.run("systemctl start logrotate")
-    assert ["asked.log", "asked.log.1"] == office.says(f"cd {folder} && ls asked.log*").split()
+    # Its timer may be starting it, and that run may have seen the log as it was before.
+    office.run("systemctl restart logrotate")
+    boxes.wait_until(lambda: ["asked.log", "asked.log.1"] == office.says(f"cd {folder} && ls asked.log*").split(),
+                     "nginx has made a new log")
     assert "office-front" == office.says(f"stat -c %U {folder}/asked.log")
-    assert "200" == answer(office)
-    boxes.wait_until(lambda: "/v1/certs/1 " in office.says(f"cat {folder}/asked.log"), "nginx writes the new log")
+    # A process of nginx may take a request before it has opened the new log.
+    boxes.wait_until(lambda: "200" == answer(office) and "/v1/certs/1 " in office.says(f"cat {folder}/asked.log"),
+                     "nginx writes the new log")
     # What nginx itself reports goes to the journal, also when it is in the background.
     assert "front.log" not in office.says(f"ls {folder}")
     assert office.says("readlink /proc/$(systemctl show -P MainPID office-front)/fd/2").startswith("socket:")
@@ -402,7 +407,7 @@ echo 'revoke-serial 1' | send ana revoke-1
 def test_a_failed_office_is_restored(site, office):
     site.type(KEEP_A_COPY)
     office.run("chown root: /var/lib/office/office.db && systemctl kill -s KILL office")
-    boxes.wait_until(lambda: ["failed"] == states(office, "office"), "the office has failed", 120)
+    boxes.wait_until(lambda: ["failed"] == states(office, "office"), "the office has failed", 240)
     office.run("office-restore copies/office.db")
     wait_until_up(office)
 

@@ -142,7 +142,7 @@ def test_words_that_are_no_command(program, files, words):
     [b"\xff"], [b"krl", b"--db", b"\xff"], [b"check", b"--ca", b"ca\xc3", b"k", b"1", b"x"]])
 def test_a_word_that_is_not_utf_8(program, words):
     """It is bad words, and says so."""
-    done = subprocess.run([program, *words], capture_output=True, timeout=100)
+    done = subprocess.run([program, *words], capture_output=True, timeout=250)
     assert (2, b"") == (done.returncode, done.stdout)
     assert b"UTF-8" in done.stderr
 

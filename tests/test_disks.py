@@ -275,7 +275,7 @@ def long(disk):
     return Play(disk.founded, (), exchanges, "long")
 
 
-@pytest.mark.timeout(300)
+@pytest.mark.timeout(900)
 @pytest.mark.parametrize(("after", "file", "call", "is_once"), [
     ("", "log", "read", ONCE), ("db write", "any", "any", ONCE), ("db write", "any", "any", ON)],
     ids=["the log can't be read", "from there on a call fails", "from there on the disk is gone"])

@@ -212,7 +212,7 @@ def test_if_no_list_comes_the_one_in_place_stays(request, web, room, answer, why
 
 
 @pytest.mark.slow
-@pytest.mark.timeout(300)
+@pytest.mark.timeout(900)
 def test_an_endless_body_ends(either, web, room):
     """Of the longest list, 32 MiB, no more is kept, and nothing afterwards; or the time is over."""
     with tempfile.TemporaryDirectory(dir="/dev/shm") as folder:

@@ -259,7 +259,8 @@ def test_a_guise(recorded, request_bytes, wanted, sent):
 def forget(front):
     """Has the front keep no page, and the recorder no request."""
     for file in (front.state / "cache").iterdir():
-        file.unlink()
+        # nginx may have removed it meanwhile.
+        file.unlink(missing_ok=True)
     front.recorder.requests.clear()
 
 
@@ -387,20 +388,27 @@ def keeping(authority, tmp_path_factory):
 
 
 def asked_for(front, *names_and_paths):
-    """How often the office is asked when these clients ask for these pages, within ten seconds of the clock."""
-    forget(front)
-    until(lambda: time.time() % 10 < 7)
-    for name, path in names_and_paths:
-        assert [200] == statuses(front.ask(getting(path), name))
+    """How often the office is asked when these clients ask for these pages within two seconds, and within ten of the
+    clock. On a busy machine that may take more than one try."""
+    def tried():
+        until(lambda: time.time() % 10 < 7)
+        forget(front)
+        begun = time.monotonic()
+        for name, path in names_and_paths:
+            assert [200] == statuses(front.ask(getting(path), name))
+        return time.monotonic() - begun < 2
+
+    until(tried)
     return len(front.recorder.requests)
 
 
 def test_a_page_is_kept_for_two_seconds(keeping):
     forget(keeping)
-    begun = time.monotonic()
-    while time.monotonic() < begun + 7:
+    begun, rounds = time.monotonic(), 0
+    while time.monotonic() < begun + 7 or rounds < 2:
         for path in KEPT:
             assert [200] == statuses(keeping.ask(getting(path), "watch"))
+        rounds += 1
     took = time.monotonic() - begun
     # nginx counts whole seconds: a page is asked for again after two to three, and when ten of the clock have ended.
     asked = collections.Counter(it.split()[1].decode() for it in keeping.recorder.requests)
@@ -429,14 +437,14 @@ def test_what_the_station_is_given_is_not_kept(keeping):
 
 def test_a_reader_is_given_one_table_a_second_and_the_station_any_number(make_front, recorded):
     front, took = make_front(recorded.recorder.port), {}
-    for name in ("station", "watch"):
+    for name, count in (("station", 20), ("watch", 6)):
         begun = time.monotonic()
-        for _ in range(6):
+        for _ in range(count):
             assert [200] == statuses(front.ask(getting("/v1/table"), name))
         took[name] = time.monotonic() - begun
     # Three at once, and one more in each second.
     assert took["watch"] > 2.5
-    assert took["station"] < took["watch"]
+    assert took["station"] < 16
 
 
 def test_no_error_is_kept(make_front):

@@ -54,7 +54,8 @@ def test_a_client_that_sends_too_much_waits_alone(make_front, recorder):
           f"{refused} were answered 429")
     assert 20 <= passed <= 22 + 20 * took
     assert 1 <= refused <= 99
-    assert ([200], True) == (statuses(answer), waited < 1)
+    # What ana sends then would wait for ten seconds.
+    assert ([200], True) == (statuses(answer), waited < 5)
 
 
 def answer_so_far(peer):
@@ -124,7 +125,7 @@ def test_an_office_that_stands_still_is_not_asked_by_all_who_have_waited(make_fr
 
 @pytest.mark.alone
 def test_a_reader_has_eight_tables_under_way(make_front):
-    with Recorder(seconds=3) as recorder:
+    with Recorder(seconds=10) as recorder:
         edits = [("limit_req zone=reports burst=20 delay=2;", "limit_req zone=reports burst=100 nodelay;")]
         got = asked_together(make_front(recorder.port, edits=edits), "/v1/table", 60, "watch")
         assert {200: 8, 429: 52} == {status: got.count([status]) for status in (200, 429)}
@@ -253,12 +254,22 @@ def test_a_line_of_the_log(make_front, recorder):
 def test_a_kept_page_has_a_line_if_its_client_has_a_certificate(make_front, recorder):
     front = make_front(recorder.port, edits=[("proxy_cache_valid 200 2s;", "proxy_cache_valid 200 10s;")])
     # Three clients in the same ten seconds, so that the office is asked once.
-    until(lambda: time.time() % 10 < 7)
+    until(lambda: time.time() % 10 < 1)
     for name in (None, None, "watch"):
         assert [200] == statuses(front.ask(getting("/v1/krl"), name))
     lines = until(lambda: (it := (front.state / "asked.log").read_text().splitlines())[1:] and it)
     assert [("", "kept=MISS"), ("CN=watch,OU=reader", "kept=HIT")] == [
         (line.split('"')[1], line.split()[-2]) for line in lines]
+
+
+def has_open(front, name):
+    """Whether one of nginx's processes has a file of this name open."""
+    links = [it for process in front.workers() for it in pathlib.Path(f"/proc/{process}/fd").iterdir()]
+    found = set()
+    for it in links:
+        with contextlib.suppress(FileNotFoundError):
+            found.add(pathlib.Path(os.readlink(it)).name)
+    return name in found
 
 
 @pytest.mark.root
@@ -272,7 +283,7 @@ def test_logs_are_rotated_and_no_line_is_lost(make_front, recorder, room):
         assert [200] == statuses(front.ask(posting(f"/v1/requests/turn-{turn}"), "ana"))
         until(lambda: (front.state / "asked.log").exists() and (front.state / "asked.log").stat().st_size)
         run(["logrotate", "--force", "--state", room / "logrotate.state", room / "logrotate"], check=True)
-        until(lambda: (front.state / "asked.log").exists())
+        until(lambda: (front.state / "asked.log").exists() and not has_open(front, "asked.log.1"))
     files = {it.name: it for it in front.state.glob("asked.log*")}
     assert {"asked.log", "asked.log.1", "asked.log.2.gz", "asked.log.3.gz"} == set(files)
     assert "turn-2" in files["asked.log.1"].read_text()

@@ -1,4 +1,5 @@
 """An office behind the front: answers that are lost, programs that are killed, and certificates that are taken back."""
+import contextlib
 import os
 import random
 import signal
@@ -12,7 +13,7 @@ import pytest
 from asking import department, issue, lasting
 from fronts import Front
 from recording import getting, posting, statuses, whole_request
-from running import EXAMPLES, Programs, is_listening, left_out, new_key, rest, run, until
+from running import EXAMPLES, Programs, free_port, is_listening, left_out, new_key, rest, run, until
 from stations import new_station
 
 pytestmark = [pytest.mark.front, pytest.mark.xdist_group("front_office")]
@@ -81,18 +82,17 @@ def asking_for(front, name):
     """The words that ask for a certificate of a new key of this name."""
     new_key(name)
     return [EXAMPLES / "request", "--cert", front.certificate("ana"), "--cacert", front.authority / "ca.crt",
-            "--wait", 30, front.url, "web", f"web/{name}", f"{name}.pub", "alice", "1h"]
+            "--wait", 200, front.url, "web", f"web/{name}", f"{name}.pub", "alice", "1h"]
 
 
 def certificate_of(sshstation, front, office, served, name, asking):
     """What `request` prints in the end, once the station has signed."""
-    until(lambda: f" web/{name}\n" in served.get("/v1/table").text, seconds=30)
+    until(lambda: f" web/{name}\n" in served.get("/v1/table").text)
     new_station(sshstation, office, front.url, certificate=front.certificate("station"),
                 trusted=front.authority / "ca.crt").sign()
-    return asking.communicate(timeout=30)[0].decode()
+    return asking.communicate(timeout=100)[0].decode()
 
 
-@pytest.mark.timeout(200)
 def test_three_answers_are_lost_and_one_certificate_comes_of_it(sshstation, served, make_front, programs):
     served.post("root", "web-1", department())
     with Relay(served, 3) as relay:
@@ -127,7 +127,9 @@ def test_a_front_that_is_killed_loses_nothing(put):
         with put.connect("ana") as peer:
             peer.sendall(posting("/v1/requests/killed-1", message.encode()))
             for worker in put.workers():
-                os.kill(worker, signal.SIGKILL)
+                # One that looks at the pages that were kept before ends by itself.
+                with contextlib.suppress(ProcessLookupError):
+                    os.kill(worker, signal.SIGKILL)
             rest(peer)
         until(lambda: put.workers() and statuses(put.ask(getting("/v1/cas"))) == [200])
     assert told(first) == told(send(put, "ana", "killed-1", message))
@@ -135,7 +137,7 @@ def test_a_front_that_is_killed_loses_nothing(put):
 
 def test_an_office_that_was_killed_gives_the_same_bytes(sshstation, office, make_front, programs):
     message = issued("killed")
-    with office.serving() as served:
+    with office.serving(port=free_port()) as served:
         front = make_front(served.port)
         send(front, "root", "web-1", department())
         first = send(front, "ana", "killed-1", message)
@@ -167,11 +169,11 @@ def test_a_certificate_that_is_taken_back_works_no_more(put):
 @pytest.mark.slow
 def test_an_office_that_stands_still_has_no_old_page_given(put):
     """For eleven seconds, while a client fetches the list all the time."""
-    def fetch(page):
+    def fetch(page, seconds=1):
         words = ["--cacert", put.authority / "ca.crt", "--cert", put.certificate("watch"), f"{put.url}/v1/{page}"]
-        return run(["curl", "-s", "--max-time", "1", "-o", "page", "-w", "%{http_code}", *words]).stdout.decode()
+        return run(["curl", "-s", "--max-time", seconds, "-o", "page", "-w", "%{http_code}", *words]).stdout.decode()
 
-    assert ["200", "200"] == [fetch("krl"), fetch("table")]
+    assert ["200", "200"] == [fetch("krl", 60), fetch("table", 60)]
     put.served.process.send_signal(signal.SIGSTOP)
     end = time.monotonic() + 11
     while time.monotonic() < end:
@@ -194,7 +196,7 @@ def test_the_front_reaches_an_office_in_a_network_of_its_own(office, make_front,
     if not os.access(PROXY, os.X_OK) or run(["unshare", "--net", "true"]).returncode:
         left_out("this machine gives no network to a process, or has no systemd-socket-proxyd")
     before = ("unshare", "--net", "sh", "-c", 'ip link set lo up && exec "$@"', "sh")
-    with office.serving(before=before) as served:
+    with office.serving(before=before, port=free_port()) as served:
         door = room / "door.sock"
         programs.begin(["nsenter", "-t", served.process.pid, "--net", "systemd-socket-activate", "-l", door, PROXY,
                         f"127.0.0.1:{served.port}"])
@@ -212,11 +214,12 @@ def test_the_front_reaches_an_office_in_a_network_of_its_own(office, make_front,
 def test_no_process_of_a_front_is_left(served, authority, room):
     programs = Programs()
     front = Front(programs, room / "front", authority, served.port)
-    started = [front.process.pid, *until(front.workers)]
+    started = [front.process.pid, *front.workers()]
     programs.end_all()
-    assert [] == [it for it in started if os.path.exists(f"/proc/{it}") and "Z" not in state(it)]
+    until(lambda: [] == [it for it in started if state(it) not in ("Z", "X", None)])
 
 
 def state(process):
-    with open(f"/proc/{process}/stat", encoding="ascii", errors="replace") as file:
+    """The letter of a process's state, or None of one that is gone."""
+    with contextlib.suppress(OSError), open(f"/proc/{process}/stat", encoding="ascii", errors="replace") as file:
         return file.read().rpartition(")")[2].split()[0]

@@ -52,6 +52,15 @@ def paced(front, name, count):
 
 # ---- clients that are silent or slow
 
+@pytest.fixture
+def patient(put):
+    """That front with more patience, so that a busy machine may take its time: after ten seconds it would give silent
+    clients up, as test_front shows."""
+    put.configure(*[(f"client_{it}_timeout 10s;", f"client_{it}_timeout 100s;") for it in ("header", "body")])
+    put.reload()
+    return put
+
+
 def is_open(peer):
     """Whether the front has kept a connection on which it has nothing to say."""
     peer.settimeout(0.001)
@@ -90,20 +99,20 @@ def four_hundred_slow(front):
         peer.close()
 
 
-def test_beside_slow_clients_issues_are_answered_at_once(put):
+def test_beside_slow_clients_issues_are_answered_at_once(patient):
     for number in range(5):
-        put.make("caller", f"other-{number}")
-    alone = paced(put, "alone", 20)
-    with four_hundred_slow(put) as peers:
+        patient.make("caller", f"other-{number}")
+    alone = paced(patient, "alone", 20)
+    with four_hundred_slow(patient) as peers:
         time.sleep(1)
-        beside = paced(put, "beside", 20)
+        beside = paced(patient, "beside", 20)
         held = sum(map(is_open, peers))
     print(f"{PROCESSORS} processors: an issue takes {statistics.median(alone):.1f} ms alone, and beside 200 silent and "
           f"200 dripping clients {statistics.median(beside):.1f} ms, {max(beside):.1f} ms at most")
     assert (400, True) == (held, max(beside) < max(1000, 10 * max(alone)))
 
 
-def test_more_silent_clients_than_nginx_has_room_for_by_itself_are_kept(put):
+def test_more_silent_clients_than_nginx_has_room_for_by_itself_are_kept(patient):
     """By itself it keeps 512 for each of its processes, and ends others for those that come."""
     count = 600 * os.cpu_count()
     if count + 500 > resource.getrlimit(resource.RLIMIT_NOFILE)[0]:
@@ -111,8 +120,8 @@ def test_more_silent_clients_than_nginx_has_room_for_by_itself_are_kept(put):
     with contextlib.ExitStack() as ending:
         silent = select.poll()
         for _ in range(count):
-            silent.register(ending.enter_context(put.connect_plainly()), select.POLLIN)
-        issued(put, "beside")
+            silent.register(ending.enter_context(patient.connect_plainly()), select.POLLIN)
+        issued(patient, "beside")
         assert [] == silent.poll(0)
 
 

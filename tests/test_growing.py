@@ -89,11 +89,14 @@ def test_a_snapshot_of_a_frozen_file_system_has_each_answer_before_it(program, m
             time.sleep(0.3)
             if run(["fsfreeze", "-f", folder]).returncode:
                 left_out("no file system may be frozen here")
-            answered = issuing.serials[:]
             # A file of its own: a loop device that still has the last one would give blocks of both.
             copied = room / f"copy-{number}.img"
-            run(["cp", "--sparse=always", image, copied], check=True)
-            run(["fsfreeze", "-u", folder], check=True)
+            try:
+                answered = issuing.serials[:]
+                run(["cp", "--sparse=always", image, copied], check=True)
+            finally:
+                # Otherwise the office would never end.
+                run(["fsfreeze", "-u", folder], check=True)
             run(["mount", "-o", "loop", copied, copy], check=True)
             assert_is_whole(program, copy / "office.db", answered)
             run(["umount", copy], check=True)

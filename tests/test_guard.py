@@ -249,7 +249,7 @@ class Given:
         words = [self.program, "judge", "--db", guard.db, "--policy", self.room / f"policy-{call.policy}", "--ahead",
                  str(call.ahead), *(["-"] if call.is_asked else paths)]
         environment = os.environ | {"LD_PRELOAD": str(self.library), "MOMENT": str(call.moment)}
-        done = subprocess.run(words, env=environment, capture_output=True, timeout=100, cwd=self.room,
+        done = subprocess.run(words, env=environment, capture_output=True, timeout=800, cwd=self.room,
                               input="".join(f"{it}\n" for it in paths).encode() if call.is_asked else b"")
         assert (0, b"") == (done.returncode, done.stderr)
         return done.stdout.decode().splitlines()

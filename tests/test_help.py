@@ -11,7 +11,7 @@ import subprocess
 import pytest
 
 from asking import CA, get
-from running import EXAMPLES, ROWS, TOP, Served, rows, run, said
+from running import EXAMPLES, ROWS, TOP, Served, free_port, rows, run, said
 
 TEXTS = rows("help")
 HELP = {words: it["text"] for it in TEXTS["help"] for words in it["words"]}
@@ -102,16 +102,20 @@ def test_the_example_of_a_migration(founded, example, shell):
 
 
 def test_the_example_of_a_server(founded, example, program, programs):
-    """It answers as many connections as it says, and ends with 0. Meanwhile the file is its own."""
+    """It answers as many connections as it says, and ends with 0. Meanwhile the file is its own. Another program may
+    have the example's port here, so it is run at one that is free."""
     line, = examples(program, "serve")
-    port, count = (int(re.search(rf"--{it} (\d+)", line)[1]) for it in ("port", "connections"))
+    assert 1 == line.count("--port 8022 ")
+    port = free_port()
+    line = line.replace("--port 8022 ", f"--port {port} ")
+    count = int(re.search(r"--connections (\d+)", line)[1])
     server = programs.begin(line.split(), stdout=subprocess.PIPE, stderr=subprocess.PIPE)
     assert b"listening %d\n" % port == server.stdout.readline()
     for command in ("krl", "signers", "table"):
         assert (1, True) == example(command, "sshoffice: Device\n"), command
     served = Served(None, server, port)
     assert [200] * count == [served.ask(get("/v1/krl")).status for _ in range(count)]
-    assert (b"", b"", 0) == (*server.communicate(timeout=20), server.returncode)
+    assert (b"", b"", 0) == (*server.communicate(timeout=60), server.returncode)
 
 
 def test_the_version_names_a_toolchain_that_readme_names(program):

@@ -78,7 +78,7 @@ def renewed(host, station, due, *words, when=()):
     return told
 
 
-@pytest.mark.timeout(300)
+@pytest.mark.timeout(900)
 def test_a_host_gets_its_certificate_and_renews_it_when_two_thirds_are_over(host, station):
     if not shutil.which("faketime"):
         left_out("faketime isn't installed")

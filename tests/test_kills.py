@@ -73,7 +73,7 @@ def test_commands_are_killed(used):
 def whole(served, request):
     """The whole response, or None where the connection failed."""
     with contextlib.suppress(OSError):
-        return served.ask(request, timeout=5).whole()
+        return served.ask(request).whole()
     return None
 
 

@@ -234,7 +234,7 @@ def bad_lines(tmp_path_factory):
     (folder / "HANDLES").write_text("Handles allowed: none.\n")
 
     (made / "texts").write_bytes(b"".join(string(it) for _, it, _ in POSTED + PRINTED))
-    return [*map(int, run(["rt", "try", "--", "texts"], cwd=made, timeout=500, check=True).stdout.split())]
+    return [*map(int, run(["rt", "try", "--", "texts"], cwd=made, timeout=1400, check=True).stdout.split())]
 
 
 @pytest.mark.slow

@@ -18,28 +18,29 @@ pytestmark = [pytest.mark.slow, pytest.mark.xdist_group("openssh")]
 WEB = department("web", principals="*@example.org,alice,bob", namespaces="file,git", **EVERYTHING)
 DB = department("db", kind="host", admins="", principals="*.example.org")
 NOW = int(time.time())
-HOUR = {"after": NOW - 60, "before": NOW + 3600}
+# As the tests may take long, nothing ends within hours.
+HOURS = {"after": NOW - 60, "before": NOW + 36000}
 
 # Certificates, from the serial 7 on: who asks, the key id, the principals, the validity, options and extensions.
 FIRST = 7
 ASKED = [
-    ("ana", "web/alice", "alice", HOUR, (), ()),
-    ("ana", "web/bob", "bob", HOUR, (), ("permit-pty",)),
-    ("root", "web/both", "alice,bob,x@example.org", {"after": 1000, "before": NOW + 2000}, (), EXTENSIONS),
-    ("root", 'web/~!"#', "alice", {"after": 0, "before": NOW + 2000}, ("force-command /usr/bin/uptime -p",),
+    ("ana", "web/alice", "alice", HOURS, (), ()),
+    ("ana", "web/bob", "bob", HOURS, (), ("permit-pty",)),
+    ("root", "web/both", "alice,bob,x@example.org", {"after": 1000, "before": NOW + 20000}, (), EXTENSIONS),
+    ("root", 'web/~!"#', "alice", {"after": 0, "before": NOW + 20000}, ("force-command /usr/bin/uptime -p",),
      ("permit-user-rc",)),
     ("ana", "web/net", "bob", {"after": 1000, "before": LATEST}, ("source-address 10.0.0.0/8,192.0.2.7/32",), ()),
     ("ana", "web/fido", "bob", {"after": 1, "before": 4102444800}, ("verify-required",), ("no-touch-required",)),
-    ("ana", "web/all", "alice", {"after": 1000, "before": NOW + 2000},
+    ("ana", "web/all", "alice", {"after": 1000, "before": NOW + 20000},
      ("verify-required", "source-address 0.0.0.0/0", "force-command /bin/true"), EXTENSIONS),
-    ("root", "db/host", "a.example.org,b.example.org", HOUR, (), ()),
-    ("ana", "web/alice", "alice", {"after": NOW + 1000, "before": NOW + 4000}, (), ()),
+    ("root", "db/host", "a.example.org,b.example.org", HOURS, (), ()),
+    ("ana", "web/alice", "alice", {"after": NOW + 1000, "before": NOW + 40000}, (), ()),
 ]
 # Those that come after another CA.
 LATER = [
-    ("ana", "web/new", "alice", HOUR, (), ("permit-pty",)),
-    ("root", "db/new", "c.example.org", HOUR, (), ()),
-    ("ana", "web/bob", "bob", HOUR, (), ()),
+    ("ana", "web/new", "alice", HOURS, (), ("permit-pty",)),
+    ("root", "db/new", "c.example.org", HOURS, (), ()),
+    ("ana", "web/bob", "bob", HOURS, (), ()),
 ]
 SERIALS = range(FIRST, FIRST + len(ASKED) + len(LATER))
 

@@ -119,7 +119,7 @@ def copy(program, room):
 
 
 @pytest.mark.slow
-@pytest.mark.timeout(1000)
+@pytest.mark.timeout(1800)
 @pytest.mark.parametrize("page", [page for page in PAGES if commands_of(page)])
 def test_the_commands_of_a_page_print_what_it_shows(page, copy):
     commands = commands_of(page)

@@ -94,7 +94,7 @@ class Server:
     def client(self, request, is_small=False):
         """A client that has connected and written this."""
         peer = socket.socket()
-        peer.settimeout(30)
+        peer.settimeout(60)
         if is_small:
             peer.setsockopt(socket.SOL_SOCKET, socket.SO_RCVBUF, 1)
         peer.connect(("127.0.0.1", self.port))

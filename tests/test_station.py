@@ -24,7 +24,7 @@ from asking import (LAST_SERIAL, LATEST, blob_of, body, department, digest_of, i
 from fetching import Web, response, silent
 from recording import whole_request
 from running import EXAMPLES, free_port, is_listening, loaded, preloaded, run, until, write_secret
-from stations import Guard, Lists, Station, new_guard, new_station, stopped
+from stations import Guard, Lists, Station, begin_agent, new_guard, new_station, stopped
 
 WEB = department("web", principals="alice", extensions="permit-pty")
 
@@ -201,8 +201,9 @@ def alone(sshstation, make_office):
 def shown(guard, bodies, rows=None, broken=(), **how):
     """What a station signs of the bodies of a false office, and what it says."""
     with FalseOffice(bodies, rows, broken) as false:
-        how = {"ahead": 3600} | how
-        status, out, errors = Station(guard, false.url, guard.key, **how).once()
+        station = Station(guard, false.url, guard.key, **{"ahead": 3600} | how)
+        station.speaks_at_the_end_of_a_round()
+        status, out, errors = station.once()
         return status, out, errors, false.delivered
 
 
@@ -345,6 +346,7 @@ def test_short_lines_take_no_more_memory_than_long_ones(alone):
 
 
 @pytest.mark.slow
+@pytest.mark.timeout(1500)
 def test_the_memory_of_the_unit_suffices_for_as_many_rows_as_are_read(alone, programs):
     """Each has a reason of its own, of which a false office makes up as many as it likes: that takes the most. Beside
     the station there is room for a guard with a million certificates, of which docs/GROWING.md has the size, and for
@@ -355,7 +357,7 @@ def test_the_memory_of_the_unit_suffices_for_as_many_rows_as_are_read(alone, pro
         station.change("body = self.bodies.get(row)\n",
                        'raise OSError(3 * " ".join(re.findall(8 * ".", digest)))\n')
         process = station.begin(programs, stderr=subprocess.DEVNULL)
-        web.begins_rounds(3, seconds=500)
+        web.begins_rounds(3, seconds=1400)
         [peak] = re.findall(r"^VmHWM:\s+(\d+) kB$", pathlib.Path(f"/proc/{process.pid}/status").read_text(), re.M)
     unit = (EXAMPLES / "systemd/office-station@.service").read_text()
     [limit] = re.findall(r"^MemoryMax=(\d+)G$", unit, re.M)
@@ -431,7 +433,9 @@ def test_an_office_that_has_many_reasons_is_not_quoted_without_end(alone):
             peer.sendall(response(self.rows.encode()) if b"/pending " in came else b"")
 
     with Inventive({serial: b"" for serial in range(1, 31)}) as web:
-        status, out, errors = Station(alone, web.url, alone.key).once()
+        station = Station(alone, web.url, alone.key)
+        station.speaks_at_the_end_of_a_round()
+        status, out, errors = station.once()
         assert (1, [], 21) == (status, out, len(errors))
         assert ["station: not signed: 1, 500 reason 20: 20", "station: not signed: 10, for other reasons: 21-30"
                 ] == errors[19:]
@@ -571,7 +575,7 @@ def test_a_silent_name_server_is_given_up(alone, programs, room):
     # The next round waits for the name too.
     time.sleep(3)
     process.send_signal(signal.SIGTERM)
-    assert 0 == process.wait(20)
+    assert 0 == process.wait(60)
 
 
 def test_a_name_is_looked_up(alone):
@@ -706,7 +710,9 @@ def test_what_is_refused_in_the_place_of_another_is_said(alone, programs):
     later = FAR[-1] + 2
     with FalseOffice({serial: body(serial, ca=alone.blob, **ROOT) for serial in [*FAR, later]}) as web:
         web.shows(FAR)
-        process = Station(alone, web.url, alone.key).begin(programs)
+        station = Station(alone, web.url, alone.key)
+        station.speaks_at_the_end_of_a_round()
+        process = station.begin(programs)
         begins = b"station: not signed: 60, refused as NotPermitted: %d, %d, " % (*FAR[:2],)
         until(lambda: next_line(process.stderr).startswith(begins), seconds=60)
         web.shows([*FAR[:-1], later])
@@ -738,9 +744,10 @@ def test_a_signature_that_is_not_taken_is_shown_apart(alone):
 
     bodies = {serial: b"" for serial in range(1, 23)} | {it: body(it, ca=alone.blob) for it in range(101, 123)}
     with Hiding(bodies) as web:
-        status, out, errors = Station(alone, web.url, alone.key).once()
+        station = Station(alone, web.url, alone.key)
+        station.speaks_at_the_end_of_a_round()
+        status, out, errors = station.once()
     assert (1, []) == (status, out)
-    # A long round shows some of them earlier, too.
     assert [f"station: not signed: 1, 500 reason {it}: {it}" for it in range(1, 21)] + [
         "station: not signed: 2, for other reasons: 21-22"
     ] + [f"station: not signed: 1, its signature isn't taken: 500 reason {it}: {it + 78}" for it in range(23, 43)] + [
@@ -955,12 +962,12 @@ def test_a_station_goes_on(asked, programs, room):
     new_key("alice")
     process = asked.station.begin(programs)
     assert 1 == issued(asked, "alice")
-    until(lambda: asked.get("/v1/certs/1").status == 200, seconds=20)
+    until(lambda: asked.get("/v1/certs/1").status == 200)
     # The office permits bob, and the guard doesn't yet.
     asked.post("root", "web-2", department("web", principals="alice,bob", extensions="permit-pty"))
     assert 2 == issued(asked, "alice", principals="bob")
     assert 3 == issued(asked, "alice")
-    until(lambda: asked.get("/v1/certs/3").status == 200, seconds=20)
+    until(lambda: asked.get("/v1/certs/3").status == 200)
     time.sleep(2.5)
     assert 409 == asked.get("/v1/certs/2").status
     asked.guard.permit(department("web", principals="alice,bob", extensions="permit-pty"))
@@ -973,10 +980,16 @@ def test_a_station_goes_on(asked, programs, room):
 def test_a_station_whose_temporary_files_are_removed_goes_on(alone, programs, room):
     """A program that looks for old files removes what lies there for long. Without a folder to make any in, nothing is
     signed, and that is said once."""
+    class Forgetful(FalseOffice):
+        """Nothing is pending any more once a signature has come, so no further round makes a folder."""
+        def answer_to(self, delivery):
+            self.rows = ""
+            return super().answer_to(delivery)
+
     bodies = {serial: body(serial, ca=alone.blob) for serial in (1, 2)}
     folder = room / "temporary"
     folder.mkdir()
-    with FalseOffice(bodies, []) as web:
+    with Forgetful(bodies, []) as web:
         station = Station(alone, web.url, alone.key, ahead=3600)
         process = station.begin(programs, env=station.environment | {"TMPDIR": str(folder)})
 
@@ -984,7 +997,6 @@ def test_a_station_whose_temporary_files_are_removed_goes_on(alone, programs, ro
             web.rows = f"{serial} {digest_of(bodies[serial])}\n"
         pends(1)
         until(lambda: web.delivered, seconds=60)
-        web.rows = ""
         until(lambda: [] == [*folder.iterdir()], seconds=60)
         folder.rmdir()
         pends(2)
@@ -1002,25 +1014,27 @@ def test_a_station_waits_for_an_office_that_is_away(sshstation, office, programs
     port = free_port()
     made = new_station(sshstation, office, f"http://127.0.0.1:{port}", policy=WEB)
     process = made.begin(programs)
-    time.sleep(2)
+    away = f"station: http://127.0.0.1:{port} doesn't answer: "
+    assert next_line(process.stderr).decode().startswith(away)
     with office.serving(port=port) as served:
         served.post("root", "web", WEB)
         new_key("alice")
         issued(served, "alice")
-        until(lambda: served.get("/v1/certs/1").status == 200, seconds=20)
+        until(lambda: served.get("/v1/certs/1").status == 200)
     status, out, errors = stopped(process, lines=1)
     assert (0, ["signed 1"]) == (status, out)
-    assert all(it.startswith(f"station: http://127.0.0.1:{port} doesn't answer: ") for it in errors)
-    assert 1 <= len(errors) <= 4
+    assert all(it.startswith(away) for it in errors) and len(errors) <= 3
 
 
 def test_a_station_ends_with_its_guard(asked, programs):
+    def is_guard(pid):
+        with contextlib.suppress(OSError):
+            return b"judge" in pathlib.Path(f"/proc/{pid}/cmdline").read_bytes().split(b"\0")
+
     process = asked.station.begin(programs)
-    until(lambda: b"judge" in b"".join(pathlib.Path(f"/proc/{it}/cmdline").read_bytes()
-                                       for it in children(process.pid)))
-    for it in children(process.pid):
-        os.kill(it, signal.SIGKILL)
-    assert 1 == process.wait(20)
+    [guard] = until(lambda: [it for it in children(process.pid) if is_guard(it)])
+    os.kill(guard, signal.SIGKILL)
+    assert 1 == process.wait(60)
     assert b"station: the guard has ended with status -9\n" == process.stderr.read()
 
 
@@ -1041,6 +1055,8 @@ def test_a_station_that_is_killed_signs_all_the_same(asked, programs):
         time.sleep(random.uniform(0, 1))
         os.killpg(process.pid, signal.SIGKILL)
         process.wait()
+    # The last guard may end a moment after its station, and has its file up to then.
+    until(lambda: 0 == asked.guard.run("bodies", "--db", asked.guard.db)[0])
     asked.station.sign()
     assert b"" == asked.get("/v1/pending").body
     assert digests == {serial: digest for serial, digest, *_ in asked.guard.bodies()}
@@ -1051,7 +1067,7 @@ def test_two_stations_of_one_guard_are_one_too_many(asked, programs):
     process = asked.station.begin(programs)
     new_key("alice")
     issued(asked, "alice")
-    until(lambda: asked.get("/v1/certs/1").status == 200, seconds=20)
+    until(lambda: asked.get("/v1/certs/1").status == 200)
     status, out, errors = asked.station.once()
     assert (1, [], "sshstation: Device") == (status, out, errors[0])
     assert (1, b"", b"sshstation: Device\n") == asked.guard.run("bodies", "--db", asked.guard.db)
@@ -1148,14 +1164,14 @@ def test_a_guard_from_an_old_copy_may_approve_a_second_body(alone, room, sshstat
 def test_an_approval_without_a_signature_outlives_the_policy(alone):
     """The right key is away, a false office has bodies approved, and the key comes back after the policy was narrowed,
     or after a body has ended. `bodies` shows both."""
-    before = int(time.time()) + 15
+    before = int(time.time()) + 30
     bodies = {1: body(ca=alone.blob), 2: body(2, ca=alone.blob, before=before)}
     run(["openssl", "genpkey", "-algorithm", "ed25519", "-out", "other.pem"], check=True)
     alone.key = ["--key", "other.pem"]
     said = "station: not signed: 2, the key isn't the CA's: its signature doesn't verify: 1-2"
     assert (1, [], [said], []) == shown(alone, bodies)
     alone.permit(department("web", principals="bob", extensions="permit-pty"))
-    until(lambda: time.time() > before + 1, seconds=30)
+    until(lambda: time.time() > before + 1)
     assert ["1", "2"] == [it[0] for it in alone.bodies()]
     alone.key = ["--key", alone.key_file]
     assert (0, ["signed 1", "signed 2"], []) == shown(alone, bodies)[:3]
@@ -1178,9 +1194,7 @@ def served_with(make_office, sshstation, line, key, room, **environment):
 
 def test_a_key_in_an_agent_signs(make_office, sshstation, sshd, programs, room):
     new_key("ca")
-    programs.begin(["ssh-agent", "-D", "-a", room / "agent"])
-    until((room / "agent").exists)
-    agent = {"SSH_AUTH_SOCK": str(room / "agent")}
+    agent = begin_agent(programs, room / "agent")
     run(["ssh-add", "-q", "ca"], env=os.environ | agent, check=True)
     # The agent has the key, and no file has it any more.
     (room / "ca").unlink()
@@ -1190,13 +1204,12 @@ def test_a_key_in_an_agent_signs(make_office, sshstation, sshd, programs, room):
 
 
 def test_an_agent_without_the_key_signs_nothing(alone, programs, room):
-    programs.begin(["ssh-agent", "-D", "-a", room / "agent"])
-    until((room / "agent").exists)
+    agent = begin_agent(programs, room / "agent")
     alone.key = ["--agent", alone.ca]
     with FalseOffice({1: body(ca=alone.blob)}) as false:
         said = ["station: not signed: 1, the agent doesn't sign with this key: 1"]
         made = Station(alone, false.url, alone.key)
-        assert (1, [], said) == made.once(SSH_AUTH_SOCK=str(room / "agent"))
+        assert (1, [], said) == made.once(**agent)
         status, _, errors = made.once(SSH_AUTH_SOCK=str(room / "nobody"))
         assert (1, True) == (status, "No such file" in errors[0])
 
@@ -1283,7 +1296,7 @@ def test_a_rollover_with_two_stations(asked, make_office, sshstation, programs, 
     stations = [Station(it, asked.url, ["--key", key], other_cas=[cas], ahead=3600) for it, key in zip(guards, keys)]
     running = [it.begin(programs) for it in stations]
     assert [2, 3] == [issued(asked, "later"), issued(asked, "later")]
-    until(lambda: asked.get("/v1/pending").body == b"", seconds=20)
+    until(lambda: asked.get("/v1/pending").body == b"")
     certificate_of(asked, 3, "later")
     until(lambda: all(children(it.pid) for it in running), seconds=60)
     ended = [stopped(running[0]), stopped(running[1], lines=2)]

@@ -120,4 +120,4 @@ def test_a_trial_leaves_the_memory_that_other_work_is_about_to_take(room, monkey
         (room / "left").write_text("6")
         with memory.turn:
             memory.turn.notify_all()
-        assert begun.wait(10)
+        assert begun.wait(60)

@@ -256,7 +256,7 @@ def test_an_interrupt_keeps_the_message(clients, served, alice):
     [kept] = until(ana.kept, 60)
     time.sleep(0.5)
     asking.send_signal(signal.SIGINT)
-    out, told = asking.communicate(timeout=20)
+    out, told = asking.communicate(timeout=60)
     os.kill(served.process.pid, signal.SIGCONT)
     assert (3, "", "vethlumi: interrupted; a message that was sent is kept: run this again\n") == (
         asking.returncode, out, told)
