@@ -8,6 +8,8 @@ import pytest
 
 from running import TOP
 
+pytestmark = pytest.mark.slow
+
 # A test that fails when it runs for the first time.
 UNSTEADY = """
 import pathlib
