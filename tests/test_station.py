@@ -14,6 +14,7 @@ import signal
 import socket
 import stat
 import subprocess
+import sys
 import threading
 import time
 
@@ -23,7 +24,7 @@ from asking import (LAST_SERIAL, LATEST, blob_of, body, department, digest_of, i
                     revoke_range, rollover, string)
 from fetching import Web, response, silent
 from recording import whole_request
-from running import EXAMPLES, free_port, is_listening, loaded, preloaded, run, until, write_secret
+from running import EXAMPLES, TOP, free_port, is_listening, loaded, preloaded, run, until, write_secret
 from stations import Guard, Lists, Station, begin_agent, new_guard, new_station, stopped
 
 WEB = department("web", principals="alice", extensions="permit-pty")
@@ -581,6 +582,29 @@ def test_a_silent_name_server_is_given_up(alone, programs, room):
 def test_a_name_is_looked_up(alone):
     with FalseOffice({1: body(ca=alone.blob)}) as web:
         assert (0, ["signed 1"], []) == Station(alone, f"http://localhost:{web.port}", alone.key).once()
+
+
+OFTEN_AT_THE_END = """
+import random, signal, sys, time, pathlib
+sys.path.insert(0, sys.argv[1])
+from running import loaded
+station, ends = loaded(pathlib.Path(sys.argv[2])), [0, 0]
+for _ in range(5000):
+    end = time.perf_counter() + 0.0003 + random.uniform(-5e-6, 20e-6)
+    try:
+        station.at_most(0.0003, lambda: [None for _ in iter(lambda: time.perf_counter() < end, False)])
+        ends[0] += 1
+    except OSError:
+        ends[1] += 1
+    assert (0, 0) == signal.getitimer(signal.ITIMER_REAL)
+print(*(it > 0 for it in ends))
+"""
+
+
+def test_an_alarm_at_the_end_of_what_is_limited_is_no_other_fault():
+    """In a process of its own, where no test has an alarm. Those that come as the work ends come at any of its steps."""
+    done = run([sys.executable, "-c", OFTEN_AT_THE_END, TOP / "tests", EXAMPLES / "station"])
+    assert (0, b"True True\n", b"") == (done.returncode, done.stdout, done.stderr)
 
 
 def test_what_is_another_text_each_time_is_left_out():
