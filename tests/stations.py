@@ -1,6 +1,7 @@
 """The signing station of examples/station, with the guard beside its key."""
 import os
 import pathlib
+import shutil
 import signal
 import subprocess
 
@@ -110,6 +111,12 @@ class Station:
         copy.write_text(text.replace(old, new))
         copy.chmod(0o755)
         self.words[0] = copy
+
+    def verifies_with(self, text):
+        """Has it run these lines of the shell in place of openssl, wherever a signature is verified."""
+        program = self.folder / "openssl"
+        program.write_text(f'#!/bin/sh\ncase "$*" in *-verify*)\n{text}\nesac\nexec {shutil.which("openssl")} "$@"\n')
+        program.chmod(0o755)
 
     def speaks_at_the_end_of_a_round(self):
         """Has it say what it leaves once it has looked at all, however long that takes: after five seconds it would

@@ -241,6 +241,19 @@ def test_it_is_published_again_and_again(site, programs):
     assert (0, ["published 3", "published 4"], []) == stopped(process)
 
 
+@pytest.mark.parametrize("every, is_taken", [(1, True), (3600, False)], ids=["published", "not taken"])
+def test_it_is_published_in_time_between_two_rounds(site, programs, every, is_taken):
+    """However long a station waits until it looks for certificates again: else statements would grow old, and a front
+    that was away for a moment would have none."""
+    with FalseFront(site.old, "204 No Content" if is_taken else "503 Away") as front:
+        station = site.station_of(front, "127.0.0.1")
+        station.change("PAUSE_OF_LISTS = 60, 10", "PAUSE_OF_LISTS = 60, 1")
+        process = station.begin(programs, "--publish-every", every, "--interval", 3600)
+        until(lambda: len(front.taken) > 2, seconds=60)
+        assert 1 == sum(it.startswith(b"GET /v1/pending ") for it in front.requests)
+        assert 0 == stopped(process)[0]
+
+
 # ---- several fronts of one name
 
 ONE, TWO, THREE = "127.0.0.1", "127.0.0.2", "127.0.0.3"

@@ -778,11 +778,29 @@ def test_a_signature_that_is_not_taken_is_shown_apart(alone):
         "station: not signed: 2, its signature isn't taken, for other reasons: 121-122"] == errors[-42:]
 
 
+NOT_VERIFIED = [
+    ("echo openssl: error while loading shared libraries: failed to map segment >&2; exit 127",
+     "error while loading shared libraries: failed to map segment"), ("kill -9 $$", "status -9"), ("exit 1", "status 1"),
+    ("echo Signature Verification Failure; echo Error reading raw input data >&2; exit 1",
+     "Error reading raw input data"),
+]
+
+
 def test_another_key_than_the_cas_delivers_nothing(alone):
     run(["openssl", "genpkey", "-algorithm", "ed25519", "-out", "other.pem"], check=True)
     alone.key = ["--key", "other.pem"]
     said = "station: not signed: 1, the key isn't the CA's: its signature doesn't verify: 1"
     assert (1, [], [said], []) == shown(alone, {1: body(ca=alone.blob)})
+
+
+@pytest.mark.parametrize("lines, why", NOT_VERIFIED)
+def test_what_keeps_openssl_from_verifying_is_said(alone, lines, why):
+    """Such as a lack of memory. It says nothing of the key."""
+    with FalseOffice({1: body(ca=alone.blob)}) as web:
+        station = Station(alone, web.url, alone.key)
+        station.verifies_with(lines)
+        assert (1, [], [f"station: not signed: 1, openssl: {why}: 1"]) == station.once()
+        assert [] == web.delivered
 
 
 # ---- words
