@@ -526,6 +526,21 @@ def test_tables_that_somebody_changed_are_named_and_left(guard, room, change, fa
             assert before == [*tables.iterdump()], words
 
 
+@pytest.mark.parametrize("made", [
+    lambda: body(4)[:-1], lambda: body(4) + b"\0", lambda: b"I owe you 1000 euros", lambda: b""],
+    ids=["cut off", "one byte more", "a text", "nothing"])
+def test_a_row_whose_body_is_no_certificate_is_named(guard, room, made):
+    """It has the form of a row. Nobody but whoever can change the file makes one, since the guard approves none."""
+    put(room, a=body(3))
+    assert sign(3, body(3)) == guard.judge("a")[1]
+    with contextlib.closing(sqlite3.connect("guard.db")) as tables, tables:
+        tables.execute("INSERT INTO approved VALUES (4, 1000000000, ?)", [made()])
+        before = [*tables.iterdump()]
+    assert (1, "sshstation: Damaged\n") == guard.run("bodies", "--db", "guard.db")[::2]
+    with contextlib.closing(sqlite3.connect("guard.db")) as tables:
+        assert before == [*tables.iterdump()]
+
+
 def test_an_office_is_no_guard(guard, program, room):
     made = run([program, "init", "--db", "office.db", "--ca", "ca.pub", "--root", "root", "--station", "station",
                 "--first", 1, "--last", 9])
