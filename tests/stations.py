@@ -112,6 +112,16 @@ class Station:
         copy.chmod(0o755)
         self.words[0] = copy
 
+    def notes_the_end_of_a_guard(self):
+        """Has the status of a guard that has ended in the file `ended`. A shell would let signals through that its
+        caller has blocked."""
+        self.ended, program = self.folder / "ended", self.folder / "sshstation"
+        program.unlink()
+        program.write_text(f"#!/usr/bin/python3 -I\nimport subprocess, sys\n"
+                           f"status = subprocess.call(['{self.guard.program}', *sys.argv[1:]])\n"
+                           f"open('{self.ended}', 'w').write(f'{{status}}')\nsys.exit(status)\n")
+        program.chmod(0o755)
+
     def verifies_with(self, text):
         """Has it run these lines of the shell in place of openssl, wherever a signature is verified."""
         program = self.folder / "openssl"

@@ -17,6 +17,7 @@ import subprocess
 import sys
 import threading
 import time
+import types
 
 import pytest
 
@@ -602,7 +603,8 @@ print(*(it > 0 for it in ends))
 
 
 def test_an_alarm_at_the_end_of_what_is_limited_is_no_other_fault():
-    """In a process of its own, where no test has an alarm. Those that come as the work ends come at any of its steps."""
+    """In a process of its own, where no test has an alarm. Those that come as the work ends come at each of its steps.
+    """
     done = run([sys.executable, "-c", OFTEN_AT_THE_END, TOP / "tests", EXAMPLES / "station"])
     assert (0, b"True True\n", b"") == (done.returncode, done.stdout, done.stderr)
 
@@ -780,7 +782,8 @@ def test_a_signature_that_is_not_taken_is_shown_apart(alone):
 
 NOT_VERIFIED = [
     ("echo openssl: error while loading shared libraries: failed to map segment >&2; exit 127",
-     "error while loading shared libraries: failed to map segment"), ("kill -9 $$", "status -9"), ("exit 1", "status 1"),
+     "error while loading shared libraries: failed to map segment"),
+    ("kill -9 $$", "status -9"), ("exit 1", "status 1"),
     ("echo Signature Verification Failure; echo Error reading raw input data >&2; exit 1",
      "Error reading raw input data"),
 ]
@@ -913,6 +916,38 @@ def test_a_secret_that_others_can_use_later_is_refused(alone, programs, room, se
         assert 1 == process.wait(60)
         said = b"station: secret has mode 644, which lets others use it: chmod 600 secret\n"
         assert (b"", said, 1) == (process.stdout.read(), process.stderr.read(), len(web.delivered))
+
+
+@pytest.mark.parametrize("file", ["policy", "db", "cas"])
+def test_a_file_that_others_can_change_is_refused(alone, programs, file):
+    """At the start, before anything is signed, and in each round. What others can only read is taken."""
+    cas = alone.db.with_name("cas")
+    shutil.copy(alone.ca, cas)
+    path = {"policy": alone.policy, "db": alone.db, "cas": cas}[file]
+    with FalseOffice({1: body(ca=alone.blob)}) as web:
+        station = Station(alone, web.url, alone.key, other_cas=[cas])
+        for mode in (0o664, 0o646):
+            path.chmod(mode)
+            said = [f"station: {path} has mode {mode:o}, which lets others change it: chmod go-w {path}"]
+            assert (1, [], said, []) == (*station.once(), web.requests)
+        path.chmod(0o644)
+        process = station.begin(programs)
+        assert b"signed 1\n" == process.stdout.readline()
+        path.chmod(0o664)
+        assert (1, b"") == (process.wait(60), process.stdout.read())
+        assert [b"664"] == re.findall(rb" has mode (\d+), which lets others change it", process.stderr.read())
+
+
+@pytest.mark.parametrize("owner, mode, user, is_taken", [
+    (1000, 0o600, 1000, True), (0, 0o644, 1000, True), (0, 0o640, 1000, True), (0, 0o644, 0, True),
+    (0, 0o664, 1000, False), (1000, 0o602, 1000, False), (1001, 0o644, 1000, False), (1000, 0o644, 0, False),
+])
+def test_root_and_the_stations_user_may_change_its_files(monkeypatch, owner, mode, user, is_taken):
+    station = loaded(EXAMPLES / "station")
+    found = os.stat_result([stat.S_IFREG | mode, 0, 0, 1, owner, owner, *[0] * 4])
+    monkeypatch.setattr(station, "os", types.SimpleNamespace(stat=lambda path: found, getuid=lambda: user))
+    with contextlib.nullcontext() if is_taken else pytest.raises(station.Fault, match="change it"):
+        station.check_kept("policy")
 
 
 NEEDED = ["sshstation", "openssl", "getent", "pkcs11-tool"]
@@ -1102,6 +1137,45 @@ def test_a_station_that_is_killed_signs_all_the_same(asked, programs):
     asked.station.sign()
     assert b"" == asked.get("/v1/pending").body
     assert digests == {serial: digest for serial, digest, *_ in asked.guard.bodies()}
+
+
+@pytest.mark.parametrize("sign, status, to_all", [
+    (signal.SIGTERM, 0, False), (signal.SIGTERM, 0, True), (signal.SIGINT, 130, True)],
+    ids=["a stop", "a stop of all processes", "the interrupt of a terminal"])
+def test_a_station_that_is_told_to_end_lets_its_guard_end(alone, programs, sign, status, to_all):
+    """It closes its file and copies the log, also if the signal is sent to it as well."""
+    page = 4096
+    with FalseOffice({1: body(ca=alone.blob)}) as web:
+        station = Station(alone, web.url, alone.key)
+        station.notes_the_end_of_a_guard()
+        process = station.begin(programs)
+        assert b"signed 1\n" == process.stdout.readline()
+        web.shows([])
+        web.begins_rounds(2)
+        log = alone.db.with_name("guard.db-wal")
+        assert page < log.stat().st_size
+        (os.killpg if to_all else os.kill)(process.pid, sign)
+        assert status == process.wait(60)
+        assert "0" == station.ended.read_text()
+        assert not log.exists() or log.stat().st_size < page
+        assert b"" == process.stderr.read()
+
+
+def test_a_station_that_is_told_to_end_lets_its_guard_judge_to_the_end(alone, programs):
+    """The body's file is there until then. A guard that doesn't end is killed, and that is said."""
+    with FalseOffice({1: body(ca=alone.blob)}, []) as web:
+        station = Station(alone, web.url, alone.key)
+        station.change("LONGEST_ENDING = 600, 60", "LONGEST_ENDING = 600, 2")
+        process = station.begin(programs)
+        until(lambda: web.requests, seconds=60)
+        [guard] = children(process.pid)
+        os.kill(guard, signal.SIGSTOP)
+        web.shows([1])
+        until(lambda: any(b"/body " in it for it in web.requests), seconds=60)
+        time.sleep(1)
+        status, out, errors = stopped(process)
+    assert (0, []) == (status, out)
+    assert ["station: the guard is killed: not within 2 seconds"] == errors
 
 
 def test_two_stations_of_one_guard_are_one_too_many(asked, programs):

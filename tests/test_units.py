@@ -6,7 +6,7 @@ import shutil
 
 import pytest
 
-from running import EXAMPLES, TOP, left_out, run
+from running import EXAMPLES, TOP, left_out, loaded, run
 
 UNITS, VOLUME = EXAMPLES / "systemd", EXAMPLES / "volume"
 NAMES = sorted(it.name for it in UNITS.iterdir() if it.suffix in (".service", ".socket", ".timer"))
@@ -76,6 +76,15 @@ def test_no_memory_image_is_written_and_memory_is_limited(unit):
 def test_a_station_goes_on_if_a_program_of_its_own_is_killed_for_memory():
     """Otherwise systemd stops the station with it. If it was the guard, the station ends, and is started again."""
     assert (["continue"], ["always"]) == tuple(settings("office-station@.service", it) for it in ("OOMPolicy", "Restart"))
+
+
+def test_a_station_ends_its_guards_by_itself():
+    """systemd tells it alone, and waits longer than the station does for both guards."""
+    station = loaded(EXAMPLES / "station")
+    longest = station.LONGEST_STATING + station.LONGEST_ENDING
+    assert ["mixed"] == settings("office-station@.service", "KillMode")
+    [patience] = settings("office-station@.service", "TimeoutStopSec")
+    assert longest < int(patience.removesuffix("s"))
 
 
 @pytest.mark.parametrize("unit", ["office.service", "office-door.service"])
