@@ -235,7 +235,7 @@ def test_an_office_comes_back_after_a_kill_a_reboot_and_a_power_cut(site, office
     wait_until_up(office)
     time.sleep(2.1)
     assert before == table(site)
-    assert "" == office.says("systemctl --failed --no-legend --plain 'office*' 'nginx*' 'ssh*'")
+    assert "" == office.says("systemctl list-units --failed --no-legend --plain 'office*' 'nginx*' 'ssh*'")
 
 
 def test_a_stopped_office_stays_stopped(office):

@@ -1950,7 +1950,7 @@ def test_an_upgrade_keeps_all_and_a_purge_keeps_databases_and_keys(base, package
         solo.run(request.format("after"), timeout=120)
         # A timer may have started one of them while the office was restarted.
         solo.run("systemctl restart office-list office-ca-keys vethlumi-host vethlumi-figures")
-        assert "" == solo.says("systemctl --failed --no-legend --plain 'office*' 'vethlumi*' 'nginx*' 'ssh*'")
+        assert "" == solo.says("systemctl list-units --failed --no-legend --plain 'office*' 'vethlumi*' 'nginx*' 'ssh*'")
         purge(solo)
 
 
