@@ -978,7 +978,7 @@ def test_a_guard_that_cannot_judge_ends_the_station(alone, spoil, why):
 def test_a_guard_that_hangs_ends_the_station(alone, programs):
     with FalseOffice({1: body(ca=alone.blob)}, []) as web:
         station = Station(alone, web.url, alone.key)
-        station.change("LONGEST_JUDGING = 600", "LONGEST_JUDGING = 2")
+        station.change("LONGEST_ENDING = 600, 60", "LONGEST_ENDING = 2, 60")
         process = station.begin(programs)
         until(lambda: web.requests, seconds=60)
         [guard] = children(process.pid)
