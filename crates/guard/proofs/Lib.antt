@@ -5,3 +5,4 @@ pub mod PolicyLines
 pub mod BodyTexts
 pub mod PolicyReadings
 pub mod Retired
+pub mod Reported

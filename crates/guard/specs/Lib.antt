@@ -12,3 +12,5 @@ pub mod PolicyTexts
 pub mod AnswerLines
 pub mod Scopes
 pub mod Retirement
+pub mod Reported
+pub mod Memory

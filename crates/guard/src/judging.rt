@@ -5,6 +5,7 @@ ghost use Rattle.cert.specs.declared.fields.CertFields.{CertFields};
 ghost use Rattle.guard.specs.Decided.{Decided, question};
 ghost use Rattle.guard.specs.Judged.{Answers, HasCause, IsKept};
 ghost use Rattle.guard.specs.Machine.{State, Question, after, fields_of};
+ghost use Rattle.guard.specs.Reported.{PassesOn, reported_by};
 
 use crate::approved::Approved;
 use crate::body::{BodyFault, fields_of};
@@ -51,6 +52,7 @@ fn verdict_on<R: Register>(
         → R.leaves register.new s s }
     ensures cause { R.is_honest register.new → (s : State) → R.keeps register.old s
         → IfErr result (λ e. HasCause e (R.has_failed register.new)) }
+    ensures reported { R.reported register.new ≡ reported_by (R.reported register.old) result }
 {
     let scope = register.scope()?;
     let kept = register.body_of(alloc, fields.serial)?;
@@ -62,6 +64,7 @@ fn verdict_on<R: Register>(
 }
 
 /// Keeps a body, if this verdict requires it.
+#[tactic(auto, using(crate::proofs::Reported::reported_once))]
 fn settle<R: Register>(
     alloc: Global,
     register: &mut R,
@@ -86,6 +89,7 @@ fn settle<R: Register>(
         → fields_of q.body ≡ Some c → q.moment ≡ moment → q.body ≡ body.now → c.serial ≡ serial
         → Decided verdict s q c → s.scope.last < 2 ^ 63 → moment < 2 ^ 63
         → IfErr result (λ e. HasCause e (R.has_failed register.new)) }
+    ensures reported { PassesOn (R.reported register.old) (R.reported register.new) result }
 {
     match verdict {
         Verdict::Approve => {
@@ -122,6 +126,7 @@ fn answer_of(serial: u64, body: &[u8], verdict: Verdict) -> Answer
 }
 
 /// The answer for a body with these fields. The register keeps the body before that, if it is signed.
+#[tactic(auto, using(crate::proofs::Reported::reported_then))]
 fn judge_fields<R: Register>(
     alloc: Global,
     register: &mut R,
@@ -147,6 +152,7 @@ fn judge_fields<R: Register>(
         → R.leaves register.new s (after s (question policy.now window body.now)) }
     ensures cause { R.is_honest register.new → (s : State) → R.keeps register.old s → s.scope.last < 2 ^ 63
         → window.moment < 2 ^ 63 → IfErr result (λ e. HasCause e (R.has_failed register.new)) }
+    ensures reported { PassesOn (R.reported register.old) (R.reported register.new) result }
 {
     let verdict = verdict_on(alloc, register, policy, window, body, fields)?;
     let answer = answer_of(fields.serial, body, verdict);
@@ -199,6 +205,10 @@ pub fn judge<R: Register>(
     // is reported as failed only if its database has failed.
     ensures cause { R.is_honest register.new → (s : State) → R.keeps register.old s → s.scope.last < 2 ^ 63
         → window.moment < 2 ^ 63 → IfErr result (λ e. HasCause e (R.has_failed register.new)) }
+
+    // Whatever the register keeps, a fault that it reports is the one that is returned. Apart from such a fault there
+    // is only a lack of memory.
+    ensures reported { PassesOn (R.reported register.old) (R.reported register.new) result }
 {
     match fields_of(alloc, body) {
         Ok(fields) => {

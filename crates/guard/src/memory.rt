@@ -1,10 +1,10 @@
 //! A guard's register in memory.
 
-ghost use Rattle.std.specs.Prelude.{◌≡◌, ◌==◌, ◌⊎◌, ◌++◌, ◌∷◌, [], List, IfOk, find, option_copied};
+ghost use Rattle.std.specs.Prelude.{◌≡◌, ◌==◌, ◌⊎◌, ◌++◌, ◌∷◌, [], List, IfOk, None, Some, find, option_copied};
 ghost use Rattle.std.proofs.Common.{inl, inr};
 ghost use Rattle.std.specs.Option.{option_map};
 ghost use Rattle.guard.specs.Retiring.{IsFirstFrom};
-ghost use Rattle.guard.specs.State.{State, opened};
+ghost use Rattle.guard.specs.State.{opened};
 
 use crate::approved::Approved;
 use crate::register::{Register, RegisterFault};
@@ -13,20 +13,25 @@ use std::alloc::Global;
 use std::marker::Model;
 use text::{NoMemory, Text};
 
-/// A guard's register as a list in memory. Contracts see it as the state of the reference model.
+/// A guard's register as a list in memory. Contracts see it as the state of the reference model, with the fault that
+/// was reported last.
 #[derive(Drop)]
 pub struct MemoryGuard {
     scope: Scope,
     // in order of approval
     approved: Vec<Approved>,
+    reported: Option<RegisterFault>,
 }
 
 impl Model for MemoryGuard {
-    ghost use Rattle.guard.specs.State.{State};
+    ghost use Rattle.guard.specs.Memory.{Memory};
 
-    ghost Value = { State };
+    ghost Value = { Memory };
 
-    ghost view = { λ g. record { scope = g.scope; approved = g.approved.items } };
+    ghost view = { λ g. record {
+      kept = record { scope = g.scope; approved = g.approved.items };
+      reported = g.reported;
+    } };
 }
 
 fn body_in(approved: &[Approved], serial: u64) -> Option<&Text>
@@ -43,6 +48,15 @@ fn copied(alloc: Global, body: Option<&Text>) -> Result<Option<Text>, NoMemory>
 {
     match body {
         Some(body) => Ok(Some(body.copied(alloc)?)),
+        None => Ok(None),
+    }
+}
+
+fn copied_row(alloc: Global, row: Option<&Approved>) -> Result<Option<Approved>, NoMemory>
+    ensures { IfOk result (λ copy. copy ≡ option_copied row.entry) }
+{
+    match row {
+        Some(row) => Ok(Some(row.copied(alloc)?)),
         None => Ok(None),
     }
 }
@@ -75,23 +89,37 @@ fn row_from(approved: &[Approved], serial: u64) -> Option<&Approved>
 impl MemoryGuard {
     /// A guard that has approved nothing yet.
     pub fn new(alloc: Global, scope: Scope) -> MemoryGuard
-        ensures { result ≡ opened scope }
+        ensures kept { result.kept ≡ opened scope }
+        ensures reported { result.reported ≡ None }
     {
         MemoryGuard {
             scope,
             approved: Vec::new(alloc),
+            reported: None,
         }
+    }
+
+    /// Reports a lack of memory.
+    fn refuses(&mut self) -> RegisterFault
+        ensures fault { result ≡ RegisterFault.NoMemory }
+        ensures reported { self.new.reported ≡ Some RegisterFault.NoMemory }
+        ensures kept { self.new.kept ≡ self.old.kept }
+    {
+        self.reported = Some(RegisterFault::NoMemory);
+        RegisterFault::NoMemory
     }
 }
 
 impl Register for MemoryGuard {
     ghost is_honest = { λ _. Unit {0} };
 
-    ghost keeps = { λ g s. g ≡ s };
+    ghost keeps = { λ g s. g.kept ≡ s };
 
-    ghost leaves = { λ g s t. (g ≡ s) ⊎ (g ≡ t) };
+    ghost leaves = { λ g s t. (g.kept ≡ s) ⊎ (g.kept ≡ t) };
 
     ghost has_failed = { λ _. ⊥ };
+
+    ghost reported = { λ g. g.reported };
 
     ghost widens = { λ g s t h. elim h [ inl e ↦ inl e | inr e ↦ inl e ] };
 
@@ -100,13 +128,16 @@ impl Register for MemoryGuard {
     }
 
     fn body_of(&mut self, alloc: Global, serial: u64) -> Result<Option<Text>, RegisterFault> {
-        Ok(copied(alloc, body_in(self.approved.as_slice(), serial))?)
+        match copied(alloc, body_in(self.approved.as_slice(), serial)) {
+            Ok(body) => Ok(body),
+            Err(NoMemory) => Err(self.refuses()),
+        }
     }
 
     fn row_from(&mut self, alloc: Global, serial: u64) -> Result<Option<Approved>, RegisterFault> {
-        match row_from(self.approved.as_slice(), serial) {
-            Some(row) => Ok(Some(row.copied(alloc)?)),
-            None => Ok(None),
+        match copied_row(alloc, row_from(self.approved.as_slice(), serial)) {
+            Ok(row) => Ok(row),
+            Err(NoMemory) => Err(self.refuses()),
         }
     }
 
@@ -115,7 +146,7 @@ impl Register for MemoryGuard {
             Ok(()) => Ok(()),
             Err(refused) => {
                 drop(refused);
-                Err(RegisterFault::NoMemory)
+                Err(self.refuses())
             }
         }
     }

@@ -3,6 +3,7 @@
 ghost use Rattle.std.specs.Prelude.{◌≡◌, None, IfErr, IfOk, OnOk, OnErr};
 ghost use Rattle.guard.specs.Machine.{State, body_of, with_approved};
 ghost use Rattle.guard.specs.Judged.{HasCause, IsKeepable};
+ghost use Rattle.guard.specs.Reported.{LastFault, reported_by};
 ghost use Rattle.guard.specs.Retiring.{IsLowered, IsRowFrom, with_last};
 
 use crate::approved::Approved;
@@ -26,6 +27,7 @@ pub enum RegisterFault {
 /// Each call's clauses apply only if the register is still honest after the call: its disk has been faithful so far.
 /// A register that keeps a state reports no damage, and `Device` only if its database has failed. After a call
 /// that succeeded, a crash leaves what is kept; a crash during a call leaves what was kept, or what the call leads to.
+/// What is said of the fault that was reported last holds for any register, also for one that keeps no state.
 pub trait Register {
     /// So far every answer of the disk was correct.
     ghost is_honest: { Self → Type 0 };
@@ -39,6 +41,9 @@ pub trait Register {
     /// The database has failed, or is shut.
     ghost has_failed: { Self → Type 0 };
 
+    /// The fault that a call has reported last.
+    ghost reported: { Self → LastFault };
+
     /// The CA and the serials that the guard answers for.
     fn scope(&mut self) -> Result<Scope, RegisterFault>
         ensures honest { is_honest self.new → is_honest self.old }
@@ -47,7 +52,8 @@ pub trait Register {
         ensures crash { is_honest self.new → (s : State) → keeps self.old s → leaves self.old s s
             → leaves self.new s s }
         ensures cause { is_honest self.new → (s : State) → keeps self.old s
-            → IfErr result (λ e. HasCause e (has_failed self.new)) };
+            → IfErr result (λ e. HasCause e (has_failed self.new)) }
+        ensures reported { reported self.new ≡ reported_by (reported self.old) result };
 
     /// The body that was approved under a serial.
     fn body_of(&mut self, alloc: Global, serial: u64) -> Result<Option<Text>, RegisterFault>
@@ -57,7 +63,8 @@ pub trait Register {
         ensures crash { is_honest self.new → (s : State) → keeps self.old s → leaves self.old s s
             → leaves self.new s s }
         ensures cause { is_honest self.new → (s : State) → keeps self.old s
-            → IfErr result (λ e. HasCause e (has_failed self.new)) };
+            → IfErr result (λ e. HasCause e (has_failed self.new)) }
+        ensures reported { reported self.new ≡ reported_by (reported self.old) result };
 
     /// The row with the lowest serial that is at least this one.
     fn row_from(&mut self, alloc: Global, serial: u64) -> Result<Option<Approved>, RegisterFault>
@@ -67,7 +74,8 @@ pub trait Register {
         ensures crash { is_honest self.new → (s : State) → keeps self.old s → leaves self.old s s
             → leaves self.new s s }
         ensures cause { is_honest self.new → (s : State) → keeps self.old s
-            → IfErr result (λ e. HasCause e (has_failed self.new)) };
+            → IfErr result (λ e. HasCause e (has_failed self.new)) }
+        ensures reported { reported self.new ≡ reported_by (reported self.old) result };
 
     /// Keeps a body under a serial that has none. After a fault the register keeps what it kept.
     fn keep(&mut self, row: Approved) -> Result<(), RegisterFault>
@@ -80,7 +88,8 @@ pub trait Register {
         ensures crash { is_honest self.new → (s : State) → keeps self.old s → leaves self.old s s
             → body_of s row.serial ≡ None → leaves self.new s (with_approved s row) }
         ensures cause { is_honest self.new → (s : State) → keeps self.old s → body_of s row.serial ≡ None
-            → IsKeepable row → IfErr result (λ e. HasCause e (has_failed self.new)) };
+            → IsKeepable row → IfErr result (λ e. HasCause e (has_failed self.new)) }
+        ensures reported { reported self.new ≡ reported_by (reported self.old) result };
 
     /// Makes this the last serial that may be signed, if that lowers it. After a fault the register keeps what it
     /// kept.
@@ -94,7 +103,8 @@ pub trait Register {
         ensures crash { is_honest self.new → (s : State) → keeps self.old s → leaves self.old s s → IsLowered s last
             → leaves self.new s (with_last s last) }
         ensures cause { is_honest self.new → (s : State) → keeps self.old s → IsLowered s last
-            → IfErr result (λ e. HasCause e (has_failed self.new)) };
+            → IfErr result (λ e. HasCause e (has_failed self.new)) }
+        ensures reported { reported self.new ≡ reported_by (reported self.old) result };
 
     /// If a crash leaves `s`, then it leaves `s` or `t`.
     ghost widens: { (g : Self) (s t : State) → leaves g s s → leaves g s t };

@@ -3,6 +3,7 @@
 ghost use Rattle.std.specs.Prelude.{◌≡◌, ◌<◌, ◌^◌, IfErr, IfOk, OnOk};
 ghost use Rattle.guard.specs.Judged.{HasCause};
 ghost use Rattle.guard.specs.Machine.{State};
+ghost use Rattle.guard.specs.Reported.{RetirePassesOn, reported_by};
 ghost use Rattle.guard.specs.Retirement.{HasRetireCause, Retires, if_retired, is_approved_over};
 ghost use Rattle.guard.specs.Retirement.{retirement};
 ghost use Rattle.guard.specs.Retiring.{with_last};
@@ -46,6 +47,7 @@ fn is_approved_over<R: Register>(
         → R.leaves register.new s s }
     ensures cause { R.is_honest register.new → (s : State) → R.keeps register.old s
         → IfErr result (λ e. HasCause e (R.has_failed register.new)) }
+    ensures reported { R.reported register.new ≡ reported_by (R.reported register.old) result }
 {
     if last == u64::MAX {
         return Ok(false);
@@ -85,6 +87,10 @@ pub fn retire<R: Register>(alloc: Global, register: &mut R, last: u64) -> Result
     // A register that keeps a guard is never reported as damaged, and is reported as failed only if its database has.
     ensures cause { R.is_honest register.new → (s : State) → R.keeps register.old s
         → IfErr result (HasRetireCause (R.has_failed register.new)) }
+
+    // Whatever the register keeps, a fault that it reports is the one that is returned, and none is returned as the
+    // register's that it didn't report.
+    ensures reported { RetirePassesOn (R.reported register.old) (R.reported register.new) result }
 {
     let scope = register.scope()?;
     if last < scope.first || scope.last < last {

@@ -6,6 +6,7 @@ ghost use Rattle.sqlite.specs.Held.{state};
 ghost use Rattle.sqlite.specs.State.{HasCleanDisk};
 ghost use Rattle.store_sql.specs.Honest.{On};
 ghost use Rattle.guard.specs.Judged.{HasCause};
+ghost use Rattle.guard.specs.Reported.{reported_by};
 ghost use Rattle.guard.specs.Retiring.{IsRowFrom};
 ghost use Rattle.guard.specs.State.{State, body_of};
 ghost use Rattle.guard_sql.specs.Damage.{SaysApprovedUnless, SaysBodyUnless};
@@ -27,6 +28,8 @@ impl<S: Alter> Register for GuardStore<S> {
 
     ghost has_failed = { λ g. HasFailed (state S.Store g.conn) };
 
+    ghost reported = { λ g. g.reported };
+
     fn scope(&mut self) -> Result<Scope, RegisterFault> {
         Ok(self.scope)
     }
@@ -45,12 +48,16 @@ impl<S: Alter> Register for GuardStore<S> {
         ensures cause { HasCleanDisk (state S.Store self.new.conn) → (s : State)
             → (self.old.scope ≡ s.scope) × Keeps (state S.Store self.old.conn) s
             → IfErr result (λ e. HasCause e (HasFailed (state S.Store self.new.conn))) }
+        ensures reported { self.new.reported ≡ reported_by self.old.reported result }
 
         // Whatever rows the table of bodies holds, the answer is what they say. Rows that no guard writes are reported
         // as `Damaged`.
         ensures says { On S.Store (SaysBodyUnless serial) self.old.conn self.new.conn result }
     {
-        body_of(alloc, &mut self.conn, serial)
+        match body_of(alloc, &mut self.conn, serial) {
+            Ok(body) => Ok(body),
+            Err(fault) => Err(self.reports(fault)),
+        }
     }
 
     fn row_from(&mut self, alloc: Global, serial: u64) -> Result<Option<Approved>, RegisterFault>
@@ -67,16 +74,23 @@ impl<S: Alter> Register for GuardStore<S> {
         ensures cause { HasCleanDisk (state S.Store self.new.conn) → (s : State)
             → (self.old.scope ≡ s.scope) × Keeps (state S.Store self.old.conn) s
             → IfErr result (λ e. HasCause e (HasFailed (state S.Store self.new.conn))) }
+        ensures reported { self.new.reported ≡ reported_by self.old.reported result }
 
         // Whatever rows the table of bodies holds, the answer is what the first one from there on says. A row that no
         // guard writes is reported as `Damaged`.
         ensures says { On S.Store (SaysApprovedUnless serial) self.old.conn self.new.conn result }
     {
-        row_from(alloc, &mut self.conn, serial)
+        match row_from(alloc, &mut self.conn, serial) {
+            Ok(row) => Ok(row),
+            Err(fault) => Err(self.reports(fault)),
+        }
     }
 
     fn keep(&mut self, row: Approved) -> Result<(), RegisterFault> {
-        keep(&mut self.conn, row)
+        match keep(&mut self.conn, row) {
+            Ok(()) => Ok(()),
+            Err(fault) => Err(self.reports(fault)),
+        }
     }
 
     fn set_last(&mut self, last: u64) -> Result<(), RegisterFault> {
@@ -85,7 +99,7 @@ impl<S: Alter> Register for GuardStore<S> {
                 self.scope.last = last;
                 Ok(())
             }
-            Err(fault) => Err(fault),
+            Err(fault) => Err(self.reports(fault)),
         }
     }
 

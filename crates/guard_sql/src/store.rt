@@ -1,6 +1,6 @@
 //! A guard's register, from its connection and back.
 
-ghost use Rattle.std.specs.Prelude.{◌≡◌, false, Err, IfErr, IfOk, IsTrue, Ok};
+ghost use Rattle.std.specs.Prelude.{◌≡◌, false, Err, IfErr, IfOk, IsTrue, Ok, Some};
 ghost use Rattle.std.specs.List.{list_any};
 ghost use Rattle.sqlite.specs.Held.{state};
 ghost use Rattle.store_sql.specs.Honest.{Between, IsOutside, IsUnlimited, On, Outlives, OutlivesBy, StaysClean};
@@ -15,7 +15,7 @@ use crate::faults::opening_fault;
 use crate::finding::find_scope;
 use crate::look::{has_any_table, is_empty};
 use crate::opening_fault::OpeningFault;
-use guard::Scope;
+use guard::{RegisterFault, Scope};
 use sqlite::{Alter, Connection};
 use std::alloc::Global;
 
@@ -25,6 +25,8 @@ pub struct GuardStore<S: Alter> {
     pub(crate) conn: Connection<S>,
     // as in the row of the guard
     pub(crate) scope: Scope,
+    // the fault that a call has reported last
+    pub(crate) reported: Option<RegisterFault>,
 }
 
 impl<S: Alter> GuardStore<S> {
@@ -73,6 +75,7 @@ impl<S: Alter> GuardStore<S> {
             Ok(()) => Ok(GuardStore {
                 conn,
                 scope: *scope,
+                reported: None,
             }),
             Err(fault) => Err((opening_fault(fault), conn)),
         }
@@ -114,7 +117,11 @@ impl<S: Alter> GuardStore<S> {
     {
         let mut conn = conn;
         match find_scope(alloc, &mut conn) {
-            Ok(scope) => Ok(GuardStore { conn, scope }),
+            Ok(scope) => Ok(GuardStore {
+                conn,
+                scope,
+                reported: None,
+            }),
             Err(fault) => Err((fault, conn)),
         }
     }
@@ -123,7 +130,17 @@ impl<S: Alter> GuardStore<S> {
     pub fn into_connection(self) -> Connection<S>
         ensures { result ≡ self.conn }
     {
-        let GuardStore { conn, scope: _ } = self;
+        let GuardStore { conn, .. } = self;
         conn
+    }
+
+    /// Reports a fault.
+    pub(crate) fn reports(&mut self, fault: RegisterFault) -> RegisterFault
+        ensures fault { result ≡ fault }
+        ensures reported { self.new.reported ≡ Some fault }
+        ensures same { (self.new.conn ≡ self.old.conn) × (self.new.scope ≡ self.old.scope) }
+    {
+        self.reported = Some(fault);
+        fault
     }
 }

@@ -4,4 +4,5 @@ pub mod Sizes
 pub mod Machine
 pub mod History
 pub mod Judged
+pub mod Reported
 pub mod Statements

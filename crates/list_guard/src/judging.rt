@@ -7,6 +7,7 @@ ghost use Rattle.list_guard.specs.Machine.{IsApproved, IsLawful, IsOfCas, Questi
 ghost use Rattle.list_guard.specs.Sizes.{list_size};
 ghost use Rattle.list_guard.specs.Judged.{Answers, Decided, DecidedAfter, HasCause, IsShort, left_by};
 ghost use Rattle.list_guard.specs.Judged.{question, settled};
+ghost use Rattle.list_guard.specs.Reported.{IsOwn, PassesOn, reported_by};
 
 use crate::counting::list_size;
 use crate::refusal::Refusal;
@@ -130,6 +131,7 @@ fn settle<R: ListRegister>(
     ensures cause { R.is_honest register.new → (s : State) → R.keeps register.old s → (q : Question)
         → q.list ≡ list → Decided verdict s q → IsLawful s → IsShort list
         → IfErr result (λ e. HasCause e (R.has_failed register.new)) }
+    ensures reported { R.reported register.new ≡ reported_by (R.reported register.old) result }
 {
     match verdict {
         Verdict::Approve(_) => register.keep(list),
@@ -173,6 +175,7 @@ fn verdict_on<R: ListRegister>(
     ensures decided { R.is_honest register.now → (s : State) → R.keeps register.now s
         → IfOk result (λ v. Decided v s (question keys.now begins list.now)) }
     ensures sure { R.is_honest register.now → (s : State) → R.keeps register.now s → IsLawful s → IsOk result }
+    ensures only { IfErr result IsOwn }
 {
     match decide(register.last(), keys, begins, list) {
         Some(verdict) => Ok(verdict),
@@ -221,6 +224,10 @@ pub fn judge_list<R: ListRegister>(
     // none as damaged.
     ensures cause { R.is_honest register.new → (s : State) → R.keeps register.old s → IsLawful s → IsShort list
         → IfErr result (λ e. HasCause e (R.has_failed register.new)) }
+
+    // Whatever the register keeps, a fault that it reports is the one that is returned. Apart from such a fault there
+    // is only that the kept list isn't a published one.
+    ensures reported { PassesOn (R.reported register.old) (R.reported register.new) result }
 {
     let verdict = verdict_on(register, keys, begins, list.as_slice())?;
     let answer = answer_of(list.as_slice(), verdict);

@@ -1,6 +1,6 @@
 //! A list guard's register in memory.
 
-ghost use Rattle.std.specs.Prelude.{◌≡◌, ◌⊎◌};
+ghost use Rattle.std.specs.Prelude.{◌≡◌, ◌⊎◌, None};
 ghost use Rattle.std.proofs.Common.{inl, inr};
 ghost use Rattle.list_guard.specs.State.{opened};
 
@@ -39,6 +39,8 @@ impl ListRegister for MemoryListGuard {
     ghost leaves = { λ g s t. (g ≡ s) ⊎ (g ≡ t) };
 
     ghost has_failed = { λ _. ⊥ };
+
+    ghost reported = { λ _. None };
 
     ghost widens = { λ g s t h. elim h [ inl e ↦ inl e | inr e ↦ inl e ] };
 

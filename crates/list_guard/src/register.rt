@@ -3,6 +3,7 @@
 ghost use Rattle.std.specs.Prelude.{◌≡◌, IfErr, List, OnErr, OnOk, option_copied, ℕ};
 ghost use Rattle.list_guard.specs.State.{IsLawful, State, with_last};
 ghost use Rattle.list_guard.specs.Judged.{HasCause, IsKeepable};
+ghost use Rattle.list_guard.specs.Reported.{LastFault, reported_by};
 
 use text::Text;
 
@@ -25,7 +26,8 @@ pub const LONGEST_LIST: u64 = 268435456;
 /// The clauses of a call assume that the register is honest when the call ends, and so was before it: honesty is never
 /// regained. A register that keeps a published list never reports damage, and it reports `Device` only if its database
 /// has failed, or the list has more than `LONGEST_LIST` bytes. After a call has returned, a crash leaves what the
-/// register keeps. A crash in the middle of a call leaves that, or the state that the call leads to.
+/// register keeps. A crash in the middle of a call leaves that, or the state that the call leads to. What is said of the
+/// fault that was reported last assumes nothing.
 pub trait ListRegister {
     /// The disk has been faithful so far.
     ghost is_honest: { Self → Type 0 };
@@ -38,6 +40,9 @@ pub trait ListRegister {
 
     /// The database has failed, or is shut.
     ghost has_failed: { Self → Type 0 };
+
+    /// The fault that a call has reported last.
+    ghost reported: { Self → LastFault };
 
     /// If a crash leaves one state, it leaves that one or any other.
     ghost widens: { (g : Self) (s t : State) → leaves g s s → leaves g s t };
@@ -57,7 +62,8 @@ pub trait ListRegister {
         ensures crash { is_honest self.new → (s : State) → keeps self.old s → leaves self.old s s
             → leaves self.new s (with_last list) }
         ensures cause { is_honest self.new → (s : State) → keeps self.old s → IsLawful s → IsKeepable list
-            → IfErr result (λ e. HasCause e (has_failed self.new)) };
+            → IfErr result (λ e. HasCause e (has_failed self.new)) }
+        ensures reported { reported self.new ≡ reported_by (reported self.old) result };
 }
 
 impl From<text::NoMemory> for RegisterFault {

@@ -1,5 +1,5 @@
 -- The ways in which judging a list may end.
-use Rattle.std.proofs.Common.{◌≡◌, ◌⊎◌, ℕ, List, Option, Result, Ok, Err, inl, inr, refl}
+use Rattle.std.proofs.Common.{◌≡◌, ◌⊎◌, ℕ, List, Option, Some, Result, Ok, Err, inl, inr, refl}
 use Rattle.std.specs.Prelude.{IfErr, OnErr, OnOk}
 use Rattle.std.specs.Io.KnownBytes.{Appends}
 use Rattle.wire.specs.Streams.{AppendsBeginning}
@@ -9,12 +9,16 @@ use Rattle.list_guard.specs.declared.register.RegisterFault.{RegisterFault}
 use Rattle.list_guard.specs.declared.register.RegisterFault.TheVariants as list
 use Rattle.list_guard.specs.Judged.{Answers, HasCause, IsShort, left_by}
 use Rattle.list_guard.specs.Machine.{State, Question, IsLawful}
+use Rattle.list_guard.specs.Reported.{LastFault}
+use Rattle.list_guard.specs.Reported.{IsOwn as IsOfJudging}
 use Rattle.list_guard.specs.Statements.{answer_line}
 use Rattle.station_jobs.specs.declared.surroundings.Surroundings as surroundings
 use Rattle.station_jobs.specs.declared.station_fault.StationFault.{StationFault}
-use Rattle.station_jobs.specs.declared.station_fault.StationFault.TheVariants.{Clock}
+use Rattle.station_jobs.specs.declared.station_fault.StationFault.TheVariants.{Clock, NoMemory, Write}
 use Rattle.station_jobs.specs.Faults.{IsOfAnAnswer}
-use Rattle.list_jobs.specs.Stating.{IsPrinted, IsUnjudged, LeavesOne, Loses, States, StatesOne, Stores, register_fault}
+use Rattle.station_jobs.specs.Reported.{IsOwn}
+use Rattle.list_jobs.specs.Stating.{IsPrinted, IsUnjudged, LeavesOne, Loses, PassesOn, States, StatesOne, Stores}
+use Rattle.list_jobs.specs.Stating.{register_fault}
 
 printed : (text : List ℕ) (held holds : Option (List ℕ)) (r : Result (Unit {0}) StationFault)
     → OnOk r (Appends held holds text) → OnErr r (AppendsBeginning held holds text) → IsPrinted text held holds r
@@ -27,6 +31,24 @@ register_cause failed list.Device h = h
 register_cause failed list.Damaged h = absurd h
 register_cause failed list.NoMemory h = tt
 
+-- a fault of judging over the register
+passed_on : (before after : LastFault) (e : RegisterFault) → (after ≡ Some e) ⊎ ((after ≡ before) × IsOfJudging e)
+    → PassesOn before after (Err (register_fault e))
+passed_on before after e (inl is) = inl (e, is, refl)
+passed_on before after list.Damaged (inr is) = inr (is.0, tt)
+passed_on before after other (inr is) = absurd is.1
+
+own_answer : (e : StationFault) → IsOfAnAnswer e → IsOwn e
+own_answer Write h = tt
+own_answer NoMemory h = tt
+own_answer other h = absurd h
+
+-- the register reported nothing, and printing the answer had this result
+unreported : (before after : LastFault) (r : Result (Unit {0}) StationFault) → after ≡ before → IfErr r IsOfAnAnswer
+    → PassesOn before after r
+unreported before after (Ok done) same only = same
+unreported before after (Err e) same only = inr (same, own_answer e only)
+
 module _ {E F G : Type 0} (world : surroundings.Ghosts E F) (around : E) (guard : register.Ghosts G) (q : Question) where
   -- the clock gave no valid time
   pub no_moment : (g : G) (held : Option (List ℕ)) → States world around guard q held held g g (Err Clock)
@@ -34,6 +56,7 @@ module _ {E F G : Type 0} (world : surroundings.Ghosts E F) (around : E) (guard 
     honest = λ h. h;
     states = λ h s stores. inr (Clock, refl, (stores.0, λ lawful short. tt), refl);
     crash = λ h s stores. inl stores.1;
+    reported = inr (refl, tt);
   }
 
   -- the register didn't answer
@@ -41,8 +64,10 @@ module _ {E F G : Type 0} (world : surroundings.Ghosts E F) (around : E) (guard 
       → (guard.is_honest new → (s : State) → guard.keeps old s → guard.keeps new s)
       → (guard.is_honest new → (s : State) → guard.keeps old s → guard.leaves old s s → LeavesOne s (guard.leaves new) q)
       → (guard.is_honest new → (s : State) → guard.keeps old s → IsLawful s → IsShort q.list
-      → HasCause e (guard.has_failed new)) → States world around guard q held held old new (Err (register_fault e))
-  unjudged old new held e honest kept crash cause = record {
+      → HasCause e (guard.has_failed new))
+      → (guard.reported new ≡ Some e) ⊎ ((guard.reported new ≡ guard.reported old) × IsOfJudging e)
+      → States world around guard q held held old new (Err (register_fault e))
+  unjudged old new held e honest kept crash cause reported = record {
     honest = honest;
     states = λ h s stores. inr (
       register_fault e,
@@ -51,6 +76,7 @@ module _ {E F G : Type 0} (world : surroundings.Ghosts E F) (around : E) (guard 
       refl,
     );
     crash = λ h s stores. crash h s stores.0 stores.1;
+    reported = passed_on (guard.reported old) (guard.reported new) e reported;
   }
 
   -- the register answered, and printing had this result
@@ -62,8 +88,9 @@ module _ {E F G : Type 0} (world : surroundings.Ghosts E F) (around : E) (guard 
       → guard.leaves new (left_by a s q) (left_by a s q))
       → (guard.is_honest new → (s : State) → guard.keeps old s → guard.leaves old s s → LeavesOne s (guard.leaves new) q)
       → OnOk r (Appends held holds (answer_line a moment)) → OnErr r (AppendsBeginning held holds (answer_line a moment))
-      → IfErr r IsOfAnAnswer → States world around guard q held holds old new r
-  judged old new held holds a moment r honest shown answers next durable crash ok err only = record {
+      → IfErr r IsOfAnAnswer → guard.reported new ≡ guard.reported old
+      → States world around guard q held holds old new r
+  judged old new held holds a moment r honest shown answers next durable crash ok err only reported = record {
     honest = honest;
     states = λ h s stores. inl (record {
       answer = a;
@@ -75,4 +102,5 @@ module _ {E F G : Type 0} (world : surroundings.Ghosts E F) (around : E) (guard 
       only = only;
     });
     crash = λ h s stores. crash h s stores.0 stores.1;
+    reported = unreported (guard.reported old) (guard.reported new) r reported only;
   }

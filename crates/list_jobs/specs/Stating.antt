@@ -9,11 +9,13 @@ use Rattle.list_guard.specs.declared.register.RegisterFault.{RegisterFault}
 use Rattle.list_guard.specs.declared.register.RegisterFault.TheVariants as list
 use Rattle.list_guard.specs.Judged.{Answers, IsShort, left_by}
 use Rattle.list_guard.specs.Machine.{State, Question, IsApproved, IsLawful, with_last}
+use Rattle.list_guard.specs.Reported.{LastFault}
 use Rattle.list_guard.specs.Statements.{answer_line}
 use Rattle.station_jobs.specs.declared.surroundings.Surroundings as surroundings
 use Rattle.station_jobs.specs.declared.station_fault.StationFault.{StationFault}
 use Rattle.station_jobs.specs.declared.station_fault.StationFault.TheVariants as fault
 use Rattle.station_jobs.specs.Faults.{IsOfAnAnswer}
+use Rattle.station_jobs.specs.Reported.{IsOwn}
 
 -- the text was printed, or after a fault a beginning of it
 abbrev pub IsPrinted : List ℕ → (held holds : Option (List ℕ)) → Result (Unit {0}) StationFault → Type 0
@@ -63,6 +65,20 @@ Loses guard g s q e = guard.keeps g s × (IsLawful s → IsShort q.list → IsUn
 abbrev pub LeavesOne : State → (leaves : State → State → Type 0) → Question → Type 0
 LeavesOne s leaves q = leaves s s ⊎ (IsApproved s q × leaves s (with_last q.list))
 
+-- a register's fault as a fault of the station
+abbrev pub register_fault : RegisterFault → StationFault
+register_fault list.Device = fault.Device
+register_fault list.Damaged = fault.Damaged
+register_fault list.NoMemory = fault.NoMemory
+
+-- `before` and `after` are the faults that the register had reported last. The fault is the one that the register
+-- reported. Or the register reported none, and judging has the fault by itself.
+abbrev pub PassesOn : (before after : LastFault) → Result (Unit {0}) StationFault → Type 0
+PassesOn before after (Ok done) = after ≡ before
+PassesOn before after (Err e) =
+    ((reported : RegisterFault) × (after ≡ Some reported) × (e ≡ register_fault reported))
+    ⊎ ((after ≡ before) × IsOwn e)
+
 -- a list was judged over a register, and the line of the answer printed
 pub record States {E F G : Type 0} (world : surroundings.Ghosts E F) (around : E) (guard : register.Ghosts G)
     (q : Question) (held holds : Option (List ℕ)) (old new : G) (result : Result (Unit {0}) StationFault)
@@ -73,9 +89,5 @@ pub record States {E F G : Type 0} (world : surroundings.Ghosts E F) (around : E
       → StatesOne s (λ _ t. Stores guard new t) (Loses guard new s q) (world.shows around) q held holds result
   -- a crash, also in the middle of it
   pub crash : guard.is_honest new → (s : State) → Stores guard old s → LeavesOne s (guard.leaves new) q
-
--- a register's fault as a fault of the station
-abbrev pub register_fault : RegisterFault → StationFault
-register_fault list.Device = fault.Device
-register_fault list.Damaged = fault.Damaged
-register_fault list.NoMemory = fault.NoMemory
+  -- whatever it keeps, a fault that it reported is the result
+  pub reported : PassesOn (guard.reported old) (guard.reported new) result

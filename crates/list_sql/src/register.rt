@@ -21,6 +21,8 @@ impl<S: Alter> ListRegister for ListStore<S> {
 
     ghost has_failed = { λ g. HasFailed (state S.Store g.conn) };
 
+    ghost reported = { λ g. g.reported };
+
     ghost widens = { λ g s t left trees may. elim (left trees may) [ inl is ↦ inl is | inr is ↦ inl is ] };
 
     fn last(&self) -> Option<&[u8]> {
@@ -38,6 +40,7 @@ impl<S: Alter> ListRegister for ListStore<S> {
             }
             Err(fault) => {
                 drop(list);
+                self.reported = Some(fault);
                 Err(fault)
             }
         }

@@ -14,6 +14,7 @@ use crate::faults::opening_fault;
 use crate::finding::find_last;
 use crate::look::{has_any_table, is_empty};
 use crate::opening_fault::OpeningFault;
+use list_guard::RegisterFault;
 use sqlite::{Alter, Connection};
 use std::alloc::Global;
 use text::Text;
@@ -24,6 +25,8 @@ pub struct ListStore<S: Alter> {
     pub(crate) conn: Connection<S>,
     // the list that the rows have
     pub(crate) last: Option<Text>,
+    // the fault that a call has reported last
+    pub(crate) reported: Option<RegisterFault>,
 }
 
 impl<S: Alter> ListStore<S> {
@@ -67,7 +70,11 @@ impl<S: Alter> ListStore<S> {
             return Err((OpeningFault::NotAGuard, conn));
         }
         match create(alloc, &mut conn) {
-            Ok(()) => Ok(ListStore { conn, last: None }),
+            Ok(()) => Ok(ListStore {
+                conn,
+                last: None,
+                reported: None,
+            }),
             Err(fault) => Err((opening_fault(fault), conn)),
         }
     }
@@ -109,7 +116,11 @@ impl<S: Alter> ListStore<S> {
     {
         let mut conn = conn;
         match find_last(alloc, &mut conn) {
-            Ok(last) => Ok(ListStore { conn, last }),
+            Ok(last) => Ok(ListStore {
+                conn,
+                last,
+                reported: None,
+            }),
             Err(fault) => Err((fault, conn)),
         }
     }
@@ -118,7 +129,7 @@ impl<S: Alter> ListStore<S> {
     pub fn into_connection(self) -> Connection<S>
         ensures { result ≡ self.conn }
     {
-        let ListStore { conn, last } = self;
+        let ListStore { conn, last, .. } = self;
         drop(last);
         conn
     }

@@ -32,7 +32,7 @@ use Rattle.station_jobs.specs.declared.station_fault.StationFault.TheVariants.{B
 use Rattle.station_jobs.specs.declared.surroundings.Surroundings as surroundings
 use Rattle.station_jobs.specs.Bodies.{PrintsBody, PrintsRows}
 use Rattle.station_jobs.specs.Jobs.{InitsIn}
-use Rattle.station_jobs.specs.Judging.{AsksNow}
+use Rattle.station_jobs.specs.Judging.{AsksNow, IsBadPolicyAt}
 use Rattle.station_jobs.specs.Leaving.{IsNext, OfBodies, OfNone, OfRetiring, Step as JobStep}
 use Rattle.station_jobs.specs.Whole.{Begins, ClosesNew, Follows, IsOfGiven, JudgesGiven, LeavesFiles, MakesIn, Retires}
 use Rattle.station_jobs.specs.Whole.{RetiresTo, RunsIn, RunsOver, is_input}
@@ -411,7 +411,7 @@ module _ (S Dk : Type 0) (g : Ghosts Dk) (image : Image) (value : S) where
                 (λ _. RunsIn guard file db db' (string_bytes j.db) (OfBodies Asked)
                 (λ s L r. JudgesGiven (is_input bodies) s L
                 (AsksNow world around remaining (string_bytes j.policy) j.ahead) bodies input held holds r
-                × IfErr r (IsOfGiven (is_input bodies)))
+                × IfErr r (IsOfGiven (IsBadPolicyAt world around remaining (string_bytes j.policy)) (is_input bodies)))
                 (holds ≡ held)) ((db' ≡ db) × (holds ≡ held)) known result
                 → Told (MayBe (job.Judge j)) (Said.judging held holds) (files_of db')
             by_policy (Ok policy) ran =
@@ -419,7 +419,7 @@ module _ (S Dk : Type 0) (g : Ghosts Dk) (image : Image) (value : S) where
                 (record { asks = λ q may. may; retires = λ last may. absurd may })
                 (λ s L r. JudgesGiven (is_input bodies) s L
                 (AsksNow world around remaining (string_bytes j.policy) j.ahead) bodies input held holds r
-                × IfErr r (IsOfGiven (is_input bodies)))
+                × IfErr r (IsOfGiven (IsBadPolicyAt world around remaining (string_bytes j.policy)) (is_input bodies)))
                 (string_bytes j.db) (holds ≡ held) result (Said.judging held holds) (silent held holds)
                 (λ s L r guard did. given_last (MayBe (job.Judge j))
                 (AsksNow world around remaining (string_bytes j.policy) j.ahead) (λ path q asked. (path, asked))

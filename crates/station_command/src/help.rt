@@ -57,7 +57,7 @@ pub const BODIES_MORE: &str = "Example:
 
 A line is SERIAL DIGEST TIME KEYID, with the time of approval in seconds since 1970.
 While judge has the database open, this fails with Device. Stop the station, copy the file, and
-read the copy.";
+the one that ends in -wal if there is one, and read the copy.";
 
 /// What `body` does.
 pub const BODY: &str = "Prints the unsigned certificate that was approved under a serial";

@@ -1,5 +1,5 @@
 -- The faults of a step are faults of the steps that it is part of.
-use Rattle.std.specs.Prelude.{Option}
+use Rattle.std.proofs.Common.{◌≡◌, ℕ, Option, refl}
 use Rattle.cert.specs.declared.fields.CertFields.{CertFields}
 use Rattle.guard.specs.declared.register.RegisterFault.{RegisterFault}
 use Rattle.guard.specs.declared.register.RegisterFault.TheVariants as register
@@ -20,20 +20,21 @@ of_a_body other h = absurd h
 
 -- ---- faults of judging
 
-pub judging_of_a_file : (e : StationFault) → IsOfAFile e → IsOfJudging e
-judging_of_a_file File h = tt
-judging_of_a_file NoMemory h = tt
-judging_of_a_file other h = absurd h
+pub judging_of_a_file : (Bad : ℕ → Type 0) (e : StationFault) → IsOfAFile e → IsOfJudging Bad e
+judging_of_a_file Bad File h = tt
+judging_of_a_file Bad NoMemory h = tt
+judging_of_a_file Bad other h = absurd h
 
-pub judging_of_bodies : (e : StationFault) → IsOfBodies e → IsOfJudging e
-judging_of_bodies (BadPolicy line) h = tt
-judging_of_bodies other h = h
+pub judging_of_bodies : (Bad : ℕ → Type 0) (e : StationFault) → IsOfBodies e → IsOfJudging Bad e
+judging_of_bodies Bad (BadPolicy line) h = absurd h
+judging_of_bodies Bad other h = h
 
-pub judging_of_a_policy : (e : StationFault) → IsOfAPolicy e → IsOfJudging e
-judging_of_a_policy File h = tt
-judging_of_a_policy NoMemory h = tt
-judging_of_a_policy (BadPolicy line) h = tt
-judging_of_a_policy other h = absurd h
+pub judging_of_a_policy : (Bad : ℕ → Type 0) (e : StationFault) → IsOfAPolicy e
+    → ((line : ℕ) → e ≡ BadPolicy line → Bad line) → IsOfJudging Bad e
+judging_of_a_policy Bad File h bad = tt
+judging_of_a_policy Bad NoMemory h bad = tt
+judging_of_a_policy Bad (BadPolicy line) h bad = bad line refl
+judging_of_a_policy Bad other h bad = absurd h
 
 -- ---- faults of a question, and of bodies
 

@@ -9,6 +9,7 @@ use Rattle.station_jobs.specs.declared.station_fault.StationFault.{StationFault}
 use Rattle.station_jobs.specs.declared.station_fault.StationFault.TheVariants.{BadSerials, SerialApproved}
 use Rattle.station_jobs.specs.Bodies.{PrintsRows}
 use Rattle.station_jobs.specs.Leaving.{Leaves, OfNone, Step}
+use Rattle.station_jobs.specs.Reported.{PassesOn}
 use Rattle.station_jobs.specs.Whole.{ClosesNew, Does, JudgesGiven, KeepsFiles, LeavesFiles, Retires, RetiresTo, RunsIn}
 use Rattle.station_jobs.specs.Whole.{closed}
 use Rattle.station_jobs.proofs.Judgements.{judged_so}
@@ -51,22 +52,25 @@ module _ {D G : Type 0} (guard : register.Ghosts G) (file : file.Ghosts D G) (ke
       → ((t : State) (r : Result A StationFault) → Left t r → Left' t r) → Did s Left r → Did s Left' r)
       → (Nothing : Type 0) (before opened db' : D) (path : List ℕ) (first last : G) (outcome : Result A StationFault)
       (closing : Result (Unit {0}) StationFault) (result : Result A StationFault) → file.opens before path (Ok first) opened
-      → Does guard May Did first last outcome → file.closes opened last closing db' → result ≡ closed outcome closing
+      → Does guard May Did first last outcome → PassesOn (guard.reported first) (guard.reported last) outcome
+      → file.closes opened last closing db' → result ≡ closed outcome closing
       → RunsIn guard file before db' path May Did Nothing result
-  ran_in May Did grows Nothing before opened db' path first last outcome closing result opens did closes came = record {
-    found = Ok first;
-    opened = opened;
-    is_opened = opens;
-    ran = record {
-      outcome = outcome;
-      last = last;
-      did = did;
-      closing = closing;
-      is_closed = closes;
-      came = came;
-      files = runs_over May Did grows before opened db' path first last outcome closing opens did closes;
-    };
-  }
+  ran_in May Did grows Nothing before opened db' path first last outcome closing result opens did reported closes came =
+      record {
+        found = Ok first;
+        opened = opened;
+        is_opened = opens;
+        ran = record {
+          outcome = outcome;
+          last = last;
+          did = did;
+          reported = reported;
+          closing = closing;
+          is_closed = closes;
+          came = came;
+          files = runs_over May Did grows before opened db' path first last outcome closing opens did closes;
+        };
+      }
 
   -- a guard that was made is in its files
   pub closes_new : (before made db' : D) (path : List ℕ) (scope : Scope) (g : G) (closing : Result (Unit {0}) StationFault)

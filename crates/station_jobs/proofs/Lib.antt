@@ -1,4 +1,5 @@
 mod Causes
+mod Reported
 mod Leavings
 mod Longer
 mod Judgements

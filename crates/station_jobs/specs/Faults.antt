@@ -1,5 +1,5 @@
 -- Which fault of a job each underlying fault becomes, and which faults each step may have.
-use Rattle.std.specs.Prelude.{◌≡◌, Option, None}
+use Rattle.std.specs.Prelude.{◌≡◌, ℕ, Option, None}
 use Rattle.std.specs.declared.io.ErrorKind.{ErrorKind}
 use Rattle.std.specs.declared.io.ErrorKind.TheVariants.{OutOfMemory}
 use Rattle.cert.specs.declared.fields.CertFields.{CertFields}
@@ -110,7 +110,8 @@ IsOfBodies fault.File = Unit {0}
 IsOfBodies fault.Clock = Unit {0}
 IsOfBodies other = IsOfAQuestion other
 
--- The faults of judging the bodies at the paths of an input: the policy is read again for each, and may be invalid.
-abbrev pub IsOfJudging : StationFault → Type 0
-IsOfJudging (fault.BadPolicy line) = Unit {0}
-IsOfJudging other = IsOfBodies other
+-- The faults of judging the bodies at the paths of an input: the policy is read again for each, and `Bad` says at which
+-- line it may be invalid.
+abbrev pub IsOfJudging : (Bad : ℕ → Type 0) → StationFault → Type 0
+IsOfJudging Bad (fault.BadPolicy line) = Bad line
+IsOfJudging Bad other = IsOfBodies other

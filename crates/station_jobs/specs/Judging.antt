@@ -21,6 +21,11 @@ module _ {E F : Type 0} (world : Ghosts E F) (around : E) (remaining : F → Opt
     pub found : world.has around path file
     pub read : IfSome (remaining file) (λ bytes. policy_at bytes ≡ Ok policy)
 
+  -- a file at the path isn't a policy, and this is its first invalid line
+  abbrev pub IsBadPolicyAt : (path : List ℕ) → (line : ℕ) → Type 0
+  IsBadPolicyAt path line =
+      (file : F) × world.has around path file × IfSome (remaining file) (λ bytes. policy_at bytes ≡ Err line)
+
   -- the question is about the whole content of a file at the path, at a time of the clock
   pub record Asks (ByPolicy : List Department → Type 0) (ahead : ℕ) (path : List ℕ) (q : Question) : Type 0 where
     pub file : F

@@ -1,4 +1,5 @@
 pub mod Faults
+pub mod Reported
 pub mod KeyFiles
 pub mod Leaving
 pub mod Judging

@@ -9,7 +9,6 @@ use Rattle.guard.specs.declared.register.Register as register
 use Rattle.guard.specs.declared.retiring.RetireFault.TheVariants as retiring
 use Rattle.guard.specs.declared.scope.Scope.{Scope}
 use Rattle.guard.specs.Machine.{State, Question, opened}
-use Rattle.guard.specs.Policies.{policy_at}
 use Rattle.guard.specs.Retirement.{retirement}
 use Rattle.guard.specs.Retiring.{with_last}
 use Rattle.guard.specs.Scopes.{made_scope}
@@ -20,8 +19,9 @@ use Rattle.station_jobs.specs.declared.station_fault.StationFault.{StationFault}
 use Rattle.station_jobs.specs.declared.station_fault.StationFault.TheVariants.{BadPolicy, BadSerials, SerialApproved}
 use Rattle.station_jobs.specs.Faults.{IsOfAPolicy, IsOfARegister, IsOfBodies, IsOfJudging}
 use Rattle.station_jobs.specs.Input.{JudgesInput}
-use Rattle.station_jobs.specs.Judging.{AsksNow, IsPolicyAt, Judges}
+use Rattle.station_jobs.specs.Judging.{AsksNow, IsBadPolicyAt, IsPolicyAt, Judges}
 use Rattle.station_jobs.specs.Leaving.{Leaves, OfBodies, OfNone, Outlasts, Step}
+use Rattle.station_jobs.specs.Reported.{PassesOn}
 
 -- ---- steps
 
@@ -80,13 +80,15 @@ Does guard May Did old new result =
 -- `file` says how a file is made, opened and closed. `db` is the file before the job, and `db'` the file after it.
 module _ {D G : Type 0} (guard : register.Ghosts G) (file : file.Ghosts D G) (db db' : D) where
   -- `Did` was done over the guard, which was then closed. So it was done from the guard that the files held to the one
-  -- that they hold now, if the disk has returned what was written.
+  -- that they hold now, if the disk has returned what was written. In any case a fault that the guard's register
+  -- reported is the result.
   pub record RunsOver {A : Type 0} (May : Step → Type 0)
       (Did : State → (Left : State → Result A StationFault → Type 0) → Result A StationFault → Type 0) (opened : D)
       (g : G) (result : Result A StationFault) : Type 0 where
     pub outcome : Result A StationFault
     pub last : G
     pub did : Does guard May Did g last outcome
+    pub reported : PassesOn (guard.reported g) (guard.reported last) outcome
     pub closing : Result (Unit {0}) StationFault
     pub is_closed : file.closes opened last closing db'
     pub came : result ≡ closed outcome closing
@@ -129,18 +131,17 @@ abbrev pub JudgesGiven : Bool → State → (Left : State → Result (Unit {0}) 
 JudgesGiven true s Left Asked bodies input held holds r = JudgesInput s Left Asked input held holds r
 JudgesGiven false s Left Asked bodies input held holds r = Judges s Left Asked bodies held holds r
 
--- the faults of judging named bodies, or those at the paths of the input
-abbrev pub IsOfGiven : Bool → StationFault → Type 0
-IsOfGiven true e = IsOfJudging e
-IsOfGiven false e = IsOfBodies e
+-- the faults of judging named bodies, or those at the paths of the input, if the policy is invalid only at such a line
+abbrev pub IsOfGiven : (Bad : ℕ → Type 0) → Bool → StationFault → Type 0
+IsOfGiven Bad true e = IsOfJudging Bad e
+IsOfGiven Bad false e = IsOfBodies e
 
 -- the policy in a file at the path, or why there is none
 abbrev pub IsReadAs : {E F : Type 0} → surroundings.Ghosts E F → E → (remaining : F → Option (List ℕ)) → (path : List ℕ)
     → Result (List Department) StationFault → Type 0
 IsReadAs world around remaining path (Ok policy) = IsPolicyAt world around remaining path policy
-IsReadAs {E} {F} world around remaining path (Err e) =
-    IsOfAPolicy e × ((line : ℕ) → e ≡ BadPolicy line
-    → (file : F) × world.has around path file × IfSome (remaining file) (λ bytes. policy_at bytes ≡ Err line))
+IsReadAs world around remaining path (Err e) =
+    IsOfAPolicy e × ((line : ℕ) → e ≡ BadPolicy line → IsBadPolicyAt world around remaining path line)
 
 -- the departments, without the text from which they were read
 abbrev pub departments_of : Result PolicyText StationFault → Result (List Department) StationFault
@@ -158,7 +159,7 @@ pub record JudgesIn {E F D G : Type 0} (world : surroundings.Ghosts E F) (around
   pub judged : Follows
       (λ _. RunsIn guard file db db' path (OfBodies (AsksNow world around remaining policy ahead))
       (λ s Left r. JudgesGiven (is_input bodies) s Left (AsksNow world around remaining policy ahead) bodies input held
-      holds r × IfErr r (IsOfGiven (is_input bodies))) (holds ≡ held))
+      holds r × IfErr r (IsOfGiven (IsBadPolicyAt world around remaining policy) (is_input bodies))) (holds ≡ held))
       ((db' ≡ db) × (holds ≡ held)) known result
 
 -- ---- the last serial

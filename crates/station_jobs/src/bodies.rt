@@ -8,6 +8,7 @@ ghost use Rattle.station_jobs.specs.Bodies.{AreReadable, ListsFirst, ListsRows, 
 ghost use Rattle.station_jobs.specs.Bodies.{row_line};
 ghost use Rattle.station_jobs.specs.Faults.{IsOfARow, IsOfRows};
 ghost use Rattle.station_jobs.specs.Leaving.{HasCause, Leaves, OfNone, Stays};
+ghost use Rattle.station_jobs.specs.Reported.{PassesOn};
 
 use crate::output::print;
 use crate::station_fault::StationFault;
@@ -88,6 +89,7 @@ fn print_from<G: Register, W: Write>(
     ensures cause { G.is_honest register.new → (s : State) → G.keeps register.old s → AreReadable s
         → IfErr result (HasCause (G.has_failed register.new)) }
     ensures only { IfErr result IsOfRows }
+    ensures reported { PassesOn (G.reported register.old) (G.reported register.new) result }
 {
     match register.row_from(alloc, from) {
         Ok(Some(row)) => {
@@ -121,6 +123,9 @@ pub fn print_bodies<G: Register, W: Write>(
     ensures cause { G.is_honest register.new → (s : State) → G.keeps register.old s → AreReadable s
         → Leaves G.Register OfNone register.old register.new s s result }
     ensures only { IfErr result IsOfRows }
+
+    // Whatever the register keeps, a fault that it reports is the one that is returned.
+    ensures reported { PassesOn (G.reported register.old) (G.reported register.new) result }
 {
     let mut from = 0;
     for _row in 0..u64::MAX {
@@ -134,6 +139,7 @@ pub fn print_bodies<G: Register, W: Write>(
 }
 
 /// Prints the body that is approved under a serial.
+#[tactic(auto, using(crate::proofs::Reported::reported_fault, crate::proofs::Reported::unreported_bytes))]
 pub fn print_body<G: Register, W: Write>(
     alloc: Global,
     register: &mut G,
@@ -145,6 +151,9 @@ pub fn print_body<G: Register, W: Write>(
         → PrintsBody s serial (W.contents out.old) (W.contents out.new) result }
     ensures stays { G.is_honest register.new → (s : State) → G.keeps register.old s
         → Leaves G.Register OfNone register.old register.new s s result }
+
+    // Whatever the register keeps, a fault that it reports is the one that is returned.
+    ensures reported { PassesOn (G.reported register.old) (G.reported register.new) result }
 {
     match register.body_of(alloc, serial) {
         Ok(Some(body)) => print(out, body.as_slice()),

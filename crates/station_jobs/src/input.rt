@@ -6,8 +6,9 @@ ghost use Rattle.guard.specs.Machine.{State};
 ghost use Rattle.guard.specs.Policies.{policy_at};
 ghost use Rattle.station_jobs.specs.Faults.{IsOfAFile, IsOfJudging};
 ghost use Rattle.station_jobs.specs.Input.{JudgesInput, JudgesNext, TakesLine};
-ghost use Rattle.station_jobs.specs.Judging.{AsksNow, Judges};
+ghost use Rattle.station_jobs.specs.Judging.{AsksNow, IsBadPolicyAt, Judges};
 ghost use Rattle.station_jobs.specs.Leaving.{Leaves, OfBodies};
+ghost use Rattle.station_jobs.specs.Reported.{PassesOn};
 ghost use Rattle.station_jobs.specs.Steps.{done_of};
 
 use crate::file_reader::file_fault;
@@ -55,7 +56,7 @@ fn path_in(line: &[u8]) -> Result<&str, StationFault>
 
 /// Judges the unsigned certificate (body) in a file by the policy that its own file has now, and prints the line of the
 /// answer. Returns the policy.
-#[tactic(auto, using(crate::proofs::Causes::judging_of_a_policy, crate::proofs::Causes::judging_of_bodies))]
+#[tactic(auto, using(crate::proofs::Causes::judging_of_bodies))]
 fn judge_now<F: Read + Drop, P: Surroundings<File = F>, G: Register, W: Write>(
     alloc: Global,
     around: &P,
@@ -74,7 +75,8 @@ fn judge_now<F: Read + Drop, P: Surroundings<File = F>, G: Register, W: Write>(
         (OfBodies (AsksNow P.Surroundings around.now F.remaining policy.now ahead)) register.old register.new s)
         (AsksNow P.Surroundings around.now F.remaining policy.now ahead) (path.now ∷ [])
         (W.contents out.old) (W.contents out.new) (done_of result) }
-    ensures only { IfErr result IsOfJudging }
+    ensures only { IfErr result (IsOfJudging (IsBadPolicyAt P.Surroundings around.now F.remaining policy.now)) }
+    ensures reported { PassesOn (G.reported register.old) (G.reported register.new) result }
 {
     match refreshed(alloc, around, policy, known) {
         Ok(known) => {
@@ -107,7 +109,8 @@ fn judge_line<F: Read + Drop, P: Surroundings<File = F>, G: Register, W: Write>(
         (OfBodies (AsksNow P.Surroundings around.now F.remaining policy.now ahead)) register.old register.new s)
         (AsksNow P.Surroundings around.now F.remaining policy.now ahead) (strip_last 10 line.now ∷ [])
         (W.contents out.old) (W.contents out.new) (done_of result) }
-    ensures only { IfErr result IsOfJudging }
+    ensures only { IfErr result (IsOfJudging (IsBadPolicyAt P.Surroundings around.now F.remaining policy.now)) }
+    ensures reported { PassesOn (G.reported register.old) (G.reported register.new) result }
 {
     match path_in(line) {
         Ok(path) => judge_now(alloc, around, register, policy, ahead, known, path, out),
@@ -138,7 +141,8 @@ fn judge_next<F: Read + Drop, P: Surroundings<File = F>, G: Register, I: BufRead
         (OfBodies (AsksNow P.Surroundings around.now F.remaining policy.now ahead)) register.old register.new s)
         (AsksNow P.Surroundings around.now F.remaining policy.now ahead)
         (I.remaining input.old) (I.remaining input.new) (W.contents out.old) (W.contents out.new) result }
-    ensures only { IfErr result IsOfJudging }
+    ensures only { IfErr result (IsOfJudging (IsBadPolicyAt P.Surroundings around.now F.remaining policy.now)) }
+    ensures reported { PassesOn (G.reported register.old) (G.reported register.new) result }
 {
     match next_line(alloc, input) {
         Ok(line) => {
@@ -183,7 +187,8 @@ pub fn judge_lines<F: Read + Drop, P: Surroundings<File = F>, G: Register, I: Bu
         (Leaves G.Register (OfBodies (AsksNow P.Surroundings around.now F.remaining policy.now ahead))
         register.old register.new s) (AsksNow P.Surroundings around.now F.remaining policy.now ahead)
         (I.remaining input.old) (W.contents out.old) (W.contents out.new) result }
-    ensures only { IfErr result IsOfJudging }
+    ensures only { IfErr result (IsOfJudging (IsBadPolicyAt P.Surroundings around.now F.remaining policy.now)) }
+    ensures reported { PassesOn (G.reported register.old) (G.reported register.new) result }
 {
     let mut known = known;
     for _turn in 0..u64::MAX {

@@ -10,6 +10,7 @@ ghost use Rattle.guard.specs.Machine.{State};
 ghost use Rattle.station_jobs.specs.Faults.{IsOfABody, IsOfAQuestion, IsOfAnAnswer, IsOfBodies};
 ghost use Rattle.station_jobs.specs.Judging.{Asks, Judges};
 ghost use Rattle.station_jobs.specs.Leaving.{Leaves, OfBodies, OfQuestion};
+ghost use Rattle.station_jobs.specs.Reported.{PassesOn};
 ghost use Rattle.station_jobs.specs.Steps.{Answered, AnswersOne, Weighs};
 
 use crate::file_reader::read_body;
@@ -48,6 +49,7 @@ fn answer_body<G: Register, W: Write>(
         register.old register.new s)
         (question policy.now window body.now) (W.contents out.old) (W.contents out.new) result }
     ensures only { IfErr result IsOfAQuestion }
+    ensures reported { PassesOn (G.reported register.old) (G.reported register.new) result }
 {
     match judge(alloc, register, policy, window, body) {
         Ok(answer) => print_answer(alloc, answer, out),
@@ -92,6 +94,7 @@ pub fn judge_file<F: Read + Drop, P: Surroundings<File = F>, G: Register, W: Wri
         (Asks P.Surroundings around.now F.remaining (λ p. p ≡ policy.now) ahead) (path.now ∷ []) (W.contents out.old)
         (W.contents out.new) result }
     ensures only { IfErr result IsOfBodies }
+    ensures reported { PassesOn (G.reported register.old) (G.reported register.new) result }
 {
     match weighed(alloc, around, path) {
         Ok((body, moment)) => {
@@ -124,6 +127,9 @@ pub fn judge_files<F: Read + Drop, P: Surroundings<File = F>, G: Register, W: Wr
         (Asks P.Surroundings around.now F.remaining (λ p. p ≡ policy.now) ahead) (map string_bytes paths.now)
         (W.contents out.old) (W.contents out.new) result }
     ensures only { IfErr result IsOfBodies }
+
+    // Whatever the register keeps, a fault that it reports is the one that is returned.
+    ensures reported { PassesOn (G.reported register.old) (G.reported register.new) result }
 {
     for path in paths {
         let path = path.as_str();

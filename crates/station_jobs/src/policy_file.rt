@@ -3,7 +3,7 @@
 ghost use Rattle.std.specs.Prelude.{◌≡◌, ◌≢◌, ◌≤◌, ◌++◌, Err, IfErr, IfOk, IfSome, Ok, OnOk, ℕ, length};
 ghost use Rattle.guard.specs.Policies.{policy_at};
 ghost use Rattle.station_jobs.specs.Faults.{IsOfAFile, IsOfAPolicy, IsOfAPrintedPolicy};
-ghost use Rattle.station_jobs.specs.Judging.{IsPolicyAt};
+ghost use Rattle.station_jobs.specs.Judging.{IsBadPolicyAt, IsPolicyAt};
 ghost use Rattle.station_jobs.specs.Policy.{PrintsFirstNames, PrintsNames, names_text};
 
 use crate::file_reader::read_whole;
@@ -71,6 +71,8 @@ pub fn refreshed<F: Read + Drop, P: Surroundings<File = F>>(
     requires { policy_at known.text.items ≡ Ok known.policy }
     ensures text { IfOk result (λ p. policy_at p.text.items ≡ Ok p.policy) }
     ensures read { IfOk result (λ p. IsPolicyAt P.Surroundings around.now F.remaining path.now p.policy) }
+    ensures bad { (line : ℕ) → result ≡ Err (StationFault.BadPolicy line)
+        → IsBadPolicyAt P.Surroundings around.now F.remaining path.now line }
     ensures only { IfErr result IsOfAPolicy }
 {
     let file = around.open(path)?;

@@ -8,8 +8,9 @@ ghost use Rattle.guard.specs.Machine.{State};
 ghost use Rattle.guard.specs.Policies.{policy_at};
 ghost use Rattle.station_jobs.specs.Bodies.{PrintsBody, PrintsRows};
 ghost use Rattle.station_jobs.specs.Faults.{IsOfBodies};
-ghost use Rattle.station_jobs.specs.Judging.{AsksNow, IsPolicyAt, Judges};
+ghost use Rattle.station_jobs.specs.Judging.{AsksNow, IsBadPolicyAt, IsPolicyAt, Judges};
 ghost use Rattle.station_jobs.specs.Leaving.{Leaves, OfBodies, OfNone, OfRetiring};
+ghost use Rattle.station_jobs.specs.Reported.{PassesOn};
 ghost use Rattle.station_jobs.specs.Whole.{IsOfGiven, IsReadAs, JudgesGiven, JudgesIn, KeepsFiles, MakesIn, Retires};
 ghost use Rattle.station_jobs.specs.Whole.{RunsIn, departments_of, is_input};
 
@@ -64,6 +65,7 @@ fn judge_named<F: Read + Drop, P: Surroundings<File = F>, G: Register, W: Write>
         (AsksNow P.Surroundings around.now F.remaining judging.now.policy.now judging.now.ahead)
         (map string_bytes judging.now.bodies.now) (W.contents out.old) (W.contents out.new) result }
     ensures only { IfErr result IsOfBodies }
+    ensures reported { PassesOn (G.reported register.old) (G.reported register.new) result }
 {
     let (ahead, bodies) = (judging.ahead, judging.bodies);
     let done = judge_files(alloc, around, register, &known.policy, ahead, bodies, out);
@@ -92,7 +94,10 @@ fn judge_given<F: Read + Drop, P: Surroundings<File = F>, G: Register, I: BufRea
         (AsksNow P.Surroundings around.now F.remaining judging.now.policy.now judging.now.ahead)
         (map string_bytes judging.now.bodies.now) (I.remaining input.old) (W.contents out.old) (W.contents out.new)
         result }
-    ensures only { IfErr result (IsOfGiven (is_input (map string_bytes judging.now.bodies.now))) }
+    ensures only { IfErr result (IsOfGiven
+        (IsBadPolicyAt P.Surroundings around.now F.remaining judging.now.policy.now)
+        (is_input (map string_bytes judging.now.bodies.now))) }
+    ensures reported { PassesOn (G.reported register.old) (G.reported register.new) result }
     ensures unread { is_input (map string_bytes judging.now.bodies.now) ≡ false
         → I.remaining input.new ≡ I.remaining input.old }
 {
@@ -144,7 +149,8 @@ fn judge_over<
         (λ s Left r. JudgesGiven (is_input (map string_bytes judging.now.bodies.now)) s Left
         (AsksNow P.Surroundings around.now F.remaining judging.now.policy.now judging.now.ahead)
         (map string_bytes judging.now.bodies.now) (I.remaining input.old) (W.contents out.old) (W.contents out.new) r
-        × IfErr r (IsOfGiven (is_input (map string_bytes judging.now.bodies.now))))
+        × IfErr r (IsOfGiven (IsBadPolicyAt P.Surroundings around.now F.remaining judging.now.policy.now)
+        (is_input (map string_bytes judging.now.bodies.now))))
         (W.contents out.new ≡ W.contents out.old) result }
     ensures unread { is_input (map string_bytes judging.now.bodies.now) ≡ false
         → I.remaining input.new ≡ I.remaining input.old }
@@ -254,10 +260,12 @@ pub fn body_in<G: Register, D: GuardFile<Guard = G>, W: Write>(
 }
 
 /// Lowers the last serial of a guard, and returns its first one.
+#[tactic(auto, using(crate::proofs::Reported::reported_fault))]
 fn retire_over<G: Register>(alloc: Global, register: &mut G, last: u64) -> Result<u64, StationFault>
     ensures honest { G.is_honest register.new → G.is_honest register.old }
     ensures retires { G.is_honest register.new → (s : State) → G.keeps register.old s
         → Retires last s (Leaves G.Register (OfRetiring last) register.old register.new s) result }
+    ensures reported { PassesOn (G.reported register.old) (G.reported register.new) result }
 {
     match register.scope() {
         Ok(scope) => match retire(alloc, register, last) {

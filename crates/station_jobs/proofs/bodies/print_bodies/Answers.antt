@@ -1,6 +1,7 @@
-use Rattle.std.proofs.Common.{arith, subst}
+use Rattle.std.proofs.Common.{arith, refl, subst, ◌∙◌}
 use Rattle.station_jobs.specs.Bodies.{PrintsFrom}
 use Rattle.station_jobs.proofs.Leavings.{stays_same, stays_then}
+use Rattle.station_jobs.proofs.Reported.{reported_then}
 use Rattle.station_jobs.proofs.Rows.{counted_more, cut_after, none_listed, one_more, starts}
 use Rattle.station_jobs.proofs.bodies.print_bodies.Goals as goal
 
@@ -10,6 +11,7 @@ loop-row-init g c = record {
   stays = λ h s kept. stays_same g.G.Register c.args.register.now s kept;
   listed = λ h s kept. starts s (g.W.Write.contents c.args.out.now);
   counted = λ h s kept are. (omega arith, omega arith);
+  reported = refl;
 }
 
 pub loop-row-preserved : goal.loop-row-preserved
@@ -33,6 +35,7 @@ loop-row-preserved g c =
           (g.W.Write.contents c.print_from.new.out) are (inv.counted before s kept are)
           (subst (PrintsFrom s c.loop-row.from (g.W.Write.contents c.loop-row.out) (g.W.Write.contents c.print_from.new.out))
           c.in-Ok-Some.field-0-is (c.in-Ok-Some.ensures.prints h s (inv.stays before s kept).kept));
+      reported = c.in-Ok-Some.ensures.reported ∙ inv.reported;
     }
 
 pub returns-in-Err-clause-lists : goal.returns-in-Err-clause-lists
@@ -48,3 +51,9 @@ returns-clause-lists g c h s kept =
     let mid = g.W.Write.contents c.loop-row.out in
     cut_after s (g.W.Write.contents c.args.out.now) mid mid c.loop-row.from (c.loop-row.invariant.listed h s kept)
     (none_listed s c.loop-row.from mid)
+
+pub returns-in-Err-clause-reported : goal.returns-in-Err-clause-reported
+returns-in-Err-clause-reported g c =
+    reported_then (g.G.Register.reported c.args.register.now) (g.G.Register.reported c.loop-row.register)
+    (g.G.Register.reported c.print_from.new.register) c.in-Err.fault c.loop-row.invariant.reported
+    c.in-Err.ensures.reported

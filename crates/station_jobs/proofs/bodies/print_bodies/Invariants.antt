@@ -1,4 +1,4 @@
-use Rattle.std.proofs.Common.{◌≤◌, ◌^◌}
+use Rattle.std.proofs.Common.{◌≡◌, ◌≤◌, ◌^◌}
 use Rattle.guard.specs.Machine.{State}
 use Rattle.station_jobs.specs.Bodies.{AreReadable}
 use Rattle.station_jobs.specs.Leaving.{Stays}
@@ -15,4 +15,5 @@ invariant-loop-row g l = record {
       → Listed s (g.W.Write.contents l.fn.out) (g.W.Write.contents l.out) l.from;
   counted : g.G.Register.is_honest l.register → (s : State) → g.G.Register.keeps l.fn.register s → AreReadable s
       → (l._row ≤ l.from) × (l.from ≤ 2 ^ 63);
+  reported : g.G.Register.reported l.register ≡ g.G.Register.reported l.fn.register;
 }

@@ -1,4 +1,4 @@
-use Rattle.std.proofs.Common.{◌≡◌, IfSome, Ok, Option, subst}
+use Rattle.std.proofs.Common.{◌≡◌, IfSome, Ok, Option, refl, subst, ◌∙◌}
 use Rattle.guard.specs.Policies.{policy_at}
 use Rattle.station_jobs.specs.declared.policy_file.PolicyText.{PolicyText}
 use Rattle.station_jobs.specs.Input.{JudgesNext}
@@ -6,6 +6,7 @@ use Rattle.station_jobs.specs.Judging.{AsksNow, left_by}
 use Rattle.station_jobs.specs.Leaving.{Leaves, OfBodies}
 use Rattle.station_jobs.proofs.Leavings.{stays_same}
 use Rattle.station_jobs.proofs.Lines.{fails, goes_on, starts, stops}
+use Rattle.station_jobs.proofs.Reported.{reported_then}
 use Rattle.station_jobs.proofs.input.judge_lines.Goals as goal
 
 pub loop-turn-init : goal.loop-turn-init
@@ -17,6 +18,7 @@ loop-turn-init g c = record {
       starts (Leaves g.G.Register (OfBodies Asked) c.args.register.now c.args.register.now s) Asked s
       (g.I.Read.remaining c.args.input.now) (g.W.Write.contents c.args.out.now)
       (stays_same g.G.Register c.args.register.now s kept);
+  reported = refl;
 }
 
 pub loop-turn-preserved : goal.loop-turn-preserved
@@ -43,6 +45,7 @@ loop-turn-preserved g c =
           (g.W.Write.contents c.judge_next.new.out) c.in-Ok-Some.policy first
           (subst (λ (o : Option PolicyText). Next o) c.in-Ok-Some.field-0-is
           (c.in-Ok-Some.ensures.judges h t first.judges.left.kept));
+      reported = c.in-Ok-Some.ensures.reported ∙ inv.reported;
     }
 
 pub returns-in-Err-clause-judges : goal.returns-in-Err-clause-judges
@@ -62,3 +65,9 @@ returns-clause-judges g c h s kept =
     (AsksNow g.P.Surroundings c.args.around.now g.F.Read.remaining c.args.policy.now c.args.ahead) s
     (g.I.Read.remaining c.args.input.now) (g.I.Read.remaining c.loop-turn.input) (g.W.Write.contents c.args.out.now)
     (g.W.Write.contents c.loop-turn.out) (c.loop-turn.invariant.underway h s kept)
+
+pub returns-in-Err-clause-reported : goal.returns-in-Err-clause-reported
+returns-in-Err-clause-reported g c =
+    reported_then (g.G.Register.reported c.args.register.now) (g.G.Register.reported c.loop-turn.register)
+    (g.G.Register.reported c.judge_next.new.register) c.in-Err.fault c.loop-turn.invariant.reported
+    c.in-Err.ensures.reported

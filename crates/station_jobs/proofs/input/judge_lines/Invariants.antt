@@ -16,4 +16,5 @@ invariant-loop-turn g l = record {
       (OfBodies (AsksNow g.P.Surroundings l.around g.F.Read.remaining l.policy l.ahead)) l.fn.register l.register s)
       (AsksNow g.P.Surroundings l.around g.F.Read.remaining l.policy l.ahead) (g.I.Read.remaining l.fn.input)
       (g.I.Read.remaining l.input) (g.W.Write.contents l.fn.out) (g.W.Write.contents l.out);
+  reported : g.G.Register.reported l.register ≡ g.G.Register.reported l.fn.register;
 }

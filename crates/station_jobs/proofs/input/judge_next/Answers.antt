@@ -1,8 +1,9 @@
-use Rattle.std.proofs.Common.{◌≡◌, List, inl, length, refl, rules, subst, sym, ℕ}
+use Rattle.std.proofs.Common.{◌≡◌, List, inl, inr, length, refl, rules, subst, sym, ℕ}
 use Rattle.std.specs.Io.BufRead.{strip_last}
 use Rattle.station_jobs.specs.Input.{TakesPath}
 use Rattle.station_jobs.proofs.Leavings.{stays_same}
 use Rattle.station_jobs.proofs.Lines.{takes_none, takes_path}
+use Rattle.station_jobs.proofs.Reported.{own_file}
 use Rattle.station_jobs.proofs.input.judge_next.Goals as goal
 
 pub returns-then-is_empty-clause-judges : goal.returns-then-is_empty-clause-judges
@@ -38,3 +39,6 @@ returns-in-Ok-clause-judges g c h s kept =
           c.in-Ok.ensures.taken some),
       c.in-Err-judge_line.ensures.judges h s kept,
     )
+
+pub returns-clause-reported : goal.returns-clause-reported
+returns-clause-reported g c = inr (refl, own_file c.in-Err.fault c.in-Err.ensures.only)

@@ -1,8 +1,10 @@
-use Rattle.std.proofs.Common.{◌∷◌, []}
-use Rattle.station_jobs.specs.Judging.{AsksNow}
+use Rattle.std.proofs.Common.{Err, ap, inr, refl, ◌∷◌, []}
+use Rattle.station_jobs.specs.Judging.{AsksNow, IsBadPolicyAt}
 use Rattle.station_jobs.specs.Leaving.{Leaves, OfBodies}
+use Rattle.station_jobs.proofs.Causes.{judging_of_a_policy}
 use Rattle.station_jobs.proofs.Judgements.{fault_first, judged_now}
 use Rattle.station_jobs.proofs.Leavings.{fails_same, policy_cause}
+use Rattle.station_jobs.proofs.Reported.{own_policy}
 use Rattle.station_jobs.proofs.input.judge_now.Goals as goal
 
 pub returns-in-Err-clause-judges : goal.returns-in-Err-clause-judges
@@ -19,3 +21,11 @@ returns-in-Err-judge_file-clause-judges g c h s kept =
     judged_now g.G.Register c.args.register.now c.judge_file.new.register g.P.Surroundings c.args.around.now
     g.F.Read.remaining c.in-Ok.known.policy c.args.policy.now c.args.ahead c.in-Ok.ensures.read s _ _ _ _
     (c.in-Err-judge_file.ensures.judges h s kept)
+
+pub returns-in-Err-clause-only : goal.returns-in-Err-clause-only
+returns-in-Err-clause-only g c =
+    judging_of_a_policy (IsBadPolicyAt g.P.Surroundings c.args.around.now g.F.Read.remaining c.args.policy.now)
+    c.in-Err.fault c.in-Err.ensures.only (λ line is. c.in-Err.ensures.bad line (ap Err is))
+
+pub returns-in-Err-clause-reported : goal.returns-in-Err-clause-reported
+returns-in-Err-clause-reported g c = inr (refl, own_policy c.in-Err.fault c.in-Err.ensures.only)

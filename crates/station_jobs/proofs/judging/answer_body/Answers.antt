@@ -1,6 +1,7 @@
 use Rattle.guard.specs.Decided.{question}
 use Rattle.guard.specs.Machine.{Question}
 use Rattle.station_jobs.proofs.Leavings.{answered, unanswered}
+use Rattle.station_jobs.proofs.Reported.{reported_of_a_question, unreported_answer}
 use Rattle.station_jobs.proofs.judging.answer_body.Goals as goal
 
 pub returns-in-Ok-clause-answers : goal.returns-in-Ok-clause-answers
@@ -19,3 +20,13 @@ returns-in-Err-clause-answers g c h s kept =
     rw c.from.ensures (unanswered g.G.Register c.args.register.now c.judge.new.register s q
     (g.W.Write.contents c.args.out.now) c.in-Err.fault (is.fault h s kept) (is.crash h s kept)
     (λ low. is.cause h s kept low c.requires))
+
+pub returns-in-Ok-clause-reported : goal.returns-in-Ok-clause-reported
+returns-in-Ok-clause-reported g c =
+    unreported_answer (g.G.Register.reported c.args.register.now) (g.G.Register.reported c.judge.new.register)
+    c.print_answer.result c.in-Ok.ensures.reported c.print_answer.ensures.only
+
+pub returns-in-Err-clause-reported : goal.returns-in-Err-clause-reported
+returns-in-Err-clause-reported g c =
+    rw c.from.ensures (reported_of_a_question (g.G.Register.reported c.args.register.now)
+    (g.G.Register.reported c.judge.new.register) c.in-Err.fault c.in-Err.ensures.reported)

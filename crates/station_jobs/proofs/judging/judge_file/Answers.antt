@@ -1,9 +1,10 @@
-use Rattle.std.proofs.Common.{◌≡◌, List, ℕ}
+use Rattle.std.proofs.Common.{◌≡◌, List, inr, refl, ℕ}
 use Rattle.guard.specs.Machine.{Question}
 use Rattle.station_jobs.specs.Judging.{Asks}
 use Rattle.station_jobs.specs.Leaving.{Leaves, OfBodies}
 use Rattle.station_jobs.proofs.Judgements.{fault_first, one_weighed}
 use Rattle.station_jobs.proofs.Leavings.{body_cause, fails_same}
+use Rattle.station_jobs.proofs.Reported.{own_body}
 use Rattle.station_jobs.proofs.judging.judge_file.Goals as goal
 
 pub returns-in-Err-clause-judges : goal.returns-in-Err-clause-judges
@@ -20,3 +21,6 @@ returns-in-Ok-clause-judges g c h s kept =
     one_weighed g.G.Register c.args.register.now c.answer_body.new.register g.P.Surroundings c.args.around.now
     g.F.Read.remaining c.args.policy.now c.args.ahead c.args.path.now _ _ _ c.as_slice.ensures.value
     c.in-Ok.ensures.weighs s _ _ _ (c.answer_body.ensures.answers h s kept)
+
+pub returns-in-Err-clause-reported : goal.returns-in-Err-clause-reported
+returns-in-Err-clause-reported g c = inr (refl, own_body c.in-Err.fault c.in-Err.ensures.only)

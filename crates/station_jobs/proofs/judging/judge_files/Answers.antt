@@ -1,8 +1,9 @@
-use Rattle.std.proofs.Common.{◌≡◌, ◌+◌, ◌∷◌, [], List, ℕ, Err, Ok, drop, map, string_bytes, subst, take}
+use Rattle.std.proofs.Common.{◌≡◌, ◌+◌, ◌∷◌, [], List, ℕ, Err, Ok, drop, map, refl, string_bytes, subst, take, ◌∙◌}
 use Rattle.station_jobs.specs.Judging.{Asks, Judges, left_by}
 use Rattle.station_jobs.specs.Leaving.{Leaves, OfBodies}
 use Rattle.station_jobs.proofs.Judgements.{given_after, judged_then, more_given, next_path, none_judged}
 use Rattle.station_jobs.proofs.Leavings.{stays_same}
+use Rattle.station_jobs.proofs.Reported.{reported_then}
 use Rattle.station_jobs.proofs.judging.judge_files.Goals as goal
 
 pub loop-path-init : goal.loop-path-init
@@ -13,6 +14,7 @@ loop-path-init g c = record {
       (λ p. p ≡ c.args.policy.now) c.args.ahead in
       none_judged (Leaves g.G.Register (OfBodies Asked) c.args.register.now c.args.register.now s) Asked s
       (g.W.Write.contents c.args.out.now) (stays_same g.G.Register c.args.register.now s kept);
+  reported = refl;
 }
 
 pub loop-path-preserved : goal.loop-path-preserved
@@ -39,6 +41,7 @@ loop-path-preserved g c =
           (subst (λ r. Judges t (Leaves g.G.Register (OfBodies Asked) between new t) Asked
           (c.as_str-path.result.now ∷ [])
           (g.W.Write.contents c.loop-path.out) (g.W.Write.contents c.judge_file.new.out) r) c.in-Ok.is one));
+      reported = c.in-Ok.ensures.reported ∙ inv.reported;
     }
 
 pub returns-in-Err-clause-judges : goal.returns-in-Err-clause-judges
@@ -67,3 +70,9 @@ returns-in-Err-clause-judges g c h s kept =
     (subst (λ (ps : List (List ℕ)). Judges s Left Asked ps held holds r)
     (next_path string_bytes paths i c.path-item.result c.as_str-path.result.now c.loop-path-test.true c.path-item.is
     c.as_str-path.ensures.value) both))
+
+pub returns-in-Err-clause-reported : goal.returns-in-Err-clause-reported
+returns-in-Err-clause-reported g c =
+    reported_then (g.G.Register.reported c.args.register.now) (g.G.Register.reported c.loop-path.register)
+    (g.G.Register.reported c.judge_file.new.register) c.in-Err.fault c.loop-path.invariant.reported
+    c.in-Err.ensures.reported

@@ -14,4 +14,5 @@ invariant-loop-path g l = record {
       l.fn.register l.register s)
       (Asks g.P.Surroundings l.around g.F.Read.remaining (λ p. p ≡ l.policy) l.ahead)
       (map string_bytes (take l.path-index l.paths)) (g.W.Write.contents l.fn.out) (g.W.Write.contents l.out) (Ok tt);
+  reported : g.G.Register.reported l.register ≡ g.G.Register.reported l.fn.register;
 }

@@ -20,4 +20,4 @@ returns-in-Ok g c =
       is.honest,
       λ h s kept.
           record { lists = is.lists h s kept; stays = is.stays h s kept; only = is.only; cause = is.cause h s kept },
-    ) c.close.ensures c.closed.ensures
+    ) is.reported c.close.ensures c.closed.ensures

@@ -16,4 +16,4 @@ returns-in-Ok g c =
     ran_in g.G.Register g.D.GuardFile c.requires OfNone Did (λ s Left Left' r leads is. (is.0, leads s r is.1))
     (holds ≡ held) c.args.db.now c.open.new.self c.close.new.self c.args.path.now c.in-Ok.guard
     c.print_body-done.new.register c.print_body-done.result c.close.result c.closed.result c.in-Ok.ensures
-    (is.honest, λ h s kept. (is.prints h s kept, is.stays h s kept)) c.close.ensures c.closed.ensures
+    (is.honest, λ h s kept. (is.prints h s kept, is.stays h s kept)) is.reported c.close.ensures c.closed.ensures
