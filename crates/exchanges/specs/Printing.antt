@@ -8,6 +8,7 @@ use Rattle.office.specs.declared.arrival.Arrival.{Arrival}
 use Rattle.web.specs.declared.exchange.Exchange.{Exchange}
 use Rattle.web.specs.declared.exchange.Given.{Given}
 use Rattle.web.specs.declared.exchange.Given.TheVariants.{Answer, Fault}
+use Rattle.web.specs.Forms.{HaveForms}
 use Rattle.web.specs.Runs.{Serves}
 
 -- the word `answer`, a length and a response of that length, or the word `fault`
@@ -28,12 +29,15 @@ abbrev pub has_fault : List Given → Bool
 has_fault given = list_any is_fault given
 
 -- The output of a register for the exchanges is printed after the earlier output; `fault` says whether any got a fault.
+-- Whatever the register means, there is a response or a fault for each exchange, and each response has the form that
+-- its request asks for.
 pub record Prints (before after keeps : Opening → List Arrival → Type 0) (exchanges : List Exchange)
     (old new : Option (List ℕ)) (fault : Bool) : Type 0 where
   pub given : List Given
   pub serves : Serves before after keeps exchanges given
   pub printed : Appends old new (all_given_text given)
   pub faults : has_fault given ≡ fault
+  pub forms : HaveForms exchanges given
 
 -- A register gave each of the exchanges a response or a fault, whatever was printed.
 abbrev pub AreRun : (before after keeps : Opening → List Arrival → Type 0) → List Exchange → Type 0

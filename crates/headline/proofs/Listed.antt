@@ -22,6 +22,7 @@ use Rattle.web.specs.declared.exchange.Given.TheVariants.{Answer, Fault}
 use Rattle.web.specs.Answers.{IsAnswered, ListFits, MayList, answer_text, with_ask}
 use Rattle.web.specs.Runs.{AllDue}
 use Rattle.web.specs.Causes.{IsOfAList}
+use Rattle.web.specs.Forms.{IsListText}
 use Rattle.web.proofs.Lists.{list_only}
 use Rattle.headline.specs.declared.publish_fault.PublishFault.{PublishFault}
 use Rattle.headline.specs.declared.publish_fault.PublishFault.TheVariants.{Store, Write}
@@ -53,11 +54,19 @@ module _ (exact : ListsAreExact) where
       → ((o : Opening) (l : List Arrival) → means o l → AreRevoked found (state o l))
       → OnOk r (IsTrue (fits found.parts.items found.key_ids))
       → OnOk r (Appends old new (published_text found.head found.parts.items found.key_ids))
-      → OnOk r ((bytes : List ℕ) × Appends old new bytes × ((o : Opening) (l : List Arrival) → means o l → IsList o l bytes))
+      → OnOk r ((bytes : List ℕ) × Appends old new bytes × IsListText bytes
+      × ((o : Opening) (l : List Arrival) → means o l → IsList o l bytes))
   listed means office (Err e) found old new row fit written = tt
   listed means office (Ok x) found old new row fit written = (
     published_text found.head found.parts.items found.key_ids,
     written,
+    record {
+      head = found.head;
+      parts = found.parts.items;
+      key_ids = found.key_ids;
+      sized = fit;
+      text = refl;
+    },
     λ o l m.
         let s = state o l in
         let are = row o l m in

@@ -50,6 +50,7 @@ prints old new exchanges held holds fault exact one keeps p = record {
     serves = serves old new exchanges p.given keeps p.serves;
     printed = p.printed;
     faults = p.faults;
+    forms = p.forms;
   };
   lists = λ o l m. let r = p.serves o l m in in_run exact one o l exchanges p.given r.0 r.1;
 }

@@ -31,6 +31,7 @@ use Rattle.web.specs.declared.exchange.Given.{Given}
 use Rattle.web.specs.declared.exchange.Given.TheVariants.{Answer, Fault}
 use Rattle.web.specs.Answers.{IsAnswered, ListFits, with_ask}
 use Rattle.web.specs.Causes.{StopsAt}
+use Rattle.web.specs.Forms.{IsListText}
 use Rattle.exchanges.specs.declared.running.RunFault.{RunFault}
 use Rattle.exchanges.specs.declared.running.RunFault.TheVariants as run
 use Rattle.exchanges.specs.Printing.{AreRun, Prints}
@@ -171,9 +172,9 @@ IfFound (Err Write) P = P
 
 -- ---- publishing
 
--- if everything is written, the written bytes are the list of each history that the tables represented
+-- if everything is written, the written bytes are a list: that of each history that the tables represented
 abbrev pub WritesList : (held holds : Option (List ℕ)) → (old new : State) → Result (Unit {0}) PublishFault → Type 0
-WritesList held holds old new r = OnOk r ((bytes : List ℕ) × Appends held holds bytes
+WritesList held holds old new r = OnOk r ((bytes : List ℕ) × Appends held holds bytes × IsListText bytes
     × ((o : Opening) (l : List Arrival) → Tells old o l → IsList o l bytes))
 
 -- if the list was found, the tables durably represent each history that they represented before

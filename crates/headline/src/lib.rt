@@ -11,7 +11,8 @@
 
 mod publish_fault;
 
-ghost use Rattle.std.specs.Prelude.{◌≡◌, ◌≢◌, ◌⊎◌, ◌<◌, ◌+◌, ℕ, List, length, Err, IfErr, IsTrue, OnOk, if◌then◌else◌};
+ghost use Rattle.std.specs.Prelude.{◌≡◌, ◌≢◌, ◌⊎◌, ◌<◌, ◌+◌, ℕ, List, length, Err, IfErr, IfOk, IsTrue, OnOk};
+ghost use Rattle.std.specs.Prelude.{if◌then◌else◌};
 ghost use Rattle.std.specs.Io.KnownBytes.{Appends};
 ghost use Rattle.krl.specs.Published.{fits, published_text};
 ghost use Rattle.sqlite.specs.Held.{state};
@@ -22,7 +23,8 @@ ghost use Rattle.office.specs.declared.arrival.Arrival.{Arrival};
 ghost use Rattle.office.specs.Faults.{HasRegisterCause};
 ghost use Rattle.store.specs.Meaning.{RegisterHasFailed, KeepsTelling, StoresWhereOpen};
 ghost use Rattle.web.specs.Answers.{AsksNoChange};
-ghost use Rattle.web.specs.Causes.{IsOfAList};
+ghost use Rattle.web.specs.Causes.{AsksPlainGet, IsOfAList};
+ghost use Rattle.web.specs.Forms.{HasForm};
 ghost use Rattle.web.specs.Runs.{AskNoChange};
 ghost use Rattle.office_laws.specs.Counting.{CountsUp};
 ghost use Rattle.headline.specs.Headline.{AnswersDue, AnswersList, BodiesNameTheirSigners, BodiesStay};
@@ -53,7 +55,8 @@ pub fn replay<S: Alter, W: Write>(
 ) -> Result<(), RunFault>
     // Each exchange gets the response of the reference model after the first acceptances among the earlier arrivals
     // that had no fault; the response to a GET of the list is the exact list. The tables then represent the history
-    // with all arrivals. If an exchange used the tables, they are open and durably represent that history.
+    // with all arrivals. If an exchange used the tables, they are open and durably represent that history. Whatever the
+    // tables mean, there is a response for each exchange, of the form that its request asks for.
     ensures ok { On S.Store (PrintsDue exchanges.now (W.contents out.old) (W.contents out.new))
         store.old.conn store.new.conn result }
 
@@ -101,6 +104,9 @@ pub fn respond<S: Alter>(
     moment: u64,
     nonce: &[u8; 32],
 ) -> Result<Vec<u8>, StoreFault>
+    // Whatever the tables mean, the response has the form that the request asks for.
+    ensures form { IfOk result (λ v. HasForm request.now v.items) }
+
     // The response is the specified one, and the tables then represent the history with the request's arrival, if it
     // has one. If the request used them, they are open and durably represent that history, so no crash loses it.
     ensures answered { On S.Store (AnswersDue request.now moment nonce.now) store.old.conn store.new.conn result }
@@ -117,6 +123,11 @@ pub fn respond<S: Alter>(
     ensures only { On S.Store FailsAsRegister store.old.conn store.new.conn result }
     ensures cause { HasCleanDisk (state S.Store store.new.conn) → IfErr result (λ e. HasRegisterCause e (OfficeStops
         (λ s. state S.Store s.conn) request.now moment nonce.now store.old store.new)) }
+
+    // For a GET, except that of the pending certificates, it is returned only if the disk failed during the call, or
+    // had shut the connection before.
+    ensures plain { AsksPlainGet request.now → HasCleanDisk (state S.Store store.new.conn) → IfErr result
+        (λ e. HasRegisterCause e (RegisterHasFailed (state S.Store store.old.conn) (state S.Store store.new.conn))) }
 
     // A disk that has been faithful when the call ends was faithful when it began.
     ensures honest { StaysClean S.Store store.old.conn store.new.conn }
@@ -172,7 +183,8 @@ pub fn publish<S: Alter, W: Sink>(
 ) -> Result<(), PublishFault>
     requires { W.failed sink.old < u64.MAX }
 
-    // The written bytes are the list, which revokes exactly what accepted messages named.
+    // The written bytes are a list, whatever the tables mean. It is the office's, which revokes exactly what accepted
+    // messages named.
     ensures list { On S.Store (WritesList (W.taken sink.old) (W.taken sink.new)) store.old.conn store.new.conn result }
 
     // The tables represent what they did, and durably if the list was found: they are then open, and no crash loses it.

@@ -80,7 +80,7 @@ module _ (old new : State) (was : IsTrue old.is_open) where
   applied exchanges held holds (Err (fault.List x)) h = absurd h
 
   listed : (held holds : Option (List ℕ)) (r : Result Unit JobFault) → PrintsKrl old new held holds r → AddsArrivals old new
-  listed held holds (Ok done) h = adds_none old new (λ o l told. (h.1.2 o l told).1.tells)
+  listed held holds (Ok done) h = adds_none old new (λ o l told. (h.1.3 o l told).1.tells)
   listed held holds (Err fault.Write) h = adds_none old new (λ o l told. (h.1 o l told).tells)
   listed held holds (Err fault.NoMemory) h = adds_none old new h.1.tells
   listed held holds (Err (fault.Store e)) h = adds_none old new h.1.tells
@@ -96,7 +96,7 @@ module _ (old new : State) (was : IsTrue old.is_open) where
 
   reported : (which : Report) (held holds : Option (List ℕ)) (r : Result Unit JobFault)
       → IsReport which old new held holds r → AddsArrivals old new
-  reported which held holds (Ok done) h = adds_none old new (λ o l told. (h.2 o l told).1.tells)
+  reported which held holds (Ok done) h = adds_none old new (λ o l told. (h.3 o l told).1.tells)
   reported which held holds (Err fault.Write) h = adds_none old new (λ o l told. (h o l told).tells)
   reported which held holds (Err fault.NoMemory) h = adds_none old new h.tells
   reported which held holds (Err (fault.Store e)) h = adds_none old new h.tells

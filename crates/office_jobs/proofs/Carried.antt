@@ -1,11 +1,14 @@
 -- What a job does to the office that was opened, it does to the database as it was given.
-use Rattle.office_jobs.proofs.Words.{Applies, Bool, DiskFailed, Err, Exchange, IsAsBefore, IsExcused, IsOfARegister}
-use Rattle.office_jobs.proofs.Words.{IsOpened, IsTrue, IsUnopened, IsUnprinted, JobFault, KeepsTelling, List}
-use Rattle.office_jobs.proofs.Words.{OfficePrints, Ok, OnOk, Option, Result, RunFault, State, StoreFault, false}
-use Rattle.office_jobs.proofs.Words.{inl, inr, of_store, refl, run_result, subst, sym, true, ℕ, ◌∙◌, ◌≡◌}
+use Rattle.office_jobs.proofs.Words.{Applies, Arrival, Bool, DiskFailed, Err, Exchange, HasCleanDisk, IsAsBefore}
+use Rattle.office_jobs.proofs.Words.{IsExcused, IsOfARegister, IsOpened, IsTrue, IsUnopened, IsUnprinted, JobFault}
+use Rattle.office_jobs.proofs.Words.{KeepsTelling, List, OfficePrints, Ok, OnOk, Opening, Option, Result, RunFault}
+use Rattle.office_jobs.proofs.Words.{State, StoreFault, Tells, arith, false, inl, inr, of_store, refl, run_result}
+use Rattle.office_jobs.proofs.Words.{subst, sym, true, ℕ, ◌∙◌, ◌≡◌}
 use Rattle.office.specs.declared.store_fault.StoreFault.TheVariants as store
 use Rattle.store_sql.specs.declared.offices.OfficeRow.{OfficeRow}
-use Rattle.store.specs.Meaning.{Looks, opened_by}
+use Rattle.office.specs.Faults.{HasRegisterCause}
+use Rattle.store.specs.Meaning.{Looks, RegisterHasFailed, opened_by}
+use Rattle.store.proofs.Words.{both_ways}
 use Rattle.exchanges.specs.declared.running.RunFault.TheVariants as run
 use Rattle.headline.specs.Headline.{OfficeRuns}
 use Rattle.office_jobs.specs.declared.job_fault.JobFault.TheVariants as fault
@@ -31,14 +34,29 @@ before_open a b h = record {
 
 -- ---- faults
 
--- a fault that has its excuse is one of a register
-of_a_register : (A : Type 0) (e : StoreFault) → IsExcused A e → IsOfARegister e
-of_a_register A store.NoMemory h = tt
-of_a_register A store.Device h = tt
-of_a_register A store.AlreadyAnOffice h = h
-of_a_register A store.NotAnOffice h = h
-of_a_register A store.WrongSchema h = h
-of_a_register A store.Damaged h = h
+-- a fault of a register that has its cause is excused by a failure of the disk
+pub excused : (e : StoreFault) (old new : State) → HasCleanDisk new → (o : Opening) (l : List Arrival) → Tells old o l
+    → IsOfARegister e → HasRegisterCause e (RegisterHasFailed old new) → IsExcused (DiskFailed old new) e
+excused store.NoMemory old new clean o l m only cause = tt
+excused store.Device old new clean o l m only cause = cause clean o l m
+excused store.AlreadyAnOffice old new clean o l m only cause = absurd only
+excused store.NotAnOffice old new clean o l m only cause = absurd only
+excused store.WrongSchema old new clean o l m only cause = absurd only
+excused store.Damaged old new clean o l m only cause = absurd only
+
+-- an excuse that another implies
+excused_by : (A B : Type 0) (e : StoreFault) → (A → B) → IsExcused A e → IsExcused B e
+excused_by A B store.NoMemory so h = tt
+excused_by A B store.Device so h = so h
+excused_by A B store.AlreadyAnOffice so h = h
+excused_by A B store.NotAnOffice so h = h
+excused_by A B store.WrongSchema so h = h
+excused_by A B store.Damaged so h = h
+
+-- a failure after an office was opened is one since the database was given
+failed_since : (old mid new : State) → IsOpened old mid → DiskFailed mid new → DiskFailed old new
+failed_since old mid new opened (inl more) = inl (omega (arith, opened.counts, more))
+failed_since old mid new opened (inr shut) = absurd (both_ways mid.is_open shut opened.is_open)
 
 -- a database that wasn't opened is left as it was
 pub unopened_left : (old new : State) (held holds : Option (List ℕ)) (e : StoreFault) → IsUnopened old new e
@@ -47,7 +65,7 @@ pub unopened_left : (old new : State) (held holds : Option (List ℕ)) (e : Stor
 unopened_left old new held holds e u same = record {
   unprinted = same;
   tells = u.tells;
-  only = λ is_open o l m. of_a_register (DiskFailed old new) e (u.only is_open o l m);
+  only = u.only;
 }
 
 -- what a fault leaves of an opened office, it leaves of the database
@@ -56,7 +74,8 @@ pub left_from : (old mid new : State) (held holds : Option (List ℕ)) (e : Stor
 left_from old mid new held holds e opened left = record {
   unprinted = left.unprinted;
   tells = λ o l m. left.tells o l (opened.tells o l m);
-  only = λ is_open o l m. left.only opened.is_open o l (opened.tells o l m);
+  only = λ is_open o l m. excused_by (DiskFailed mid new) (DiskFailed old new) e (failed_since old mid new opened)
+      (left.only opened.is_open o l (opened.tells o l m));
 }
 
 -- ---- rows of the office's table
@@ -95,6 +114,7 @@ prints_from old mid new es held holds fault tells p = record {
     serves = λ o l m. p.prints.serves o l (tells o l m);
     printed = p.prints.printed;
     faults = p.prints.faults;
+    forms = p.prints.forms;
   };
   lists = λ o l m. p.lists o l (tells o l m);
 }

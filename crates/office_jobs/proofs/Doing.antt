@@ -208,7 +208,7 @@ module _ (old new : State) where
       → Shown RevocationList Bytes held holds r
   listed held holds (Ok done) refuses h =
       showed RevocationList Bytes list_get asks_list done held holds h.1.0 h.1.1 refuses (λ o l told.
-      let is = h.1.2 o l told in (
+      let is = h.1.3 o l told in (
         ap (response_text 200 Bytes) is.0.same,
         λ _. record { office = told.history.office; fits = is.0.fits },
         is.1.tells,
@@ -236,7 +236,7 @@ module _ (old new : State) where
       → IsReport report.Signers old new held holds r → Shown Signers PlainText held holds r
   signers_shown held holds (Ok done) refuses h =
       showed Signers PlainText signers_get asks_signers done held holds h.0 h.1 refuses (λ o l told.
-      let is = h.2 o l told in (ap (response_text 200 PlainText) is.0, λ other. absurd (cc), is.1.tells))
+      let is = h.3 o l told in (ap (response_text 200 PlainText) is.0, λ other. absurd (cc), is.1.tells))
   signers_shown held holds (Err fault.Write) refuses h =
       unshown Signers PlainText signers_get asks_signers (Err fault.Write) held holds refuses
       (λ o l told. (h o l told).tells) (one_fault signers_get)
@@ -260,7 +260,7 @@ module _ (old new : State) where
       → IsReport report.Table old new held holds r → Shown Table PlainText held holds r
   table_shown held holds (Ok done) refuses h =
       showed Table PlainText table_get asks_table done held holds h.0 h.1 refuses (λ o l told.
-      let is = h.2 o l told in (ap (response_text 200 PlainText) is.0, λ other. absurd (cc), is.1.tells))
+      let is = h.3 o l told in (ap (response_text 200 PlainText) is.0, λ other. absurd (cc), is.1.tells))
   table_shown held holds (Err fault.Write) refuses h =
       unshown Table PlainText table_get asks_table (Err fault.Write) held holds refuses
       (λ o l told. (h o l told).tells) (one_fault table_get)

@@ -1,15 +1,19 @@
 -- The list and the reports of a database, as they are printed.
-use Rattle.office_jobs.proofs.Words.{Appends, Arrival, Err, IfErr, IsAsBefore, IsOfARegister, IsOpened, IsReport}
-use Rattle.office_jobs.proofs.Words.{IsTrue, IsUnopened, IsUnprinted, JobFault, KeepsTelling, List, PrintsKrl}
-use Rattle.office_jobs.proofs.Words.{NoMemory, Ok, OnOk, Opening, Option, Report, Reports, Result, State, StoreFault}
-use Rattle.office_jobs.proofs.Words.{Stores, Tells, Write, of_store, subst, sym, ℕ, ◌≡◌, ◌≢◌}
+use Rattle.office_jobs.proofs.Words.{Appends, Arrival, DiskFailed, Err, HasCleanDisk, IfErr, IsAsBefore, IsExcused}
+use Rattle.office_jobs.proofs.Words.{IsOfARegister, IsOpened, IsReport, IsTrue, IsUnopened, IsUnprinted, JobFault}
+use Rattle.office_jobs.proofs.Words.{KeepsTelling, List, NoMemory, Ok, OnOk, Opening, Option, PrintsKrl, Report}
+use Rattle.office_jobs.proofs.Words.{Reports, Result, State, StoreFault, Stores, Tells, Write, of_store, subst, sym}
+use Rattle.office_jobs.proofs.Words.{ℕ, ◌≡◌, ◌≢◌}
+use Rattle.office.specs.Faults.{HasRegisterCause}
 use Rattle.office.specs.declared.store_fault.StoreFault.TheVariants as store
 use Rattle.headline.specs.declared.publish_fault.PublishFault.{PublishFault}
 use Rattle.headline.specs.declared.publish_fault.PublishFault.TheVariants as publish
 use Rattle.headline.specs.Headline.{IfFound, IsList, OfStore}
+use Rattle.store.specs.Meaning.{RegisterHasFailed}
+use Rattle.web.specs.Forms.{IsListText}
 use Rattle.office_jobs.specs.declared.job_fault.JobFault.TheVariants.{Store}
 use Rattle.office_jobs.specs.Faults.{publish_result}
-use Rattle.office_jobs.proofs.Carried.{before_again, before_open, left_from, unopened_left}
+use Rattle.office_jobs.proofs.Carried.{before_again, before_open, excused, left_from, unopened_left}
 
 -- ---- the list
 
@@ -31,7 +35,8 @@ unlisted e f old new held holds same u silent =
 
 -- an open office after a fault of the register
 pub left : (mid new : State) (held holds : Option (List ℕ)) (e : StoreFault) → holds ≡ held → KeepsTelling mid new
-    → ((o : Opening) (l : List Arrival) → Tells mid o l → IsOfARegister e) → IsUnprinted mid new held holds e
+    → ((o : Opening) (l : List Arrival) → Tells mid o l → IsExcused (DiskFailed mid new) e)
+    → IsUnprinted mid new held holds e
 left mid new held holds e silent tells only = record {
   unprinted = silent;
   tells = tells;
@@ -41,28 +46,30 @@ left mid new held holds e silent tells only = record {
 pub listed : (r : Result Unit PublishFault) (done : Result Unit JobFault) (old mid new : State)
     (held holds : Option (List ℕ))
     → done ≡ publish_result r → IsOpened old mid
-    → OnOk r ((bytes : List ℕ) × Appends held holds bytes
+    → OnOk r ((bytes : List ℕ) × Appends held holds bytes × IsListText bytes
     × ((o : Opening) (l : List Arrival) → Tells mid o l → IsList o l bytes))
     → KeepsTelling mid new
     → IfFound r ((o : Opening) (l : List Arrival) → Tells mid o l → Stores new o l)
     → (IsTrue new.is_open → IsAsBefore mid new)
     → IfErr r (λ e. e ≢ publish.Write → holds ≡ held)
     → IfErr r (OfStore (λ e. (o : Opening) (l : List Arrival) → Tells mid o l → IsOfARegister e))
+    → HasCleanDisk new → IfErr r (OfStore (λ e. HasRegisterCause e (RegisterHasFailed mid new)))
     → PrintsKrl old new held holds done
-listed (Ok x) done old mid new held holds same opened list tells found before silent only =
+listed (Ok x) done old mid new held holds same opened list tells found before silent only clean cause =
     subst (λ (d : Result Unit JobFault). PrintsKrl old new held holds d) (sym same) (
       before_again old mid new opened.before (before_open mid new before),
-      (list.0, list.1, λ o l m. (list.2 o l (opened.tells o l m), found o l (opened.tells o l m))),
+      (list.0, list.1, list.2, λ o l m. (list.3 o l (opened.tells o l m), found o l (opened.tells o l m))),
     )
-listed (Err publish.Write) done old mid new held holds same opened list tells found before silent only =
+listed (Err publish.Write) done old mid new held holds same opened list tells found before silent only clean cause =
     subst (λ (d : Result Unit JobFault). PrintsKrl old new held holds d) (sym same) (
       before_again old mid new opened.before (before_open mid new before),
       λ o l m. found o l (opened.tells o l m),
     )
-listed (Err (publish.Store e)) done old mid new held holds same opened list tells found before silent only =
+listed (Err (publish.Store e)) done old mid new held holds same opened list tells found before silent only clean cause =
     subst (λ (d : Result Unit JobFault). PrintsKrl old new held holds d) (sym same)
     (of_fault e old new held holds (before_again old mid new opened.before (before_open mid new before))
-    (left_from old mid new held holds e opened (left mid new held holds e (silent (λ is_write. cc)) tells only)))
+    (left_from old mid new held holds e opened (left mid new held holds e (silent (λ is_write. cc)) tells
+    (λ o l m. excused e mid new clean o l m (only o l m) cause))))
 
 pub lists_as : (old new newer : State) (held is_held holds is_holds : Option (List ℕ)) (r : Result Unit JobFault)
     → newer ≡ new → is_held ≡ held → is_holds ≡ holds → PrintsKrl old new held holds r → PrintsKrl old newer is_held is_holds r
@@ -95,7 +102,7 @@ unreported report e f old new held holds same u silent =
 -- a report's result for an opened office is its result for the database
 came_from : (report : Report) (old mid new : State) (held holds : Option (List ℕ)) (r : Result Unit JobFault)
     → IsOpened old mid → IsReport report mid new held holds r → IsReport report old new held holds r
-came_from report old mid new held holds (Ok x) opened is = (is.0, is.1, λ o l m. is.2 o l (opened.tells o l m))
+came_from report old mid new held holds (Ok x) opened is = (is.0, is.1, is.2, λ o l m. is.3 o l (opened.tells o l m))
 came_from report old mid new held holds (Err Write) opened is = λ o l m. is o l (opened.tells o l m)
 came_from report old mid new held holds (Err NoMemory) opened is =
     left_from old mid new held holds store.NoMemory opened is

@@ -8,6 +8,11 @@ use Rattle.http_requests.specs.Responses.{response_head}
 use Rattle.office.specs.declared.store_fault.StoreFault.TheVariants as store
 use Rattle.office.specs.History.{state}
 use Rattle.web.specs.Answers.{AnswersAsk, IsOfTheRegister, answer_text, with_ask}
+use Rattle.lines.specs.Signers.{signers_text}
+use Rattle.web.specs.Batches.{table_among}
+use Rattle.web.specs.Causes.{IsPlainGet}
+use Rattle.web.specs.Forms.{HasForm, MayAnswer, MayShow}
+use Rattle.web.specs.Reports.{signer_rows}
 use Rattle.headline.specs.Headline.{OfficeAnswers}
 use Rattle.office_jobs.specs.declared.reporting.Report.TheVariants.{Signers, Table}
 use Rattle.office_jobs.specs.Reporting.{report_text}
@@ -62,22 +67,49 @@ found_report report old new request moment nonce response looked found one asks 
     let body : List ℕ = report_text report (state o l) in
     (finds body (small response body short is.0) (same ∙ is.0), is.1)
 
+-- ---- the form of a report, whatever the tables mean
+
+pub is_plain : (report : Report) → IsPlainGet (get (resource_of report))
+is_plain Signers = tt
+is_plain Table = tt
+
+-- a response with the resource of a report is one with a plain text
+plain_text : (report : Report) (response : List ℕ) → MayShow (resource_of report) response
+    → (text : List ℕ) × (response ≡ response_text 200 PlainText text)
+plain_text Signers response form = (signers_text (signer_rows form.0 form.1), form.2)
+plain_text Table response form = (table_among form.0 form.1 form.2, form.3)
+
+-- the body that is found is that of a response of this form
+has_form : (report : Report) (request response looked body : List ℕ) → OneAsk
+    → Asks request (get (resource_of report)) → HasForm request response → looked ≡ response
+    → length response < 2 ^ 64 → Finds (Some body) looked
+    → MayShow (resource_of report) (response_text 200 PlainText body)
+has_form report request response looked body one asks form same short finds =
+    let shown : MayShow (resource_of report) response =
+    subst (λ (a : Ask). MayAnswer a response) (one request form.0 (get (resource_of report)) form.1 asks) form.2 in
+    let text = plain_text report response shown in
+    let is : body ≡ text.0 = found_is body text.0 (finds text.0 (small response text.0 short text.1) (same ∙ text.1)) in
+    subst (MayShow (resource_of report)) (text.1 ∙ ap (response_text 200 PlainText) (sym is)) shown
+
+-- ---- the outcome
+
 pub reported : (report : Report) (old new : State) (held holds : Option (List ℕ)) (request : List ℕ) (moment : ℕ)
     (nonce response looked body : List ℕ) (r : Result Unit JobFault) → OneAsk → Asks request (get (resource_of report))
     → OfficeAnswers old new request moment nonce response → looked ≡ response → length response < 2 ^ 64
-    → Finds (Some body) looked → OnOk r (Appends held holds body) → IfErr r (λ e. e ≡ Write)
-    → IsReport report old new held holds r
+    → HasForm request response → Finds (Some body) looked → OnOk r (Appends held holds body)
+    → IfErr r (λ e. e ≡ Write) → IsReport report old new held holds r
 reported report old new held holds request moment nonce response looked body
-    (Ok x) one asks answers same short finds ok only = (
+    (Ok x) one asks answers same short form finds ok only = (
       body,
       ok,
+      has_form report request response looked body one asks form same short finds,
       λ o l m.
           let is = found_report report old new request moment nonce response looked
           (Some body) one asks answers same short finds o l m in
           (found_is body (report_text report (state o l)) is.0, is.1),
     )
 reported report old new held holds request moment nonce response looked body
-    (Err e) one asks answers same short finds ok only =
+    (Err e) one asks answers same short form finds ok only =
     subst (λ (e : JobFault). IsReport report old new held holds (Err e)) (sym only) (λ o l m.
     (found_report report old new request moment nonce response looked
     (Some body) one asks answers same short finds o l m).1)

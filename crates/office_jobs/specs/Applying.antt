@@ -9,8 +9,9 @@ use Rattle.office_jobs.specs.declared.job_fault.JobFault.{JobFault}
 use Rattle.office_jobs.specs.declared.job_fault.JobFault.TheVariants.{Fault, NoMemory, Store, Write}
 use Rattle.office_jobs.specs.Opening.{IsUnprinted, IsUnopened}
 
--- The outcome. Each exchange gets its specified response, or some get a fault, and this is printed. Or the output
--- failed, and all were run. Or nothing was run or printed: memory was refused, or the office wasn't opened.
+-- The outcome. Each exchange gets its specified response, or some get a fault, and this is printed: one for each, and
+-- each response of the form that its request asks for, whatever the tables mean. Or the output failed, and all were run.
+-- Or nothing was run or printed: memory was refused, or the office wasn't opened.
 abbrev pub Applies : List Exchange → (old new : State) → (held holds : Option (List ℕ)) → Result (Unit {0}) JobFault
     → Type 0
 Applies exchanges old new held holds (Ok done) = OfficePrints old new exchanges held holds false

@@ -7,15 +7,17 @@ use Rattle.office.specs.declared.arrival.Arrival.{Arrival}
 use Rattle.office.specs.declared.store_fault.StoreFault.TheVariants as store
 use Rattle.store.specs.Transactions.{IsAsBefore}
 use Rattle.store.specs.Meaning.{Stores, Tells}
+use Rattle.web.specs.Forms.{IsListText}
 use Rattle.headline.specs.Headline.{IsList}
 use Rattle.office_jobs.specs.declared.job_fault.JobFault.{JobFault}
 use Rattle.office_jobs.specs.declared.job_fault.JobFault.TheVariants.{NoMemory, Store, Write}
 use Rattle.office_jobs.specs.Opening.{IsUnprinted}
 
--- the printed bytes are the list of the history that the tables represent, and they durably represent that history
+-- The printed bytes are a list, whatever the tables mean. It is that of the history that they represent, and they
+-- durably represent that history.
 abbrev pub IsListed : (old new : State) → (held holds : Option (List ℕ)) → Type 0
 IsListed old new held holds =
-    (bytes : List ℕ) × Appends held holds bytes
+    (bytes : List ℕ) × Appends held holds bytes × IsListText bytes
     × ((o : Opening) (l : List Arrival) → Tells old o l → IsList o l bytes × Stores new o l)
 
 -- the tables durably represent what they represented

@@ -4,6 +4,8 @@ use Rattle.std.specs.Io.KnownBytes.{Appends}
 use Rattle.sqlite.specs.State.{State as Connection}
 use Rattle.http_requests.specs.declared.resource.Resource.{Resource}
 use Rattle.http_requests.specs.declared.resource.Resource.TheVariants as resource
+use Rattle.http_requests.specs.declared.response.MediaType.TheVariants.{PlainText}
+use Rattle.http_requests.specs.Responses.{response_text}
 use Rattle.office.specs.declared.opening.Opening.{Opening}
 use Rattle.office.specs.declared.arrival.Arrival.{Arrival}
 use Rattle.office.specs.declared.store_fault.StoreFault.TheVariants as store
@@ -11,6 +13,7 @@ use Rattle.office.specs.State.{State}
 use Rattle.office.specs.History.{state}
 use Rattle.store.specs.Transactions.{IsAsBefore}
 use Rattle.store.specs.Meaning.{Stores, Tells}
+use Rattle.web.specs.Forms.{MayShow}
 use Rattle.web.specs.Reports.{signers_report, table_report}
 use Rattle.office_jobs.specs.declared.job_fault.JobFault.{JobFault}
 use Rattle.office_jobs.specs.declared.job_fault.JobFault.TheVariants.{NoMemory, Store, Write}
@@ -29,10 +32,11 @@ abbrev pub report_text : Report → State → List ℕ
 report_text Signers s = signers_report s
 report_text Table s = table_report s
 
--- the report of the office after the history that the tables represent is printed, and they durably represent it
+-- What is printed is the body of a response to a GET of the resource, made of some rows, whatever the tables mean. It is
+-- the report of the office after the history that they represent, and they durably represent it.
 abbrev pub IsReported : Report → (old new : Connection) → (held holds : Option (List ℕ)) → Type 0
 IsReported report old new held holds =
-    (text : List ℕ) × Appends held holds text
+    (text : List ℕ) × Appends held holds text × MayShow (resource_of report) (response_text 200 PlainText text)
     × ((o : Opening) (l : List Arrival) → Tells old o l → (text ≡ report_text report (state o l)) × Stores new o l)
 
 -- the outcome, apart from the fact that no table has changed

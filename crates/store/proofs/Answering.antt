@@ -6,6 +6,7 @@ use Rattle.store.proofs.Words.{inl, inr, refl, store_fault_of, subst, sym, told,
 use Rattle.sqlite.specs.State.{State as Connection}
 use Rattle.store.proofs.Before.{fails_before}
 use Rattle.store.specs.Meaning.{RegisterHasFailed}
+use Rattle.store.specs.Transactions.{FailuresStay}
 use Rattle.store.proofs.Reading.{At}
 use Rattle.store.proofs.Telling.{disk_failed, tells_still}
 
@@ -17,7 +18,7 @@ pub record Answered {X : Type 0} (Shown : State → List Kept → X → Type 0) 
   pub stays_open : HasCleanDisk new → OnOk q (IsTrue new.is_open)
   pub row : HasCleanDisk new → IfOk q (λ x. (o : Opening) (l : List Arrival) → Tells old o l → At Shown o l x)
   pub same : HasCleanDisk new → (o : Opening) (l : List Arrival) → Tells old o l → Tells new o l
-  pub before : HasCleanDisk new → IsTrue new.is_open → IsAsBefore old new
+  pub before : HasCleanDisk new → IsTrue new.is_open → IsAsBefore old new × FailuresStay old new
   pub cause : IfErr q (λ e. HasRegisterCause e (RegisterHasFailed old new))
   pub only : HasCleanDisk new → IfErr q (λ e. (o : Opening) (l : List Arrival) → Tells old o l → IsOfARegister e)
 
@@ -56,7 +57,7 @@ answered {X} {Shown} {old} {new} {r} {q} is read = subst (λ z. Answered Shown o
       stays_open = λ clean. (read.reads clean).0.is_open;
       row = λ clean o l tells. (read.shows clean o l tells.history (tells.rows (read.reads clean).0.was_open).now).0;
       same = λ clean. tells_still old new read.survives clean (inl (read.reads clean));
-      before = λ clean _. fails_before old new (inl (read.reads clean));
+      before = λ clean _. (fails_before old new (inl (read.reads clean)), read.survives.counts);
       cause = tt;
       only = λ clean. tt;
     }
@@ -66,7 +67,7 @@ answered {X} {Shown} {old} {new} {r} {q} is read = subst (λ z. Answered Shown o
       stays_open = λ clean. tt;
       row = λ clean. tt;
       same = λ clean. tells_still old new read.survives clean (read.reads clean).0;
-      before = λ clean _. fails_before old new (read.reads clean).0;
+      before = λ clean _. (fails_before old new (read.reads clean).0, read.survives.counts);
       cause = caused Shown old new f read.shows;
       only = λ clean. of_a_register Shown old new f (read.reads clean) (read.shows clean);
     }

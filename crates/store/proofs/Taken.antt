@@ -5,7 +5,7 @@ use Rattle.store.proofs.Words.{NoMemory, Ok, OnErr, OnOk, Opening, Outcome, Rest
 use Rattle.store.proofs.Words.{Trees, [], arith, contents_with, due, inl, inr, store_fault_of, subst, sym, told, ◌++◌}
 use Rattle.store.proofs.Words.{◌∙◌, ◌∷◌, ◌≡◌}
 use Rattle.sqlite.specs.State.{State as Connection}
-use Rattle.store.specs.Transactions.{KeepsOnErr}
+use Rattle.store.specs.Transactions.{FailuresStay, KeepsOnErr}
 use Rattle.store.specs.Arriving.{IsCaused, IsStopped}
 use Rattle.store.proofs.Telling.{disk_failed, left_committed}
 
@@ -19,7 +19,7 @@ pub record Applied (a : Arrival) (old new : Connection) (q : Result Outcome Stor
   pub next : HasCleanDisk new
       → OnOk q ((o : Opening) (l : List Arrival) → Tells old o l → Tells new o (l ++ a ∷ []))
   pub fault : HasCleanDisk new → OnErr q ((o : Opening) (l : List Arrival) → Tells old o l → Tells new o l)
-  pub before : HasCleanDisk new → IsTrue new.is_open → OnErr q (IsAsBefore old new)
+  pub before : HasCleanDisk new → IsTrue new.is_open → OnErr q (IsAsBefore old new × FailuresStay old new)
   pub cause : IfErr q (λ e. HasRegisterCause e (IsStopped old new a))
   pub only : HasCleanDisk new → IfErr q (λ e. (o : Opening) (l : List Arrival) → Tells old o l → IsOfARegister e)
 
@@ -102,7 +102,7 @@ module _ (a : Arrival) (old new : Connection) where
                 let due = more.1 (o, l) (rests_of old o l tells more.0) in inr (a, due.1.history, due.2)
           ];
         };
-        before = λ clean _. before clean;
+        before = λ clean _. (before clean, survives.counts);
         cause = caused f cause;
         only = λ clean. of_a_register f (cause clean);
       }

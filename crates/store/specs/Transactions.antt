@@ -1,5 +1,5 @@
 -- The effect of a part of a transaction on the connection, and that of a whole one.
-use Rattle.std.specs.Prelude.{◌≡◌, false, true, IfErr, IsTrue, OnErr, Result, Ok, Err}
+use Rattle.std.specs.Prelude.{◌≡◌, ◌≤◌, false, true, IfErr, IsTrue, OnErr, Result, Ok, Err}
 use Rattle.sqlite_trees.specs.declared.store.Store.{Ghosts}
 use Rattle.sqlite.specs.Tree.{Trees}
 use Rattle.sqlite.specs.Effect.{Database}
@@ -132,6 +132,10 @@ pub record IsAsBefore (old new : State) : Type 0 where
   pub was_open : IsTrue new.is_open → IsTrue old.is_open
   pub rest : IsTrue new.is_open → IsAtRest old → IsAtRest new
   pub same : IsTrue new.is_open → IsAtRest old → new.now ≡ old.now
+
+-- no failure of the disk is forgotten
+abbrev pub FailuresStay : State → State → Type 0
+FailuresStay old new = old.faults ≤ new.faults
 
 -- if it fails, nothing has changed
 abbrev pub KeepsOnErr : {X E : Type 0} → State → State → Result X E → Type 0

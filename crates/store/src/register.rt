@@ -2,7 +2,8 @@
 
 ghost use Rattle.std.specs.Prelude.{◌≡◌, false, [], Err, IfErr, IfOk, IsTrue, Ok, true};
 ghost use Rattle.std.specs.List.{list_any};
-ghost use Rattle.store.specs.Transactions.{IsAsBefore, Leaves};
+ghost use Rattle.sqlite.specs.Held.{state};
+ghost use Rattle.store.specs.Transactions.{FailuresStay, IsAsBefore, Leaves};
 ghost use Rattle.store_sql.specs.Look.{is_ca_name, is_office_name, is_office_table};
 ghost use Rattle.store.specs.Migrating.{JudgesAtRest};
 ghost use Rattle.store.specs.Register.{CarriesOn, Founds, IsExcusedOfBlank, IsExcusedOfFormer, IsExcusedOfHistory};
@@ -94,6 +95,10 @@ impl<S: Alter> Store<S> {
         // A disk that was faithful when the call ended was so when it began.
         ensures honest { IfOk result (λ s. StaysClean S.Store conn s.conn) }
         ensures honest_back { IfErr result (λ e. StaysClean S.Store conn e.1) }
+
+        // No failure of the disk is forgotten, whatever it has returned.
+        ensures counts { IfOk result (λ s. FailuresStay (state S.Store conn) (state S.Store s.conn)) }
+        ensures counts_back { IfErr result (λ e. FailuresStay (state S.Store conn) (state S.Store e.1)) }
     {
         let mut conn = conn;
         match look(alloc, &mut conn) {

@@ -2,10 +2,11 @@
 
 ghost use Rattle.std.specs.Prelude.{IsTrue};
 ghost use Rattle.std.proofs.Common.{◌∙◌, refl};
+ghost use Rattle.std.proofs.Math.Nat.{le_refl, le_trans};
 ghost use Rattle.sqlite.specs.Held.{state};
 ghost use Rattle.sqlite.specs.State.{HasCleanDisk};
 ghost use Rattle.office.specs.declared.arrival.Arrival.{Arrival};
-ghost use Rattle.store.specs.Transactions.{IsAsBefore};
+ghost use Rattle.store.specs.Transactions.{FailuresStay, IsAsBefore};
 ghost use Rattle.store.specs.Meaning.{RegisterHasFailed, Tells};
 ghost use Rattle.store.specs.Arriving.{IsStopped};
 
@@ -28,7 +29,8 @@ impl<S: Alter> Registry for Store<S> {
 
     ghost is_open = { λ s. IsTrue (state S.Store s.conn).is_open };
 
-    ghost is_as_before = { λ old new. IsAsBefore (state S.Store old.conn) (state S.Store new.conn) };
+    ghost is_as_before = { λ old new. IsAsBefore (state S.Store old.conn) (state S.Store new.conn)
+        × FailuresStay (state S.Store old.conn) (state S.Store new.conn) };
 
     ghost fails = { λ old new. RegisterHasFailed (state S.Store old.conn) (state S.Store new.conn) };
 
@@ -68,17 +70,20 @@ impl<S: Alter> Registry for Store<S> {
         told(read_batch(alloc, &mut self.conn, place))
     }
 
-    ghost unasked = { λ _. record {
-      was_open = λ is. is;
-      rest = λ _ rests. rests;
-      same = λ _ _. refl;
-    } };
+    ghost unasked = { λ _. (
+      record { was_open = λ is. is; rest = λ _ rests. rests; same = λ _ _. refl },
+      le_refl _,
+    ) };
 
-    ghost through = { λ _ _ _ first next. record {
-      was_open = λ is. first.was_open (next.was_open is);
-      rest = λ is rests. next.rest is (first.rest (next.was_open is) rests);
-      same = λ is rests. next.same is (first.rest (next.was_open is) rests) ∙ first.same (next.was_open is) rests;
-    } };
+    ghost through = { λ _ _ _ first next. (
+      record {
+        was_open = λ is. first.0.was_open (next.0.was_open is);
+        rest = λ is rests. next.0.rest is (first.0.rest (next.0.was_open is) rests);
+        same = λ is rests.
+            next.0.same is (first.0.rest (next.0.was_open is) rests) ∙ first.0.same (next.0.was_open is) rests;
+      },
+      le_trans first.1 next.1,
+    ) };
 
     ghost lawful = { λ s o l m. m.history.office };
 }

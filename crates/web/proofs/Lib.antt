@@ -3,6 +3,7 @@ pub mod Underway
 pub mod Replies
 pub mod Lists
 pub mod Answered
+pub mod Formed
 pub mod Reported
 pub mod Taken
 pub mod Stores

@@ -2,8 +2,12 @@
 use Rattle.web.proofs.Words.{AlreadyAnOffice, Arrival, Ask, Asks, AsksNoChange, Damaged, Device, Err, Global}
 use Rattle.web.proofs.Words.{HasRegisterCause, IfErr, IfOk, IsOfARegister, List, NoMemory, NotAnOffice, Ok, Opening}
 use Rattle.web.proofs.Words.{Result, StoreFault, Vec, WrongSchema, ap, one_of, subst, sym, ℕ, ◌∙◌, ◌≡◌}
+use Rattle.http_requests.specs.declared.resource.Resource.{Resource}
+use Rattle.http_requests.specs.declared.resource.Resource.TheVariants.{Pending}
+use Rattle.http_requests.specs.Asks.{get}
 use Rattle.office.specs.Registers.{FailsWithin}
 use Rattle.web.specs.Answers.{IsNoMessage}
+use Rattle.web.specs.Causes.{AsksPlainGet, FailsAfter, IsPlainGet}
 
 -- a response with the data found is one with the data of each history
 pub shows : {X E : Type 0} (r : Result (Vec ℕ Global) E) (text : X → List ℕ) (found : X) (shown : Opening → List Arrival → X)
@@ -59,3 +63,42 @@ cause_within means fails old new r is =
       same = λ o l m. m;
       failed = f;
     }) is
+
+-- ---- failures after other calls
+
+module _ {S : Type 0} (is_open : S → Type 0) (is_as_before : S → S → Type 0)
+    (means : S → Opening → List Arrival → Type 0) (fails : S → S → Type 0) where
+  -- a failure of a first call
+  pub cause_at_once : {T : Type 0} (old new : S) (r : Result T StoreFault) → is_as_before old old
+      → IfErr r (λ e. HasRegisterCause e (fails old new))
+      → IfErr r (λ e. HasRegisterCause e (FailsAfter is_open is_as_before means fails old new))
+  cause_at_once old new r unasked is =
+      cause_as r (fails old new) (FailsAfter is_open is_as_before means fails old new) (λ f. record {
+        before = old;
+        still = λ is. is;
+        rows = unasked;
+        same = λ o l m. m;
+        failed = f;
+      }) is
+
+  -- one of a later call, after which the register fails within what it meant
+  pub after_within : (old new : S) → FailsAfter is_open is_as_before means fails old new
+      → FailsWithin means fails old new
+  after_within old new f = record { before = f.before; same = f.same; failed = f.failed }
+
+  pub cause_weaker : {T : Type 0} (old new : S) (r : Result T StoreFault)
+      → IfErr r (λ e. HasRegisterCause e (FailsAfter is_open is_as_before means fails old new))
+      → IfErr r (λ e. HasRegisterCause e (FailsWithin means fails old new))
+  cause_weaker old new r is =
+      cause_as r (FailsAfter is_open is_as_before means fails old new) (FailsWithin means fails old new)
+      (after_within old new) is
+
+-- a GET of anything but the pending certificates
+pub not_pending : (it : Resource) → IsPlainGet (get it) → it ≡ Pending → ⊥
+not_pending it plain same = subst (λ (r : Resource). IsPlainGet (get r)) same plain
+
+-- what the bytes of a request ask, if they ask that
+pub is_plain_get : (request : List ℕ) (ask : Ask) → Asks request ask → AsksPlainGet request → IsPlainGet ask
+is_plain_get request ask asks plain =
+    let P : Ask → Type 0 = IsPlainGet in
+    subst P (one_of request plain.0 ask plain.1 asks) plain.2

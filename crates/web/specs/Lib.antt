@@ -1,6 +1,7 @@
 pub mod Reports
 pub mod Batches
 pub mod Answers
+pub mod Forms
 pub mod Causes
 pub mod Runs
 pub mod Faults

@@ -4,6 +4,7 @@ ghost use Rattle.std.specs.Prelude.{◌≡◌, ◌≢◌, ◌≤◌, ◌++◌, [
 ghost use Rattle.http_requests.specs.declared.response.MediaType.TheVariants.{PlainText};
 ghost use Rattle.http_requests.specs.Responses.{response_text};
 ghost use Rattle.office.specs.declared.arrival.Arrival.{Arrival};
+ghost use Rattle.office.specs.declared.arrival.Outcome.{Outcome};
 ghost use Rattle.office.specs.History.{due};
 ghost use Rattle.office.specs.Faults.{HasRegisterCause};
 ghost use Rattle.office.specs.Laws.{ReplyFits};
@@ -57,6 +58,7 @@ pub(crate) fn to_arrival<R: Registry>(
     ensures stays_open { R.is_honest registry.new → OnOk result (R.is_open registry.new) }
     ensures due { R.is_honest registry.new → AnswersBy R.means registry.old result
         (λ o l v. v.items ≡ outcome_response (due o l arrival)) }
+    ensures form { IfOk result (λ v. (outcome : Outcome) × (v.items ≡ outcome_response outcome)) }
     ensures next { R.is_honest registry.new → OnOk result (MeansOneMore R.means arrival registry.old registry.new) }
     ensures fault { R.is_honest registry.new → OnErr result (MeansTheSame R.means registry.old registry.new) }
     ensures before { R.is_honest registry.new → R.is_open registry.new

@@ -1,12 +1,14 @@
 //! The table's lines, in batches: at most one batch of certificates is held in memory.
 
-ghost use Rattle.std.specs.Prelude.{◌≡◌, ◌≤◌, ◌++◌, IfOk, OnOk, IfErr};
+ghost use Rattle.std.specs.Prelude.{◌≡◌, ◌≤◌, ◌++◌, List, IfOk, OnOk, IfErr};
 ghost use Rattle.std.specs.List.{flat_map};
+ghost use Rattle.office.specs.declared.certificate.Certificate.{Certificate};
 ghost use Rattle.office.specs.Listing.{batch_of};
 ghost use Rattle.office.specs.History.{state};
 ghost use Rattle.office.specs.Faults.{HasRegisterCause};
-ghost use Rattle.office.specs.Registers.{AnswersBy, FailsAsARegister, FailsWithin, Preserves};
+ghost use Rattle.office.specs.Registers.{AnswersBy, FailsAsARegister, Preserves};
 ghost use Rattle.web.specs.Batches.{Says, line_among, line_as};
+ghost use Rattle.web.specs.Causes.{FailsAfter};
 
 use crate::report::put_entry;
 use office::{Certificate, Registry, Revocations, StoreFault, place_behind};
@@ -52,6 +54,8 @@ fn put_batch<R: Registry>(
     ensures stays_open { R.is_honest registry.new → OnOk result (R.is_open registry.new) }
     ensures row { R.is_honest registry.new → AnswersBy R.means registry.old result (λ o l next.
         Says revocations.now (batch_of (state o l) place) place next out.old.items out.new.items) }
+    ensures form { IfOk result (λ next. (cs : List Certificate)
+        × Says revocations.now cs place next out.old.items out.new.items) }
     ensures cause { IfErr result (λ e. HasRegisterCause e (R.fails registry.old registry.new)) }
     ensures only { R.is_honest registry.new → FailsAsARegister R.means registry.old result }
 {
@@ -71,8 +75,10 @@ pub(crate) fn put_all<R: Registry>(
     ensures stays_open { R.is_honest registry.new → OnOk result (R.is_open registry.new) }
     ensures row { R.is_honest registry.new → AnswersBy R.means registry.old result (λ o l count.
         Says revocations.now (state o l).certificates 0 count out.old.items out.new.items) }
-    ensures cause { R.is_honest registry.new
-        → IfErr result (λ e. HasRegisterCause e (FailsWithin R.means R.fails registry.old registry.new)) }
+    ensures form { IfOk result (λ count. (cs : List Certificate)
+        × Says revocations.now cs 0 count out.old.items out.new.items) }
+    ensures cause { R.is_honest registry.new → IfErr result (λ e. HasRegisterCause e
+        (FailsAfter R.is_open R.is_as_before R.means R.fails registry.old registry.new)) }
     ensures only { R.is_honest registry.new → FailsAsARegister R.means registry.old result }
 {
     let mut place = 0;

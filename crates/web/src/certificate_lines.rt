@@ -1,6 +1,7 @@
 //! Responses with certificates.
 
 ghost use Rattle.std.specs.Prelude.{◌≡◌, ◌++◌, IfOk, OnOk, IfErr};
+ghost use Rattle.http_requests.specs.declared.resource.Resource.TheVariants as resource;
 ghost use Rattle.http_requests.specs.declared.response.MediaType.TheVariants.{PlainText};
 ghost use Rattle.http_requests.specs.Responses.{response_text};
 ghost use Rattle.office.specs.State.{body_of};
@@ -9,6 +10,7 @@ ghost use Rattle.office.specs.History.{state};
 ghost use Rattle.office.specs.Faults.{HasRegisterCause};
 ghost use Rattle.office.specs.Registers.{AnswersBy, FailsAsARegister, FailsWithin, Preserves};
 ghost use Rattle.web.specs.Answers.{body_response, certificate_response, issued_response};
+ghost use Rattle.web.specs.Forms.{MayShow};
 ghost use Rattle.web.specs.Reports.{pending_line, pending_lines, pending_report};
 
 use crate::pieces::put_pieces;
@@ -30,6 +32,7 @@ pub(crate) fn to_serial_body<R: Registry>(
     ensures stays_open { R.is_honest registry.new → OnOk result (R.is_open registry.new) }
     ensures row { R.is_honest registry.new → AnswersBy R.means registry.old result
         (λ o l v. v.items ≡ body_response (body_of (state o l) serial)) }
+    ensures form { IfOk result (λ v. MayShow (resource.Body serial) v.items) }
     ensures cause { IfErr result (λ e. HasRegisterCause e (R.fails registry.old registry.new)) }
     ensures only { R.is_honest registry.new → FailsAsARegister R.means registry.old result }
 {
@@ -64,6 +67,7 @@ pub(crate) fn to_certificate<R: Registry>(
     ensures stays_open { R.is_honest registry.new → OnOk result (R.is_open registry.new) }
     ensures row { R.is_honest registry.new → AnswersBy R.means registry.old result
         (λ o l v. v.items ≡ certificate_response (issued_of (state o l) serial)) }
+    ensures form { IfOk result (λ v. MayShow (resource.Certificate serial) v.items) }
     ensures cause { IfErr result (λ e. HasRegisterCause e (R.fails registry.old registry.new)) }
     ensures only { R.is_honest registry.new → FailsAsARegister R.means registry.old result }
 {
@@ -100,6 +104,7 @@ pub(crate) fn to_pending<R: Registry>(
     ensures stays_open { R.is_honest registry.new → OnOk result (R.is_open registry.new) }
     ensures row { R.is_honest registry.new → AnswersBy R.means registry.old result
         (λ o l v. v.items ≡ response_text 200 PlainText (pending_report (state o l))) }
+    ensures form { IfOk result (λ v. MayShow resource.Pending v.items) }
     ensures cause { R.is_honest registry.new → IfErr result
         (λ e. HasRegisterCause e (FailsWithin R.means R.fails registry.old registry.new)) }
     ensures only { R.is_honest registry.new → FailsAsARegister R.means registry.old result }

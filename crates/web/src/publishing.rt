@@ -2,16 +2,18 @@
 
 ghost use Rattle.std.specs.Prelude.{◌≡◌, ◌++◌, length, IsTrue, IfOk, OnOk, IfErr};
 ghost use Rattle.krl.specs.Published.{fits, published_text};
+ghost use Rattle.http_requests.specs.declared.resource.Resource.TheVariants as resource;
 ghost use Rattle.http_requests.specs.declared.response.MediaType.TheVariants.{PlainText, Bytes};
 ghost use Rattle.http_requests.specs.Responses.{response_text};
 ghost use Rattle.office.specs.Publication.{published_list};
 ghost use Rattle.office.specs.History.{state};
 ghost use Rattle.office.specs.Faults.{HasRegisterCause};
-ghost use Rattle.office.specs.Registers.{AnswersBy, FailsAsARegister, FailsWithin, Preserves, WhereMeant};
+ghost use Rattle.office.specs.Registers.{AnswersBy, FailsAsARegister, Preserves, WhereMeant};
 ghost use Rattle.lines.specs.Digests.{fingerprint_text};
 ghost use Rattle.lines.specs.Signers.{signers_text};
 ghost use Rattle.web.specs.Answers.{ListFits};
-ghost use Rattle.web.specs.Causes.{IsOfAList};
+ghost use Rattle.web.specs.Causes.{FailsAfter, IsOfAList};
+ghost use Rattle.web.specs.Forms.{MayShow};
 ghost use Rattle.web.specs.Reports.{ca_line, ca_lines, ca_report, is_signing, signer_row, signer_rows, signer_rows_of};
 ghost use Rattle.web.specs.Reports.{signers_report};
 
@@ -58,6 +60,7 @@ pub(crate) fn to_list<R: Registry>(registry: &mut R, alloc: Global) -> Result<Ve
     ensures stays_open { R.is_honest registry.new → OnOk result (R.is_open registry.new) }
     ensures row { R.is_honest registry.new → AnswersBy R.means registry.old result
         (λ o l v. v.items ≡ response_text 200 Bytes (published_list (state o l))) }
+    ensures form { IfOk result (λ v. MayShow resource.RevocationList v.items) }
     ensures fits { R.is_honest registry.new → OnOk result
         (WhereMeant R.means registry.old (λ o l. ListFits (state o l))) }
     ensures cause { IfErr result (λ e. HasRegisterCause e (R.fails registry.old registry.new)) }
@@ -151,8 +154,9 @@ pub(crate) fn to_signers<R: Registry>(
     ensures stays_open { R.is_honest registry.new → OnOk result (R.is_open registry.new) }
     ensures row { R.is_honest registry.new → AnswersBy R.means registry.old result
         (λ o l v. v.items ≡ response_text 200 PlainText (signers_report (state o l))) }
-    ensures cause { R.is_honest registry.new → IfErr result
-        (λ e. HasRegisterCause e (FailsWithin R.means R.fails registry.old registry.new)) }
+    ensures form { IfOk result (λ v. MayShow resource.Signers v.items) }
+    ensures cause { R.is_honest registry.new → IfErr result (λ e. HasRegisterCause e
+        (FailsAfter R.is_open R.is_as_before R.means R.fails registry.old registry.new)) }
     ensures only { R.is_honest registry.new → FailsAsARegister R.means registry.old result }
 {
     let departments = registry.departments(alloc)?;
@@ -196,6 +200,7 @@ pub(crate) fn to_cas<R: Registry>(registry: &mut R, alloc: Global) -> Result<Vec
     ensures stays_open { R.is_honest registry.new → OnOk result (R.is_open registry.new) }
     ensures row { R.is_honest registry.new → AnswersBy R.means registry.old result
         (λ o l v. v.items ≡ response_text 200 PlainText (ca_report (state o l))) }
+    ensures form { IfOk result (λ v. MayShow resource.Cas v.items) }
     ensures cause { IfErr result (λ e. HasRegisterCause e (R.fails registry.old registry.new)) }
     ensures only { R.is_honest registry.new → FailsAsARegister R.means registry.old result }
 {

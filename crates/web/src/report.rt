@@ -1,15 +1,19 @@
 //! The table of certificates.
 
-ghost use Rattle.std.specs.Prelude.{◌≡◌, ◌++◌, OnOk, IfErr};
+ghost use Rattle.std.specs.Prelude.{◌≡◌, ◌++◌, List, IfOk, OnOk, IfErr};
+ghost use Rattle.http_requests.specs.declared.resource.Resource.TheVariants as resource;
 ghost use Rattle.http_requests.specs.declared.response.MediaType.TheVariants.{PlainText};
 ghost use Rattle.http_requests.specs.Responses.{response_text};
 ghost use Rattle.office.specs.History.{state};
 ghost use Rattle.office.specs.Faults.{HasRegisterCause};
-ghost use Rattle.office.specs.Registers.{AnswersBy, FailsAsARegister, FailsWithin, Preserves};
+ghost use Rattle.office.specs.Registers.{AnswersBy, FailsAsARegister, Preserves};
+ghost use Rattle.office.specs.declared.certificate.Certificate.{Certificate};
 ghost use Rattle.message.specs.Texts.{kind_text};
 ghost use Rattle.web.specs.Reports.{entry_line, gap, moment_places, serial_places, standing_word, table_report};
 ghost use Rattle.web.specs.Reports.{total_line};
 ghost use Rattle.web.specs.Batches.{table_among};
+ghost use Rattle.web.specs.Causes.{FailsAfter};
+ghost use Rattle.web.specs.Forms.{MayShow};
 
 use crate::batches::put_all;
 use crate::pieces::{put_column, put_number, put_pieces};
@@ -89,8 +93,10 @@ fn table_beside<R: Registry>(
     ensures stays_open { R.is_honest registry.new → OnOk result (R.is_open registry.new) }
     ensures row { R.is_honest registry.new → AnswersBy R.means registry.old result
         (λ o l v. v.items ≡ table_among revocations.now (state o l).certificates version) }
-    ensures cause { R.is_honest registry.new
-        → IfErr result (λ e. HasRegisterCause e (FailsWithin R.means R.fails registry.old registry.new)) }
+    ensures form { IfOk result (λ v. (certificates : List Certificate)
+        × (v.items ≡ table_among revocations.now certificates version)) }
+    ensures cause { R.is_honest registry.new → IfErr result (λ e. HasRegisterCause e
+        (FailsAfter R.is_open R.is_as_before R.means R.fails registry.old registry.new)) }
     ensures only { R.is_honest registry.new → FailsAsARegister R.means registry.old result }
 {
     let mut report = Vec::new(alloc);
@@ -105,8 +111,9 @@ pub(crate) fn to_table<R: Registry>(registry: &mut R, alloc: Global) -> Result<V
     ensures stays_open { R.is_honest registry.new → OnOk result (R.is_open registry.new) }
     ensures row { R.is_honest registry.new → AnswersBy R.means registry.old result
         (λ o l v. v.items ≡ response_text 200 PlainText (table_report (state o l))) }
-    ensures cause { R.is_honest registry.new → IfErr result
-        (λ e. HasRegisterCause e (FailsWithin R.means R.fails registry.old registry.new)) }
+    ensures form { IfOk result (λ v. MayShow resource.Table v.items) }
+    ensures cause { R.is_honest registry.new → IfErr result (λ e. HasRegisterCause e
+        (FailsAfter R.is_open R.is_as_before R.means R.fails registry.old registry.new)) }
     ensures only { R.is_honest registry.new → FailsAsARegister R.means registry.old result }
 {
     let version = registry.revoked(alloc)?.head.version;

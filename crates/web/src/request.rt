@@ -1,7 +1,7 @@
 //! The answer to a request.
 
 ghost use Rattle.std.specs.Prelude.{◌≡◌, ◌≢◌, ℕ, List, IfOk, OnOk, OnErr, IfErr};
-ghost use Rattle.http_requests.specs.declared.resource.Resource.TheVariants.{RevocationList};
+ghost use Rattle.http_requests.specs.declared.resource.Resource.TheVariants.{Pending, RevocationList};
 ghost use Rattle.http_requests.specs.Asked.{ask_of};
 ghost use Rattle.http_requests.specs.Asks.{Asks};
 ghost use Rattle.office.specs.Faults.{HasRegisterCause};
@@ -9,7 +9,8 @@ ghost use Rattle.office.specs.History.{state};
 ghost use Rattle.office.specs.Registers.{AnswersBy, FailsAsARegister, FailsWithin, FailuresPersist, MeansTheSame};
 ghost use Rattle.office.specs.Registers.{Preserves, WhereMeant};
 ghost use Rattle.web.specs.Answers.{AsksNoChange, IsAnswered, IsNoMessage, Keeps, ListFits, resource_response};
-ghost use Rattle.web.specs.Causes.{StopsAt};
+ghost use Rattle.web.specs.Causes.{AsksPlainGet, FailsAfter, IsPlainGet, StopsAt};
+ghost use Rattle.web.specs.Forms.{HasForm, MayAnswer, MayShow};
 ghost use Rattle.web.specs.Requests.{request_ask};
 
 use crate::answering::to_arrival;
@@ -71,8 +72,11 @@ fn to_resource<R: Registry>(
         (λ o l v. v.items ≡ resource_response (state o l) resource) }
     ensures fits { R.is_honest registry.new → resource ≡ RevocationList
         → OnOk result (WhereMeant R.means registry.old (λ o l. ListFits (state o l))) }
+    ensures form { IfOk result (λ v. MayShow resource v.items) }
     ensures cause { R.is_honest registry.new → IfErr result
         (λ e. HasRegisterCause e (FailsWithin R.means R.fails registry.old registry.new)) }
+    ensures plain { R.is_honest registry.new → resource ≢ Pending → IfErr result (λ e. HasRegisterCause e
+        (FailsAfter R.is_open R.is_as_before R.means R.fails registry.old registry.new)) }
     ensures only { R.is_honest registry.new → FailsAsARegister R.means registry.old result }
 {
     match resource {
@@ -99,6 +103,7 @@ pub(crate) fn answer_request<R: Registry>(
     ensures answered { R.is_honest registry.new → (bytes : List ℕ) → Asks bytes (request_ask request)
         → IfOk result (λ v. IsAnswered (R.means registry.old) (R.means registry.new)
         (Keeps R.means R.is_open registry.new) bytes moment nonce.now v.items) }
+    ensures form { IfOk result (λ v. MayAnswer (request_ask request) v.items) }
     ensures fault { R.is_honest registry.new → OnErr result (MeansTheSame R.means registry.old registry.new) }
     ensures before { R.is_honest registry.new → R.is_open registry.new
         → IfErr result (λ e. e ≢ StoreFault.Damaged → R.is_as_before registry.old registry.new) }
@@ -106,6 +111,8 @@ pub(crate) fn answer_request<R: Registry>(
         → R.is_as_before registry.old registry.new }
     ensures cause { R.is_honest registry.new → (bytes : List ℕ) → Asks bytes (request_ask request) → IfErr result
         (λ e. HasRegisterCause e (StopsAt R.means R.fails R.stops bytes moment nonce.now registry.old registry.new)) }
+    ensures plain { R.is_honest registry.new → IsPlainGet (request_ask request) → IfErr result (λ e. HasRegisterCause e
+        (FailsAfter R.is_open R.is_as_before R.means R.fails registry.old registry.new)) }
     ensures only { R.is_honest registry.new → FailsAsARegister R.means registry.old result }
 {
     match request {
@@ -149,7 +156,12 @@ pub fn answer_by<R: Registry>(
     ensures cause { R.is_honest registry.new → IfErr result
         (λ e. HasRegisterCause e
         (StopsAt R.means R.fails R.stops request.now moment nonce.now registry.old registry.new)) }
+    ensures plain { R.is_honest registry.new → AsksPlainGet request.now → IfErr result (λ e. HasRegisterCause e
+        (FailsAfter R.is_open R.is_as_before R.means R.fails registry.old registry.new)) }
     ensures only { R.is_honest registry.new → FailsAsARegister R.means registry.old result }
+
+    // Whatever the register means, a response has the form that the request asks for.
+    ensures form { IfOk result (λ v. HasForm request.now v.items) }
 {
     let request = Request::of(alloc, asks(routes, request))?;
     answer_request(registry, alloc, request, moment, nonce)
@@ -188,7 +200,14 @@ pub fn answer<R: Registry>(
     ensures cause { R.is_honest registry.new → IfErr result
         (λ e. HasRegisterCause e
         (StopsAt R.means R.fails R.stops request.now moment nonce.now registry.old registry.new)) }
+
+    // For a GET, except that of the pending certificates, the register failed while its rows were as before the call.
+    ensures plain { R.is_honest registry.new → AsksPlainGet request.now → IfErr result (λ e. HasRegisterCause e
+        (FailsAfter R.is_open R.is_as_before R.means R.fails registry.old registry.new)) }
     ensures only { R.is_honest registry.new → FailsAsARegister R.means registry.old result }
+
+    // Whatever the register means, a response has the form that the request asks for.
+    ensures form { IfOk result (λ v. HasForm request.now v.items) }
 {
     let routes = Routes::new(alloc)?;
     answer_by(&routes, registry, alloc, request, moment, nonce)

@@ -3,6 +3,7 @@
 ghost use Rattle.std.specs.Prelude.{◌≡◌, ℕ, List, IfOk, OnErr};
 ghost use Rattle.office.specs.Registers.{FailuresPersist, MeansTheSame};
 ghost use Rattle.web.specs.Answers.{AsksNoChange, IsAnswered, Keeps};
+ghost use Rattle.web.specs.Forms.{HasForm, HaveForms};
 ghost use Rattle.web.specs.Runs.{AskNoChange, Serves};
 
 use crate::exchange::{Exchange, Given};
@@ -27,6 +28,7 @@ fn given_by<R: Registry>(
     ensures fault { R.is_honest registry.new → result ≡ Given.Fault → MeansTheSame R.means registry.old registry.new }
     ensures reads { R.is_honest registry.new → R.is_open registry.new → AsksNoChange exchange.now.request
         → R.is_as_before registry.old registry.new }
+    ensures form { (response : List ℕ) → result ≡ Given.Answer response → HasForm exchange.now.request response }
 {
     let request = exchange.request.as_slice();
     let answered = answer_by(
@@ -63,6 +65,10 @@ pub fn run<R: Registry>(
     // If no exchange is a message, the stored rows are unchanged, whatever they mean.
     ensures reads { R.is_honest registry.new → R.is_open registry.new → AskNoChange exchanges.now
         → R.is_as_before registry.old registry.new }
+
+    // Whatever the register means, there is a result for each exchange, and a response has the form that its request
+    // asks for.
+    ensures forms { IfOk result (λ given. HaveForms exchanges.now given.items) }
 {
     let mut given = Vec::with_capacity(alloc, exchanges.len())?;
     let routes = Routes::new(alloc)?;

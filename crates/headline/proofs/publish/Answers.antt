@@ -16,3 +16,9 @@ returns-clause-only g c honest =
     unwritten_only c.write_found.result (length c.in_ok-revoked.revoked.parts.items)
     (Tells (state g.S.Store c.args.store.now.conn)) c.write_found.ensures.only
     (λ o l m. few_parts o l c.in_ok-revoked.revoked (c.in_ok-revoked.ensures.row honest o l m))
+
+pub returns-in_err-revoked-clause-before : goal.returns-in_err-revoked-clause-before
+returns-in_err-revoked-clause-before g c honest is = (c.revoked-found.ensures.preserves.before honest is).0
+
+pub returns-clause-before : goal.returns-clause-before
+returns-clause-before g c honest is = (c.revoked-found.ensures.preserves.before honest is).0

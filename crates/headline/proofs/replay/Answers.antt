@@ -21,3 +21,6 @@ returns-clause-write g c honest failed =
     let run = c.apply_exchanges-printed in
     runs (state g.S.Store c.args.store.now.conn) (state g.S.Store run.new.registry.conn) c.args.exchanges.now
     c.what_is_open_is_stored.ensures (run.ensures.write honest failed)
+
+pub returns-clause-reads : goal.returns-clause-reads
+returns-clause-reads g c none honest is = (c.apply_exchanges-printed.ensures.reads honest is none).0

@@ -1,5 +1,6 @@
 use Rattle.sqlite.specs.Held.{state}
 use Rattle.store.specs.Meaning.{Tells}
+use Rattle.headline.proofs.Failed.{caused_by_disk}
 use Rattle.headline.proofs.Listed.{responded}
 use Rattle.headline.proofs.Stored.{AreOpen, answers}
 use Rattle.headline.proofs.respond.Goals as goal
@@ -16,3 +17,11 @@ returns-clause-list g c honest asks =
     responded c.the_list_is_exact.ensures c.one_ask.ensures called.result (Tells (state g.S.Store c.args.store.now.conn))
     (Tells (state g.S.Store called.new.registry.conn)) (AreOpen (state g.S.Store called.new.registry.conn)) c.args.request.now
     c.args.moment c.args.nonce.now asks (called.ensures.answered honest)
+
+pub returns-clause-reads : goal.returns-clause-reads
+returns-clause-reads g c none honest is = (c.answer-response.ensures.reads honest is none).0
+
+pub returns-clause-plain : goal.returns-clause-plain
+returns-clause-plain g c plain honest =
+    caused_by_disk (λ s. state g.S.Store s.conn) c.args.store.now c.answer-response.new.registry
+    c.answer-response.result (c.answer-response.ensures.plain honest plain)

@@ -21,7 +21,7 @@ returns-in-Ok-clause-lists g c = λ honest.
     (run.ensures.same clean) (run.ensures.found clean) (run.ensures.before clean)
     (IfErr-weaker run.result _ _ (λ e still other. ap (λ s. g.W.Write.contents s.writer) (still other))
     run.ensures.unwritten)
-    (run.ensures.only clean))
+    (run.ensures.only clean) clean run.ensures.cause)
 
 pub returns-in-Err-clause-lists : goal.returns-in-Err-clause-lists
 returns-in-Err-clause-lists g c = λ honest.

@@ -1,8 +1,8 @@
 use Rattle.office_jobs.proofs.Words.{Err, IsReport, JobFault, arith, get, length, refl, resource_of, state, subst, sym}
 use Rattle.office_jobs.proofs.Words.{◌<◌, ◌^◌}
-use Rattle.office_jobs.proofs.Carried.{before_open}
+use Rattle.office_jobs.proofs.Carried.{before_open, excused}
 use Rattle.office_jobs.proofs.Printed.{report_fault}
-use Rattle.office_jobs.proofs.Reported.{reported, unfound}
+use Rattle.office_jobs.proofs.Reported.{is_plain, reported, unfound}
 use Rattle.office_jobs.proofs.reporting.report_in.Goals as goal
 
 pub returns-in-Some-clause-reports : goal.returns-in-Some-clause-reports
@@ -15,7 +15,7 @@ returns-in-Some-clause-reports g c = λ clean.
       came = reported c.args.report old new
           (g.W.Write.contents c.args.out.now) (g.W.Write.contents c.write_out.new.out) c.request.result.now _ _ response.items
           c.as_slice.result.now c.in-Some.body.now c.write_out.result c.one_ask.ensures c.request.ensures
-          (c.in-Ok.ensures.answered clean) c.as_slice.ensures.value short c.in-Some.ensures c.write_out.ensures.ok
+          (c.in-Ok.ensures.answered clean) c.as_slice.ensures.value short c.in-Ok.ensures.form c.in-Some.ensures c.write_out.ensures.ok
           c.write_out.ensures.only;
     }
 
@@ -41,6 +41,8 @@ returns-clause-reports g c = λ clean.
           (report_fault c.args.report c.in-Err.fault old new held held (record {
             unprinted = refl;
             tells = c.in-Err.ensures.fault clean;
-            only = λ is_open. c.in-Err.ensures.only clean;
+            only = λ is_open o l m. excused c.in-Err.fault old new clean o l m (c.in-Err.ensures.only clean o l m)
+                (c.in-Err.ensures.plain
+                (get (resource_of c.args.report), c.request.ensures, is_plain c.args.report) clean);
           }));
     }

@@ -1,5 +1,8 @@
-use Rattle.web.proofs.Words.{None, Some, state, sym, ◌∙◌}
+use Rattle.web.proofs.Words.{None, Some, refl, state, sym, ◌∙◌}
+use Rattle.http_requests.specs.declared.resource.Resource.TheVariants.{Certificate}
 use Rattle.office.specs.Publication.{issued_of}
+use Rattle.web.specs.Forms.{MayShow}
+use Rattle.web.proofs.Formed.{of_text}
 use Rattle.web.specs.Answers.{certificate_response}
 use Rattle.web.proofs.Shown.{memory_cause, memory_only, shows}
 use Rattle.web.proofs.certificate_lines.to_certificate.Goals as goal
@@ -25,3 +28,11 @@ returns-in-Some-clause-only g c h = memory_only c.to_line.result _ c.to_line.ens
 
 pub returns-in-None-clause-only : goal.returns-in-None-clause-only
 returns-in-None-clause-only g c h = memory_only c.to_refusal.result _ c.to_refusal.ensures.err
+
+pub returns-in-Some-clause-form : goal.returns-in-Some-clause-form
+returns-in-Some-clause-form g c =
+    of_text c.to_line.result _ (MayShow (Certificate c.args.serial)) c.to_line.ensures.ok (Some c.in-Some.issued, refl)
+
+pub returns-in-None-clause-form : goal.returns-in-None-clause-form
+returns-in-None-clause-form g c =
+    of_text c.to_refusal.result _ (MayShow (Certificate c.args.serial)) c.to_refusal.ensures.ok (None, refl)

@@ -1,5 +1,10 @@
 use Rattle.std.proofs.Common.{ap, ◌∙◌}
+use Rattle.http_requests.specs.declared.resource.Resource.TheVariants.{Pending}
+use Rattle.http_requests.specs.declared.response.MediaType.TheVariants.{PlainText}
+use Rattle.http_requests.specs.Responses.{response_text}
+use Rattle.web.specs.Forms.{MayShow}
 use Rattle.web.specs.Reports.{pending_lines, pending_report}
+use Rattle.web.proofs.Formed.{of_text}
 use Rattle.web.proofs.Shown.{memory_cause, memory_only}
 use Rattle.web.proofs.Reported.{shows_report}
 use Rattle.web.proofs.certificate_lines.to_pending.Goals as goal
@@ -15,3 +20,8 @@ returns-clause-cause g c h = memory_cause c.around.result _ c.around.ensures.err
 
 pub returns-clause-only : goal.returns-clause-only
 returns-clause-only g c h = memory_only c.around.result _ c.around.ensures.err
+
+pub returns-clause-form : goal.returns-clause-form
+returns-clause-form g c =
+    of_text c.around.result _ (MayShow Pending) c.around.ensures.ok
+    (c.deref.result.now, ap (response_text 200 PlainText) c.in_ok-report.ensures)

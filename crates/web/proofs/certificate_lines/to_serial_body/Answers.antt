@@ -1,5 +1,8 @@
-use Rattle.web.proofs.Words.{List, None, Some, ap, state, sym, ℕ, ◌∙◌}
+use Rattle.web.proofs.Words.{List, None, Some, ap, refl, state, sym, ℕ, ◌∙◌}
+use Rattle.http_requests.specs.declared.resource.Resource.TheVariants.{Body}
 use Rattle.office.specs.State.{body_of}
+use Rattle.web.specs.Forms.{MayShow}
+use Rattle.web.proofs.Formed.{of_text}
 use Rattle.web.specs.Answers.{body_response}
 use Rattle.web.proofs.Shown.{memory_cause, memory_only, shows}
 use Rattle.web.proofs.certificate_lines.to_serial_body.Goals as goal
@@ -25,3 +28,11 @@ returns-in-Some-clause-only g c h = memory_only c.to_body.result _ c.to_body.ens
 
 pub returns-in-None-clause-only : goal.returns-in-None-clause-only
 returns-in-None-clause-only g c h = memory_only c.to_refusal.result _ c.to_refusal.ensures.err
+
+pub returns-in-Some-clause-form : goal.returns-in-Some-clause-form
+returns-in-Some-clause-form g c =
+    of_text c.to_body.result _ (MayShow (Body c.args.serial)) c.to_body.ensures.ok (Some c.as_slice.result.now, refl)
+
+pub returns-in-None-clause-form : goal.returns-in-None-clause-form
+returns-in-None-clause-form g c =
+    of_text c.to_refusal.result _ (MayShow (Body c.args.serial)) c.to_refusal.ensures.ok (None, refl)

@@ -1,5 +1,10 @@
 use Rattle.web.proofs.Words.{ap, preserves_both, state, table_report}
 use Rattle.krl.specs.declared.krl_head.KrlHead.{KrlHead}
+use Rattle.http_requests.specs.declared.resource.Resource.TheVariants.{Table}
+use Rattle.http_requests.specs.declared.response.MediaType.TheVariants.{PlainText}
+use Rattle.http_requests.specs.Responses.{response_text}
+use Rattle.web.specs.Forms.{MayShow}
+use Rattle.web.proofs.Formed.{of_text}
 use Rattle.web.proofs.Shown.{memory_cause, memory_only}
 use Rattle.web.proofs.Reported.{shows_report, whole_table}
 use Rattle.web.proofs.report.to_table.Goals as goal
@@ -37,3 +42,13 @@ pub returns-clause-preserves : goal.returns-clause-preserves
 returns-clause-preserves g c =
     preserves_both g.met.R.Registry.through (preserves_both g.met.R.Registry.through c.revoked.ensures.preserves
     c.revocations.ensures.preserves) c.table_beside.ensures.preserves
+
+pub returns-clause-form : goal.returns-clause-form
+returns-clause-form g c =
+    let said = c.in_ok-report.ensures.form in
+    of_text c.around.result _ (MayShow Table) c.around.ensures.ok (
+      c.in_ok-revocations.revocations,
+      said.0,
+      c.in_ok-version.field-0.head.version,
+      ap (response_text 200 PlainText) said.1,
+    )

@@ -1,5 +1,6 @@
 use Rattle.web.proofs.Words.{Ask, Asks, request_ask, subst, sym}
-use Rattle.web.proofs.Shown.{always_err, is_no_message}
+use Rattle.web.proofs.Formed.{asked_form}
+use Rattle.web.proofs.Shown.{always_err, is_no_message, is_plain_get}
 use Rattle.web.proofs.request.answer_by.Goals as goal
 
 pub returns-clause-answered : goal.returns-clause-answered
@@ -27,3 +28,17 @@ returns-clause-reads g c honest is none =
     let asks = subst P (sym c.in_ok-request.ensures) c.asks.ensures.asked in
     c.answer_request.ensures.reads honest is
     (is_no_message c.args.request.now (request_ask c.in_ok-request.request) asks none)
+
+pub returns-clause-plain : goal.returns-clause-plain
+returns-clause-plain g c honest plain =
+    let P : Ask → Type 0 = Asks c.args.request.now in
+    let asks = subst P (sym c.in_ok-request.ensures) c.asks.ensures.asked in
+    c.answer_request.ensures.plain honest
+    (is_plain_get c.args.request.now (request_ask c.in_ok-request.request) asks plain)
+
+pub returns-clause-form : goal.returns-clause-form
+returns-clause-form g c =
+    let P : Ask → Type 0 = Asks c.args.request.now in
+    let asks = subst P (sym c.in_ok-request.ensures) c.asks.ensures.asked in
+    asked_form c.answer_request.result c.args.request.now (request_ask c.in_ok-request.request) asks
+    c.answer_request.ensures.form

@@ -1,5 +1,5 @@
 use Rattle.web.proofs.Words.{Keeps, arrival_by, inl, inr, refl}
-use Rattle.web.proofs.Shown.{always_err, cause_as, memory_cause, memory_only}
+use Rattle.web.proofs.Shown.{always_err, cause_as, memory_cause, memory_only, not_pending}
 use Rattle.web.proofs.Answered.{of_arrival, of_refusal, of_resource}
 use Rattle.web.proofs.request.answer_request.Goals as goal
 
@@ -57,3 +57,13 @@ returns-in-Get-clause-before g c honest is =
 
 pub returns-in-Post-clause-reads : goal.returns-in-Post-clause-reads
 returns-in-Post-clause-reads g c honest is none = absurd (rw c.in-Post.is at none)
+
+pub returns-in-Refused-clause-plain : goal.returns-in-Refused-clause-plain
+returns-in-Refused-clause-plain g c honest plain = absurd (rw c.in-Refused.is at plain)
+
+pub returns-in-Get-clause-plain : goal.returns-in-Get-clause-plain
+returns-in-Get-clause-plain g c honest plain =
+    c.to_resource.ensures.plain honest (not_pending c.in-Get.resource (rw c.in-Get.is at plain))
+
+pub returns-in-Post-clause-plain : goal.returns-in-Post-clause-plain
+returns-in-Post-clause-plain g c honest plain = absurd (rw c.in-Post.is at plain)

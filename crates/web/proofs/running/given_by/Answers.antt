@@ -1,4 +1,5 @@
 use Rattle.web.proofs.Words.{Answer, AsksNoChange, IsAnswered, Keeps, List, subst, sym, ℕ, ◌∙◌, ◌≡◌}
+use Rattle.web.specs.Forms.{HasForm}
 use Rattle.web.proofs.running.given_by.Goals as goal
 
 same_text : (x y : List ℕ) → Answer x ≡ Answer y → x ≡ y
@@ -25,3 +26,9 @@ returns-in-Ok-clause-reads g c honest is none =
 pub returns-in-Err-clause-reads : goal.returns-in-Err-clause-reads
 returns-in-Err-clause-reads g c honest is none =
     c.answer_by-answered.ensures.reads honest is (subst (λ (request : List ℕ). AsksNoChange request) (sym c.as_slice-request.ensures) none)
+
+pub returns-in-Ok-clause-form : goal.returns-in-Ok-clause-form
+returns-in-Ok-clause-form g c response is =
+    let same = sym c.from_vec.ensures ∙ same_text c.from_vec.result response is in
+    subst (λ (request : List ℕ). HasForm request response) c.as_slice-request.ensures
+    (subst (λ (text : List ℕ). HasForm c.as_slice-request.result.now text) same c.in-Ok.ensures.form)

@@ -3,6 +3,9 @@ use Rattle.web.proofs.Words.{◌≡◌}
 use Rattle.std.proofs.Common.{add-one, drop-cons}
 use Rattle.std.proofs.lemmas.Grind.{common_steps}
 use Rattle.std.proofs.Math.ListN.{drop_of_length-le}
+use Rattle.std.proofs.lemmas.List.{take_all}
+use Rattle.web.specs.Forms.{HaveForms}
+use Rattle.web.proofs.Formed.{next_forms}
 use Rattle.web.proofs.Underway.{IsUnderway, goes_with, is_done, starts}
 use Rattle.web.proofs.running.run.Goals as goal
 
@@ -36,7 +39,16 @@ loop-exchange-preserved g c =
           (goes_with before now new was_open is_open all rest x given c.given_by.result (c.given_by.ensures.answered h)
           (c.given_by.ensures.fault h) u);
       room = grind (arith, common_steps);
+      forms = next_forms all i x given c.push.new.self.items c.given_by.result c.loop-exchange-test.true
+          c.exchange-item.is pushed c.loop-exchange.invariant.forms c.given_by.ensures.form;
     }
+
+pub returns-clause-forms : goal.returns-clause-forms
+returns-clause-forms g c =
+    let all = c.args.exchanges.now in
+    let i = c.loop-exchange.exchange-index in
+    subst (λ (xs : List Exchange). HaveForms xs c.loop-exchange.given.items)
+    (take_all i all c.loop-exchange-test.false) c.loop-exchange.invariant.forms
 
 pub returns-clause-serves : goal.returns-clause-serves
 returns-clause-serves g c honest =
@@ -59,4 +71,5 @@ loop-exchange-init g c =
       underway = λ h. subst (λ (g : List Given). IsUnderway means means is_open all all g) (sym c.in_ok-given.ensures.items)
           (starts means is_open all);
       room = grind (arith, common_steps);
+      forms = subst (λ (g : List Given). HaveForms [] g) (sym c.in_ok-given.ensures.items) tt;
     }

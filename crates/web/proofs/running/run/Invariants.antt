@@ -1,5 +1,6 @@
-use Rattle.std.proofs.Common.{◌+◌, ◌≤◌, length, drop, vec_len}
+use Rattle.std.proofs.Common.{◌+◌, ◌≤◌, length, drop, take, vec_len}
 use Rattle.std.specs.Prelude.{vec_capacity}
+use Rattle.web.specs.Forms.{HaveForms}
 use Rattle.web.specs.Runs.{AskNoChange}
 use Rattle.web.proofs.Underway.{IsUnderway}
 use Rattle.web.proofs.running.run.Given as goal
@@ -13,4 +14,5 @@ invariant-loop-exchange g l = record {
   underway : g.R.Registry.is_honest l.registry → IsUnderway (g.R.Registry.means l.fn.registry)
       (g.R.Registry.means l.registry) (g.R.Registry.is_open l.registry) l.exchanges (drop l.exchange-index l.exchanges) l.given.items;
   room : vec_len l.given + (length l.exchanges) ≤ vec_capacity l.given + l.exchange-index;
+  forms : HaveForms (take l.exchange-index l.exchanges) l.given.items;
 }
