@@ -308,9 +308,10 @@ def signers(keys):
 
 
 def start(unit):
-    """Starts a unit that ends by itself. Its journal says why it failed."""
+    """Runs a unit that ends by itself. A run that its timer has begun read the settings of before, and is ended. Its
+    journal says why it failed."""
     try:
-        run(["systemctl", "start", unit])
+        run(["systemctl", "restart", unit])
     except Fault:
         words = ["journalctl", "--quiet", "--no-pager", "--unit", unit, "--output", "cat", "--lines", "20"]
         told = subprocess.run(words, capture_output=True, text=True, errors="replace").stdout.splitlines()
