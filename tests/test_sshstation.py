@@ -527,9 +527,9 @@ def test_tables_that_somebody_changed_are_named_and_left(guard, room, change, fa
 
 
 @pytest.mark.parametrize("made", [
-    lambda: body(4)[:-1], lambda: body(4) + b"\0", lambda: b"I owe you 1000 euros", lambda: b""],
-    ids=["cut off", "one byte more", "a text", "nothing"])
-def test_a_row_whose_body_is_no_certificate_is_named(guard, room, made):
+    lambda: body(4)[:-1], lambda: body(4) + b"\0", lambda: b"I owe you 1000 euros", lambda: b"", lambda: body(5)],
+    ids=["cut off", "one byte more", "a text", "nothing", "of another serial"])
+def test_a_row_whose_body_is_no_certificate_of_its_serial_is_named(guard, room, made):
     """It has the form of a row. Nobody but whoever can change the file makes one, since the guard approves none."""
     put(room, a=body(3))
     assert sign(3, body(3)) == guard.judge("a")[1]

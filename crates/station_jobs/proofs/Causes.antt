@@ -1,6 +1,5 @@
 -- The faults of a step are faults of the steps that it is part of.
-use Rattle.std.proofs.Common.{◌≡◌, ℕ, Option, refl}
-use Rattle.cert.specs.declared.fields.CertFields.{CertFields}
+use Rattle.std.proofs.Common.{◌≡◌, ℕ, refl}
 use Rattle.guard.specs.declared.register.RegisterFault.{RegisterFault}
 use Rattle.guard.specs.declared.register.RegisterFault.TheVariants as register
 use Rattle.station_jobs.specs.declared.station_fault.StationFault.{StationFault}
@@ -66,8 +65,8 @@ rows_of_a_register register.Device = tt
 rows_of_a_register register.Damaged = tt
 rows_of_a_register register.NoMemory = tt
 
-pub rows_of_a_row : (fields : Option CertFields) (e : StationFault) → IsOfARow fields e → IsOfRows e
-rows_of_a_row fields Write h = tt
-rows_of_a_row fields NoMemory h = tt
-rows_of_a_row fields Damaged h = tt
-rows_of_a_row fields other h = absurd h
+pub rows_of_a_row : (whole : Type 0) (e : StationFault) → IsOfARow whole e → IsOfRows e
+rows_of_a_row whole Write h = tt
+rows_of_a_row whole NoMemory h = tt
+rows_of_a_row whole Damaged h = tt
+rows_of_a_row whole other h = absurd h

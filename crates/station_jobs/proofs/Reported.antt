@@ -1,7 +1,6 @@
 -- Faults that a register reported, from one call to the next.
-use Rattle.std.proofs.Common.{◌≡◌, ◌⊎◌, Ok, Err, Result, Option, Some, inl, inr, refl, subst, sym}
+use Rattle.std.proofs.Common.{◌≡◌, ◌⊎◌, Ok, Err, Result, Some, inl, inr, refl, subst, sym}
 use Rattle.std.specs.Prelude.{IfErr}
-use Rattle.cert.specs.declared.fields.CertFields.{CertFields}
 use Rattle.guard.specs.declared.register.RegisterFault.{RegisterFault}
 use Rattle.guard.specs.declared.register.RegisterFault.TheVariants as register
 use Rattle.guard.specs.declared.retiring.RetireFault.{RetireFault}
@@ -58,11 +57,11 @@ own_policy NoMemory h = tt
 own_policy (BadPolicy line) h = tt
 own_policy other h = absurd h
 
-pub own_row : (fields : Option CertFields) (e : StationFault) → IsOfARow fields e → IsOwn e
-own_row fields Write h = tt
-own_row fields NoMemory h = tt
-own_row fields Damaged h = tt
-own_row fields other h = absurd h
+pub own_row : (whole : Type 0) (e : StationFault) → IsOfARow whole e → IsOwn e
+own_row whole Write h = tt
+own_row whole NoMemory h = tt
+own_row whole Damaged h = tt
+own_row whole other h = absurd h
 
 own_answer : (e : StationFault) → IsOfAnAnswer e → IsOwn e
 own_answer Write h = tt

@@ -1,8 +1,7 @@
 -- Which fault of a job each underlying fault becomes, and which faults each step may have.
-use Rattle.std.specs.Prelude.{◌≡◌, ℕ, Option, None}
+use Rattle.std.specs.Prelude.{ℕ}
 use Rattle.std.specs.declared.io.ErrorKind.{ErrorKind}
 use Rattle.std.specs.declared.io.ErrorKind.TheVariants.{OutOfMemory}
-use Rattle.cert.specs.declared.fields.CertFields.{CertFields}
 use Rattle.lines.specs.declared.key_line.LineFault.{LineFault}
 use Rattle.lines.specs.declared.key_line.LineFault.TheVariants as line
 use Rattle.guard.specs.declared.policy_fault.PolicyFault.{PolicyFault}
@@ -80,12 +79,12 @@ IsOfAKey fault.NoMemory = Unit {0}
 IsOfAKey (fault.Line e) = Unit {0}
 IsOfAKey other = ⊥
 
--- The faults of printing the line of a row, if its body has these fields: only a body without any is damaged.
-abbrev pub IsOfARow : Option CertFields → StationFault → Type 0
-IsOfARow fields fault.Write = Unit {0}
-IsOfARow fields fault.NoMemory = Unit {0}
-IsOfARow fields fault.Damaged = fields ≡ None
-IsOfARow fields other = ⊥
+-- The faults of printing the line of a row. It is reported as damaged only if it isn't as a guard writes it.
+abbrev pub IsOfARow : (IsWhole : Type 0) → StationFault → Type 0
+IsOfARow IsWhole fault.Write = Unit {0}
+IsOfARow IsWhole fault.NoMemory = Unit {0}
+IsOfARow IsWhole fault.Damaged = IsWhole → ⊥
+IsOfARow IsWhole other = ⊥
 
 -- The faults of a register that didn't answer.
 abbrev pub IsOfARegister : StationFault → Type 0

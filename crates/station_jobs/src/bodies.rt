@@ -2,10 +2,9 @@
 
 ghost use Rattle.std.specs.Prelude.{◌≡◌, ◌++◌, ◌∷◌, [], decimal, IfErr, IfOk, OnErr, OnOk};
 ghost use Rattle.std.specs.Io.KnownBytes.{Appends};
-ghost use Rattle.wire.specs.Streams.{AppendsBeginning};
-ghost use Rattle.guard.specs.Machine.{State, fields_of};
-ghost use Rattle.station_jobs.specs.Bodies.{AreReadable, ListsFirst, ListsRows, PrintsBody, PrintsFrom, named_line};
-ghost use Rattle.station_jobs.specs.Bodies.{row_line};
+ghost use Rattle.guard.specs.Machine.{State};
+ghost use Rattle.station_jobs.specs.Bodies.{AreReadable, CutsRow, IsWhole, ListsFirst, ListsRows, PrintsBody};
+ghost use Rattle.station_jobs.specs.Bodies.{PrintsFrom, named_line, row_line};
 ghost use Rattle.station_jobs.specs.Faults.{IsOfARow, IsOfRows};
 ghost use Rattle.station_jobs.specs.Leaving.{HasCause, Leaves, OfNone, Stays};
 ghost use Rattle.station_jobs.specs.Reported.{PassesOn};
@@ -44,18 +43,20 @@ fn put_row(line: &mut Vec<u8>, row: &Approved, key_id: &[u8]) -> Result<(), NoMe
 /// The line of a row.
 fn line_of(alloc: Global, row: &Approved) -> Result<Vec<u8>, StationFault>
     ensures line { IfOk result (λ line. line.items ≡ row_line row.now) }
+    ensures whole { OnOk result (IsWhole row.now) }
 
-    // A body that can be read fails only for lack of memory.
-    ensures only { IfErr result (IsOfARow (fields_of row.now.body)) }
+    // A row that is whole fails only for lack of memory.
+    ensures only { IfErr result (IsOfARow (IsWhole row.now)) }
 {
     let mut line = Vec::new(alloc);
     match fields_of(alloc, row.body.as_slice()) {
-        Ok(fields) => {
+        Ok(fields) if fields.serial == row.serial => {
             let put = put_row(&mut line, row, fields.key_id.as_slice());
             drop(fields);
             put?;
             Ok(line)
         }
+        Ok(_) => Err(StationFault::Damaged),
         Err(BodyFault::NoMemory) => Err(StationFault::NoMemory),
         Err(_) => Err(StationFault::Damaged),
     }
@@ -64,8 +65,9 @@ fn line_of(alloc: Global, row: &Approved) -> Result<Vec<u8>, StationFault>
 /// Prints the line of a row.
 fn print_row<W: Write>(alloc: Global, row: &Approved, out: &mut W) -> Result<(), StationFault>
     ensures ok { OnOk result (Appends (W.contents out.old) (W.contents out.new) (row_line row.now)) }
-    ensures err { OnErr result (AppendsBeginning (W.contents out.old) (W.contents out.new) (row_line row.now)) }
-    ensures only { IfErr result (IsOfARow (fields_of row.now.body)) }
+    ensures whole { OnOk result (IsWhole row.now) }
+    ensures err { OnErr result (CutsRow row.now (W.contents out.old) (W.contents out.new)) }
+    ensures only { IfErr result (IsOfARow (IsWhole row.now)) }
 {
     let line = line_of(alloc, row)?;
     print(out, line.as_slice())
@@ -119,7 +121,7 @@ pub fn print_bodies<G: Register, W: Write>(
     ensures stays { G.is_honest register.new → (s : State) → G.keeps register.old s
         → Stays G.Register register.old register.new s }
 
-    // If each approved body can be read, no damage is reported, and a failure of the database only if it failed.
+    // If each row is whole, no damage is reported, and a failure of the database only if it failed.
     ensures cause { G.is_honest register.new → (s : State) → G.keeps register.old s → AreReadable s
         → Leaves G.Register OfNone register.old register.new s s result }
     ensures only { IfErr result IsOfRows }

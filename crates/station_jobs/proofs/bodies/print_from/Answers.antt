@@ -10,7 +10,7 @@ pub returns-in-Ok-2-clause-cut : goal.returns-in-Ok-2-clause-cut
 returns-in-Ok-2-clause-cut g c h s kept =
     one_whole s c.args.from (g.W.Write.contents c.args.out.now) (g.W.Write.contents c.print_row-printed.new.out)
     c.in-Ok-Some.row (subst (IsRowFrom s c.args.from) c.in-Ok-Some.field-0-is (c.in-Ok-Some.ensures.row h s kept))
-    c.in-Ok-2.ensures.ok
+    c.in-Ok-2.ensures.whole c.in-Ok-2.ensures.ok
 
 pub returns-in-Err-printed-clause-cut : goal.returns-in-Err-printed-clause-cut
 returns-in-Err-printed-clause-cut g c h s kept =
