@@ -1,5 +1,6 @@
 """Edits of sources: which function of a crate an edit changes, under the name that a check prints."""
 
+import itertools
 import os
 import re
 
@@ -17,6 +18,9 @@ NAMED = re.compile(r"([\w:]+) \(([\w, ]+)\)")
 BESIDE = "ensures beside { Unit {0} }"
 # A contract with fewer clauses is tried whole.
 FEWEST = 4
+# What stands in place of a body of at least so many bytes. A shorter one is no dearer.
+STUB, SHORTEST = "{{ loop {{}} {}}}", 80
+OF_CONSTANTS = re.compile(r"\bconst\s+fn\b")
 TYPE = re.compile(r"\b(?:struct|enum|union)\s+(\w+)")
 ITEM = re.compile(r"\b(?:fn\s+(?P<fn>\w+)|impl\b(?P<impl>[^{;]*)|trait\s+(?P<trait>\w+)[^{;]*|const\s+(?P<const>\w+)\s*:)")
 
@@ -31,6 +35,10 @@ class Item:
 
     def holds(self, start, end):
         return self.start < start and end <= self.end
+
+    def meets(self, other):
+        """Whether the bodies of both have a place in common."""
+        return self.start <= other.end and other.start <= self.end
 
 
 class Pair:
@@ -251,6 +259,24 @@ class Sources:
                 texts |= dict.fromkeys((f"{folder}/Answers.antt", f"{folder}/Invariants.antt"))
                 texts[f"{folder}/Proof.antt"] = HOLE.format(crate=crate, path=".".join(names), name=names[-1])
         return texts
+
+    def stubs(self, texts, functions):
+        """The source files among these texts, or of the crate, in which other functions than these have stubs for
+        their bodies, as `holes` has for their proofs. Each stub has as many lines as the body."""
+        found = {}
+        for path, items in self.items.items():
+            text = before = texts.get(path, self.texts[path])
+            checked = [it for it in items if it.name in functions]
+            for it in items if "#[cycle" not in self.blank[path] else []:
+                if it.is_constant or it.end - it.start < SHORTEST or any(map(it.meets, checked)):
+                    continue
+                places = (len(self.texts[path].encode()[:at].decode()) for at in (it.head, it.start, it.end + 1))
+                head, body = (self.texts[path][at:to] for at, to in itertools.pairwise(places))
+                if text.count(head + body) == 1 and not OF_CONSTANTS.search(head):
+                    text = text.replace(head + body, head + STUB.format("\n" * body.count("\n")))
+            if text != before:
+                found[path] = text
+        return found
 
     def edited(self, edits):
         """A copy of the crate in which these edits are: the texts of its files, the functions that each edit changes
