@@ -510,9 +510,10 @@ def test_what_reads_a_guard_makes_no_file(sshstation, room, words):
 
 @pytest.mark.parametrize("change, fault", [
     ("UPDATE guard SET schema = 2", "WrongSchema"), ("UPDATE guard SET ca = x'00'", "Damaged"),
-    ("UPDATE guard SET first = 0", "Damaged"), ("DELETE FROM guard", "NotAGuard"), ("DROP TABLE guard", "NotAGuard"),
+    ("UPDATE guard SET first = 0", "Damaged"), ("UPDATE guard SET id = 2", "Damaged"),
+    ("DELETE FROM guard", "NotAGuard"), ("DROP TABLE guard", "NotAGuard"),
     ("INSERT INTO approved VALUES (3, -1, x'00')", "Damaged"),
-], ids=["schema", "ca", "first", "no-row", "no-table", "moment"])
+], ids=["schema", "ca", "first", "id", "no-row", "no-table", "moment"])
 def test_tables_that_somebody_changed_are_named_and_left(guard, room, change, fault):
     put(room, a=body(3))
     with contextlib.closing(sqlite3.connect("guard.db")) as tables, tables:

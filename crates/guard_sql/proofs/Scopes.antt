@@ -3,7 +3,7 @@ use Rattle.std.proofs.Common.{◌≡◌, List, [], ◌∷◌, Ok, Err, Result, I
 use Rattle.std.proofs.Common.{Bool, Option, Some, ap, arith, false, true, ℕ}
 use Rattle.std.proofs.lemmas.List.Sorted.{length_permutation}
 use Rattle.std.specs.List.Sorted.{IsPermutation}
-use Rattle.std.specs.Prelude.{if◌then◌else◌, ◌==◌}
+use Rattle.std.specs.Prelude.{if◌then◌else◌, ◌==◌, ◌&&◌}
 use Rattle.lines.specs.Keys.{key_of}
 use Rattle.office.specs.Openings.{are_serials}
 use Rattle.sqlite.specs.Effect.{Database}
@@ -121,7 +121,7 @@ of_schema row true = with_key (key_of row.ca)
   where
     with_key : (key : Option (List ℕ)) → IsOfRows (scope_with row key)
     with_key None = tt
-    with_key (Some key) = of_key row (Some key) (are_serials row.first row.last)
+    with_key (Some key) = of_key row (Some key) (row.id == 1 && are_serials row.first row.last)
 of_schema row false = tt
 
 of_rows : (rows : List GuardRow) → IsOfRows (scope_in rows)

@@ -1,5 +1,5 @@
 -- How a guard is found in tables, or made in a database without tables.
-use Rattle.std.specs.Prelude.{◌≡◌, ◌==◌, ℕ, List, [], ◌∷◌, if◌then◌else◌, IsTrue, Option, Some, None, Result, Ok, Err}
+use Rattle.std.specs.Prelude.{◌≡◌, ◌==◌, ◌&&◌, ℕ, List, [], ◌∷◌, if◌then◌else◌, IsTrue, Option, Some, None, Result, Ok, Err}
 use Rattle.sqlite.specs.Tree.{Trees}
 use Rattle.sqlite.specs.State.{State as Connection, IsUnchanged}
 use Rattle.lines.specs.Keys.{key_of}
@@ -19,12 +19,15 @@ use Rattle.guard_sql.specs.Transactions.{Leaves as LeavesAfter}
 
 -- ---- the scope in a row
 
--- the scope in a row of this schema, with this key; else the row is damaged
+-- the scope in a row with this key
+abbrev pub scope_of : GuardRow → (key : List ℕ) → Scope
+scope_of row key = record { ca = key; first = row.first; last = row.last }
+
+-- the same for a row of this schema, which is damaged unless it has id 1, a key and valid serials
 abbrev pub scope_with : GuardRow → Option (List ℕ) → Result Scope OpeningFault
 scope_with row None = Err fault.Damaged
 scope_with row (Some key) =
-    if are_serials row.first row.last then Ok (record { ca = key; first = row.first; last = row.last })
-    else Err fault.Damaged
+    if row.id == 1 && are_serials row.first row.last then Ok (scope_of row key) else Err fault.Damaged
 
 -- a guard's table has one row, of schema 1
 abbrev pub scope_in : List GuardRow → Result Scope OpeningFault

@@ -35,7 +35,7 @@ fn scope_with(row: &GuardRow) -> Result<Scope, OpeningFault>
     };
     let first = row.first.get();
     let last = row.last.get();
-    if are_serials(first, last) {
+    if row.id.get() == 1 && are_serials(first, last) {
         Ok(Scope { ca, first, last })
     } else {
         Err(OpeningFault::Damaged)

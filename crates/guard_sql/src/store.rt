@@ -87,8 +87,8 @@ impl<S: Alter> GuardStore<S> {
     /// # Errors
     ///
     /// `NotAGuard` if the guard's own table is missing, or has no row or several, `WrongSchema` if the tables are those
-    /// of another version, `Damaged` if its row has no valid scope, `Device` if the database failed, and `NoMemory` for
-    /// lack of memory.
+    /// of another version, `Damaged` if its row has another id than 1 or no valid scope, `Device` if the database
+    /// failed, and `NoMemory` for lack of memory.
     pub fn open(
         alloc: Global,
         conn: Connection<S>,
