@@ -274,6 +274,13 @@ def test_runs_that_no_office_writes_are_damage(filled, statement):
     assert "Damaged" == fault(filled, "krl", "--db", filled.db)
 
 
+def test_an_office_under_another_id_is_damage(filled):
+    """The statement that counts its serials looks for id 1."""
+    sql(filled.db, "UPDATE office SET id = 2")
+    assert "Damaged" == fault(filled, "krl", "--db", filled.db)
+    assert ["fault"] == said(filled, post("ana", "e", issue("db/e", after=3000, before=4000)))
+
+
 def test_a_department_of_no_kind_is_a_fault_of_what_reads_it(filled):
     sql(filled.db, "UPDATE department SET kind = 3 WHERE name = 'web'")
     assert ["fault"] == said(filled, asked("d"))
@@ -284,6 +291,7 @@ def test_a_department_of_no_kind_is_a_fault_of_what_reads_it(filled):
 DAMAGES = {
     "no CA": "DELETE FROM ca",
     "a next serial that was issued": "UPDATE office SET next = 7",
+    "another id": "UPDATE office SET id = 2",
     "runs that touch": "INSERT INTO run VALUES (7, 7), (8, 8)",
     "a department of no kind": "UPDATE department SET kind = 3 WHERE name = 'web'",
     "no certificate": "DELETE FROM cert",

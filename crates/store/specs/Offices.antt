@@ -1,5 +1,5 @@
 -- The contents of the office's row.
-use Rattle.std.specs.Prelude.{◌≡◌, ◌≤◌, ℕ, List, [], ◌∷◌, Bool, ◌&&◌, ◌||◌, not, nat_lt, if◌then◌else◌, Option, Some}
+use Rattle.std.specs.Prelude.{◌≡◌, ◌==◌, ◌≤◌, ℕ, List, [], ◌∷◌, Bool, ◌&&◌, ◌||◌, not, nat_lt, if◌then◌else◌, Option, Some}
 use Rattle.std.specs.Prelude.{None}
 use Rattle.std.specs.Option.{option_and_then}
 use Rattle.std.specs.Str.{bytes_eq}
@@ -27,8 +27,10 @@ office_of row key = record {
 abbrev pub if_office : Office → Option Office
 if_office o = if not (is_opening o.opening) || nat_lt o.next o.opening.first then None else Some o
 
+-- the office in a row, which has id 1
 abbrev pub office_in : OfficeRow → Option Office
-office_in row = option_and_then (λ key. if_office (office_of row key)) (key_of row.ca)
+office_in row =
+    if row.id == 1 then option_and_then (λ key. if_office (office_of row key)) (key_of row.ca) else None
 
 -- the office of the row, if there is exactly one
 abbrev pub only_office : List OfficeRow → Option Office

@@ -84,6 +84,9 @@ fn office_in(alloc: Global, row: &OfficeRow) -> Result<Office, Fault>
     ensures exact { IsRead (office_in row.now) result }
     ensures lawful { IfOk result IsLawfulOffice }
 {
+    if row.id.get() != 1 {
+        return Err(Fault::Damaged);
+    }
     let Some(ca) = read_key_blob(row.ca.as_slice()) else {
         return Err(Fault::Damaged);
     };
