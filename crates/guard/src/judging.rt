@@ -53,6 +53,7 @@ fn verdict_on<R: Register>(
     ensures cause { R.is_honest register.new → (s : State) → R.keeps register.old s
         → IfErr result (λ e. HasCause e (R.has_failed register.new)) }
     ensures reported { R.reported register.new ≡ reported_by (R.reported register.old) result }
+    ensures before { R.is_honest register.new → R.is_as_before register.old register.new }
 {
     let scope = register.scope()?;
     let kept = register.body_of(alloc, fields.serial)?;
@@ -90,6 +91,7 @@ fn settle<R: Register>(
         → Decided verdict s q c → s.scope.last < 2 ^ 63 → moment < 2 ^ 63
         → IfErr result (λ e. HasCause e (R.has_failed register.new)) }
     ensures reported { PassesOn (R.reported register.old) (R.reported register.new) result }
+    ensures before { R.is_honest register.new → OnErr result (R.is_as_before register.old register.new) }
 {
     match verdict {
         Verdict::Approve => {
@@ -153,6 +155,7 @@ fn judge_fields<R: Register>(
     ensures cause { R.is_honest register.new → (s : State) → R.keeps register.old s → s.scope.last < 2 ^ 63
         → window.moment < 2 ^ 63 → IfErr result (λ e. HasCause e (R.has_failed register.new)) }
     ensures reported { PassesOn (R.reported register.old) (R.reported register.new) result }
+    ensures before { R.is_honest register.new → OnErr result (R.is_as_before register.old register.new) }
 {
     let verdict = verdict_on(alloc, register, policy, window, body, fields)?;
     let answer = answer_of(fields.serial, body, verdict);
@@ -209,6 +212,9 @@ pub fn judge<R: Register>(
     // Whatever the register keeps, a fault that it reports is the one that is returned. Apart from such a fault there
     // is only a lack of memory.
     ensures reported { PassesOn (R.reported register.old) (R.reported register.new) result }
+
+    // Nor has a call that returns a fault changed anything, whatever the register keeps.
+    ensures before { R.is_honest register.new → OnErr result (R.is_as_before register.old register.new) }
 {
     match fields_of(alloc, body) {
         Ok(fields) => {

@@ -1,7 +1,7 @@
 //! A guard's register in memory.
 
 ghost use Rattle.std.specs.Prelude.{◌≡◌, ◌==◌, ◌⊎◌, ◌++◌, ◌∷◌, [], List, IfOk, None, Some, find, option_copied};
-ghost use Rattle.std.proofs.Common.{inl, inr};
+ghost use Rattle.std.proofs.Common.{inl, inr, refl, ◌∙◌};
 ghost use Rattle.std.specs.Option.{option_map};
 ghost use Rattle.guard.specs.Retiring.{IsFirstFrom};
 ghost use Rattle.guard.specs.State.{opened};
@@ -121,7 +121,13 @@ impl Register for MemoryGuard {
 
     ghost reported = { λ g. g.reported };
 
+    ghost is_as_before = { λ old new. new.kept ≡ old.kept };
+
     ghost widens = { λ g s t h. elim h [ inl e ↦ inl e | inr e ↦ inl e ] };
+
+    ghost unasked = { λ g. refl };
+
+    ghost through = { λ a b c first next. next ∙ first };
 
     fn scope(&mut self) -> Result<Scope, RegisterFault> {
         Ok(self.scope)

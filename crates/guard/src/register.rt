@@ -11,7 +11,7 @@ use crate::scope::Scope;
 use std::alloc::Global;
 use text::Text;
 
-/// Why a register didn't answer. What it keeps is unchanged.
+/// Why a register didn't answer. Whatever it keeps is unchanged.
 #[derive(Clone, Copy, Debug, PartialEq, Eq)]
 pub enum RegisterFault {
     /// The database failed, or is shut, or has no room for a row.
@@ -27,7 +27,8 @@ pub enum RegisterFault {
 /// Each call's clauses apply only if the register is still honest after the call: its disk has been faithful so far.
 /// A register that keeps a state reports no damage, and `Device` only if its database has failed. After a call
 /// that succeeded, a crash leaves what is kept; a crash during a call leaves what was kept, or what the call leads to.
-/// What is said of the fault that was reported last holds for any register, also for one that keeps no state.
+/// What is said of the fault that was reported last holds for any register, also for one that keeps no state. So does
+/// that a call that reads, and one that fails, leaves the register as it was before.
 pub trait Register {
     /// So far every answer of the disk was correct.
     ghost is_honest: { Self → Type 0 };
@@ -44,6 +45,9 @@ pub trait Register {
     /// The fault that a call has reported last.
     ghost reported: { Self → LastFault };
 
+    /// The register is as it was before, whatever it keeps. A failed disk may have shut it meanwhile.
+    ghost is_as_before: { Self → Self → Type 0 };
+
     /// The CA and the serials that the guard answers for.
     fn scope(&mut self) -> Result<Scope, RegisterFault>
         ensures honest { is_honest self.new → is_honest self.old }
@@ -53,7 +57,8 @@ pub trait Register {
             → leaves self.new s s }
         ensures cause { is_honest self.new → (s : State) → keeps self.old s
             → IfErr result (λ e. HasCause e (has_failed self.new)) }
-        ensures reported { reported self.new ≡ reported_by (reported self.old) result };
+        ensures reported { reported self.new ≡ reported_by (reported self.old) result }
+        ensures before { is_honest self.new → is_as_before self.old self.new };
 
     /// The body that was approved under a serial.
     fn body_of(&mut self, alloc: Global, serial: u64) -> Result<Option<Text>, RegisterFault>
@@ -64,7 +69,8 @@ pub trait Register {
             → leaves self.new s s }
         ensures cause { is_honest self.new → (s : State) → keeps self.old s
             → IfErr result (λ e. HasCause e (has_failed self.new)) }
-        ensures reported { reported self.new ≡ reported_by (reported self.old) result };
+        ensures reported { reported self.new ≡ reported_by (reported self.old) result }
+        ensures before { is_honest self.new → is_as_before self.old self.new };
 
     /// The row with the lowest serial that is at least this one.
     fn row_from(&mut self, alloc: Global, serial: u64) -> Result<Option<Approved>, RegisterFault>
@@ -75,7 +81,8 @@ pub trait Register {
             → leaves self.new s s }
         ensures cause { is_honest self.new → (s : State) → keeps self.old s
             → IfErr result (λ e. HasCause e (has_failed self.new)) }
-        ensures reported { reported self.new ≡ reported_by (reported self.old) result };
+        ensures reported { reported self.new ≡ reported_by (reported self.old) result }
+        ensures before { is_honest self.new → is_as_before self.old self.new };
 
     /// Keeps a body under a serial that has none. After a fault the register keeps what it kept.
     fn keep(&mut self, row: Approved) -> Result<(), RegisterFault>
@@ -89,7 +96,8 @@ pub trait Register {
             → body_of s row.serial ≡ None → leaves self.new s (with_approved s row) }
         ensures cause { is_honest self.new → (s : State) → keeps self.old s → body_of s row.serial ≡ None
             → IsKeepable row → IfErr result (λ e. HasCause e (has_failed self.new)) }
-        ensures reported { reported self.new ≡ reported_by (reported self.old) result };
+        ensures reported { reported self.new ≡ reported_by (reported self.old) result }
+        ensures before { is_honest self.new → OnErr result (is_as_before self.old self.new) };
 
     /// Makes this the last serial that may be signed, if that lowers it. After a fault the register keeps what it
     /// kept.
@@ -104,10 +112,17 @@ pub trait Register {
             → leaves self.new s (with_last s last) }
         ensures cause { is_honest self.new → (s : State) → keeps self.old s → IsLowered s last
             → IfErr result (λ e. HasCause e (has_failed self.new)) }
-        ensures reported { reported self.new ≡ reported_by (reported self.old) result };
+        ensures reported { reported self.new ≡ reported_by (reported self.old) result }
+        ensures before { is_honest self.new → OnErr result (is_as_before self.old self.new) };
 
     /// If a crash leaves `s`, then it leaves `s` or `t`.
     ghost widens: { (g : Self) (s t : State) → leaves g s s → leaves g s t };
+
+    /// Without a call, a register is as it was before.
+    ghost unasked: { (g : Self) → is_as_before g g };
+
+    /// Two calls that leave a register as it was, one after the other.
+    ghost through: { (a b c : Self) → is_as_before a b → is_as_before b c → is_as_before a c };
 }
 
 impl From<text::NoMemory> for RegisterFault {

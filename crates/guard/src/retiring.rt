@@ -1,6 +1,6 @@
 //! Lowering a guard's last serial.
 
-ghost use Rattle.std.specs.Prelude.{◌≡◌, ◌<◌, ◌^◌, IfErr, IfOk, OnOk};
+ghost use Rattle.std.specs.Prelude.{◌≡◌, ◌<◌, ◌^◌, IfErr, IfOk, OnErr, OnOk};
 ghost use Rattle.guard.specs.Judged.{HasCause};
 ghost use Rattle.guard.specs.Machine.{State};
 ghost use Rattle.guard.specs.Reported.{RetirePassesOn, reported_by};
@@ -48,6 +48,7 @@ fn is_approved_over<R: Register>(
     ensures cause { R.is_honest register.new → (s : State) → R.keeps register.old s
         → IfErr result (λ e. HasCause e (R.has_failed register.new)) }
     ensures reported { R.reported register.new ≡ reported_by (R.reported register.old) result }
+    ensures before { R.is_honest register.new → R.is_as_before register.old register.new }
 {
     if last == u64::MAX {
         return Ok(false);
@@ -91,6 +92,9 @@ pub fn retire<R: Register>(alloc: Global, register: &mut R, last: u64) -> Result
     // Whatever the register keeps, a fault that it reports is the one that is returned, and none is returned as the
     // register's that it didn't report.
     ensures reported { RetirePassesOn (R.reported register.old) (R.reported register.new) result }
+
+    // Nor has a call that returns a fault changed anything, whatever the register keeps.
+    ensures before { R.is_honest register.new → OnErr result (R.is_as_before register.old register.new) }
 {
     let scope = register.scope()?;
     if last < scope.first || scope.last < last {

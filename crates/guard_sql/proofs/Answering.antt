@@ -20,6 +20,7 @@ use Rattle.guard_sql.specs.Rows.{guard_contents}
 use Rattle.guard_sql.specs.Statements.{Found}
 use Rattle.guard_sql.specs.Told.{register_fault, told}
 use Rattle.guard_sql.specs.Transactions.{Has, Rests, Whole}
+use Rattle.guard_sql.proofs.Before.{fails_before, same_before}
 use Rattle.guard_sql.proofs.Wholes.{rests_still, still_outside}
 
 -- ---- failures
@@ -74,6 +75,7 @@ pub shows_found : {X Y : Type 0} {Such : Contents → Option X → Type 0} (Show
     → Found (FindsSuch Such) old new r → Shows Shown old new (told of r)
 shows_found Shown of so {old = old} {new = new} (Ok x) found = record {
   honest = λ clean. omega (arith, found.survives.clean);
+  before = λ clean. fails_before old new (inl (found.reads clean));
   row = λ clean s keeps.
       let rests = keeps.rows (found.reads clean).0.was_open in
       so s old.now.trees keeps.guard rests.now.kept.holds x (found.finds clean (guard_contents s) rests.now).1;
@@ -83,6 +85,7 @@ shows_found Shown of so {old = old} {new = new} (Ok x) found = record {
 }
 shows_found Shown of so {old = old} {new = new} (Err f) found = record {
   honest = λ clean. omega (arith, found.survives.clean);
+  before = λ clean. fails_before old new (found.reads clean).0;
   row = λ clean s keeps. tt;
   same = λ clean. keeps_still old new found.survives (found.reads clean).0;
   crash = λ clean s keeps. leaves_still old new found.survives clean s;
@@ -95,6 +98,7 @@ pub shows_at_once : {Y : Type 0} (Shown : State → Y → Type 0) (y : Y) (conn 
     → ((s : State) → IsGuard s → Shown s y) → Shows Shown conn conn (Ok y)
 shows_at_once Shown y conn so = record {
   honest = λ clean. clean;
+  before = λ clean. same_before conn;
   row = λ clean s keeps. so s keeps.guard;
   same = λ clean s keeps. keeps;
   crash = λ clean s keeps left. left;
@@ -132,6 +136,7 @@ module _ (May : State → Type 0) (Room : Type 0) (next : State → State) (afte
       → Leads May Room next old new (told (λ x. x) r)
   leads_whole (Ok x) whole = record {
     honest = λ clean. omega (arith, whole.survives.clean);
+    before = λ clean. tt;
     kept = λ clean s keeps may.
         let e = whole.ends clean in
         let rests : HasGuard (next s) new =
@@ -153,6 +158,7 @@ module _ (May : State → Type 0) (Room : Type 0) (next : State → State) (afte
   }
   leads_whole (Err f) whole = record {
     honest = λ clean. omega (arith, whole.survives.clean);
+    before = λ clean. whole.kept clean;
     kept = λ clean s keeps may. tt;
     fault = λ clean s keeps. record {
       guard = keeps.guard;
@@ -174,6 +180,7 @@ pub leads_nowhere : {May : State → Type 0} {Room : Type 0} {next : State → S
     → ((s : State) → IsGuard s → May s → Room → ⊥) → Leads May Room next conn conn (Err register.Device)
 leads_nowhere {next = next} conn never = record {
   honest = λ clean. clean;
+  before = λ clean. same_before conn;
   kept = λ clean s keeps may. tt;
   fault = λ clean s keeps. keeps;
   durable = λ clean s keeps may. tt;

@@ -1,4 +1,5 @@
 pub mod ApprovalTable
+pub mod Before
 pub mod CallLemmas
 pub mod Causes
 pub mod Edits

@@ -8,6 +8,7 @@ use Rattle.guard_sql.specs.Contents.{Contents}
 use Rattle.guard_sql.specs.Refusals.{RefusedFor}
 use Rattle.guard_sql.specs.Statements.{Wrote}
 use Rattle.guard_sql.specs.Transactions.{Concludes, EndsFor, Has, LeavesAnswered, Rests, Waits, Whole}
+use Rattle.guard_sql.proofs.Before.{concludes_before, fails_before}
 use Rattle.guard_sql.proofs.Causes.{cause_of, stops_for}
 use Rattle.guard_sql.proofs.Steps.{ends, left}
 use Rattle.guard_sql.proofs.TransactionParts.{written}
@@ -36,6 +37,8 @@ begun {after = after} {refused = refused} {old = old} {first = first} {last = la
       cause = λ clean was. stops_for Has (λ _ _. Unit {0}) after refused (Waits Has first) old first last new started
           part.survives (early clean) (late clean) closing.counts r q (begins (early clean)) (part.makes (late clean))
           (part.fault (late clean)) (concludes clean) (ends_for clean);
+      kept = λ clean. concludes_before old first last new r q (begins (early clean)) (part.stays (late clean))
+          (concludes clean);
       survives = left Has (λ _ _. Unit {0}) after old first last new r begins part.makes started part.survives closing;
     }
 
@@ -75,5 +78,6 @@ not_begun {after = after} {refused = refused} {old = old} {new = new} {f = f} be
   );
   outside = λ clean was. still_outside old new (begins clean) was;
   cause = λ clean was c rests. cause_of (refused c) old new f (fault clean was);
+  kept = λ clean. fails_before old new (begins clean);
   survives = survives_weaker old new (λ _. ⊥) _ (λ clean trees h. absurd h) survives;
 }

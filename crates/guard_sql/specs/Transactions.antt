@@ -145,12 +145,13 @@ Leaves {A} Before after old trees = IsTrue old.is_open × ((a : A) → Rests (Be
 -- ---- one write in a transaction of its own
 
 -- All of this for tables with contents: they hold the contents `after`, or it fails, perhaps by this refusal. No
--- transaction is open after it.
+-- transaction is open after it. Whatever the tables hold, they are as before if it fails.
 pub record Whole (after : Contents → Contents) (refused : Contents → Type 0) (old new : State)
     (r : Result (Unit {0}) Fault) : Type 0 where
   pub ends : HasCleanDisk new → Ends Has (λ _ _. Unit {0}) after old new r
   pub outside : HasCleanDisk new → old.in_transaction ≡ false → new.in_transaction ≡ false
   pub cause : HasCleanDisk new → old.in_transaction ≡ false → IfErr r (StopsFor Has refused old new)
+  pub kept : HasCleanDisk new → KeepsOnErr old new r
   pub survives : Survives old new (Leaves Has after old)
 
 -- the same for a connection

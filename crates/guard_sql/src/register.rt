@@ -1,6 +1,6 @@
 //! The tables are a register.
 
-ghost use Rattle.std.proofs.Common.{inl, inr};
+ghost use Rattle.std.proofs.Common.{inl, inr, refl, ◌∙◌};
 ghost use Rattle.std.specs.Prelude.{◌≡◌, IfErr, IfOk};
 ghost use Rattle.sqlite.specs.Held.{state};
 ghost use Rattle.sqlite.specs.State.{HasCleanDisk};
@@ -11,6 +11,7 @@ ghost use Rattle.guard.specs.Retiring.{IsRowFrom};
 ghost use Rattle.guard.specs.State.{State, body_of};
 ghost use Rattle.guard_sql.specs.Damage.{SaysApprovedUnless, SaysBodyUnless};
 ghost use Rattle.guard_sql.specs.Keeping.{HasFailed, Keeps, Leaves};
+ghost use Rattle.guard_sql.specs.Transactions.{IsAsBefore};
 
 use crate::serving::{body_of, keep, row_from, set_last};
 use crate::store::GuardStore;
@@ -30,6 +31,10 @@ impl<S: Alter> Register for GuardStore<S> {
 
     ghost reported = { λ g. g.reported };
 
+    ghost is_as_before = { λ old new. (new.scope ≡ old.scope)
+        × IsAsBefore (state S.Store old.conn) (state S.Store new.conn) };
+
+    #[tactic(auto, using(crate::proofs::Before::same_before))]
     fn scope(&mut self) -> Result<Scope, RegisterFault> {
         Ok(self.scope)
     }
@@ -49,6 +54,8 @@ impl<S: Alter> Register for GuardStore<S> {
             → (self.old.scope ≡ s.scope) × Keeps (state S.Store self.old.conn) s
             → IfErr result (λ e. HasCause e (HasFailed (state S.Store self.new.conn))) }
         ensures reported { self.new.reported ≡ reported_by self.old.reported result }
+        ensures before { HasCleanDisk (state S.Store self.new.conn) → (self.new.scope ≡ self.old.scope)
+            × IsAsBefore (state S.Store self.old.conn) (state S.Store self.new.conn) }
 
         // Whatever rows the table of bodies holds, the answer is what they say. Rows that no guard writes are reported
         // as `Damaged`.
@@ -75,6 +82,8 @@ impl<S: Alter> Register for GuardStore<S> {
             → (self.old.scope ≡ s.scope) × Keeps (state S.Store self.old.conn) s
             → IfErr result (λ e. HasCause e (HasFailed (state S.Store self.new.conn))) }
         ensures reported { self.new.reported ≡ reported_by self.old.reported result }
+        ensures before { HasCleanDisk (state S.Store self.new.conn) → (self.new.scope ≡ self.old.scope)
+            × IsAsBefore (state S.Store self.old.conn) (state S.Store self.new.conn) }
 
         // Whatever rows the table of bodies holds, the answer is what the first one from there on says. A row that no
         // guard writes is reported as `Damaged`.
@@ -102,6 +111,21 @@ impl<S: Alter> Register for GuardStore<S> {
             Err(fault) => Err(self.reports(fault)),
         }
     }
+
+    ghost unasked = { λ _. (
+      refl,
+      record { was_open = λ is. is; rest = λ _ rests. rests; same = λ _ _. refl },
+    ) };
+
+    ghost through = { λ _ _ _ first next. (
+      next.0 ∙ first.0,
+      record {
+        was_open = λ is. first.1.was_open (next.1.was_open is);
+        rest = λ is rests. next.1.rest is (first.1.rest (next.1.was_open is) rests);
+        same = λ is rests.
+            next.1.same is (first.1.rest (next.1.was_open is) rests) ∙ first.1.same (next.1.was_open is) rests;
+      },
+    ) };
 
     ghost widens = { λ g s t left trees may. elim (left trees may) [ inl is ↦ inl is | inr is ↦ inl is ] };
 }

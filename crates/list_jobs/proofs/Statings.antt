@@ -17,8 +17,7 @@ use Rattle.station_jobs.specs.declared.station_fault.StationFault.{StationFault}
 use Rattle.station_jobs.specs.declared.station_fault.StationFault.TheVariants.{Clock, NoMemory, Write}
 use Rattle.station_jobs.specs.Faults.{IsOfAnAnswer}
 use Rattle.station_jobs.specs.Reported.{IsOwn}
-use Rattle.list_jobs.specs.Stating.{IsPrinted, IsUnjudged, LeavesOne, Loses, PassesOn, States, StatesOne, Stores}
-use Rattle.list_jobs.specs.Stating.{register_fault}
+use Rattle.list_jobs.specs.Stating.{IsOfAStatement, IsPrinted, IsUnjudged, LeavesOne, PassesOn, States, register_fault}
 
 printed : (text : List ℕ) (held holds : Option (List ℕ)) (r : Result (Unit {0}) StationFault)
     → OnOk r (Appends held holds text) → OnErr r (AppendsBeginning held holds text) → IsPrinted text held holds r
@@ -37,6 +36,18 @@ passed_on : (before after : LastFault) (e : RegisterFault) → (after ≡ Some e
 passed_on before after e (inl is) = inl (e, is, refl)
 passed_on before after list.Damaged (inr is) = inr (is.0, tt)
 passed_on before after other (inr is) = absurd is.1
+
+-- a fault of the register, or of printing the answer, is one of judging a list
+of_the_register : (e : RegisterFault) → IsOfAStatement (register_fault e)
+of_the_register list.Device = tt
+of_the_register list.Damaged = tt
+of_the_register list.NoMemory = tt
+
+of_an_answer : (r : Result (Unit {0}) StationFault) → IfErr r IsOfAnAnswer → IfErr r IsOfAStatement
+of_an_answer (Ok done) only = tt
+of_an_answer (Err Write) only = tt
+of_an_answer (Err NoMemory) only = tt
+of_an_answer (Err other) only = absurd only
 
 own_answer : (e : StationFault) → IsOfAnAnswer e → IsOwn e
 own_answer Write h = tt
@@ -57,6 +68,7 @@ module _ {E F G : Type 0} (world : surroundings.Ghosts E F) (around : E) (guard 
     states = λ h s stores. inr (Clock, refl, (stores.0, λ lawful short. tt), refl);
     crash = λ h s stores. inl stores.1;
     reported = inr (refl, tt);
+    only = tt;
   }
 
   -- the register didn't answer
@@ -77,6 +89,7 @@ module _ {E F G : Type 0} (world : surroundings.Ghosts E F) (around : E) (guard 
     );
     crash = λ h s stores. crash h s stores.0 stores.1;
     reported = passed_on (guard.reported old) (guard.reported new) e reported;
+    only = of_the_register e;
   }
 
   -- the register answered, and printing had this result
@@ -103,4 +116,5 @@ module _ {E F G : Type 0} (world : surroundings.Ghosts E F) (around : E) (guard 
     });
     crash = λ h s stores. crash h s stores.0 stores.1;
     reported = unreported (guard.reported old) (guard.reported new) r reported only;
+    only = of_an_answer r only;
   }

@@ -79,6 +79,15 @@ PassesOn before after (Err e) =
     ((reported : RegisterFault) × (after ≡ Some reported) × (e ≡ register_fault reported))
     ⊎ ((after ≡ before) × IsOwn e)
 
+-- The faults of judging one list: of the clock, of the register, and of printing the answer.
+abbrev pub IsOfAStatement : StationFault → Type 0
+IsOfAStatement fault.Clock = Unit {0}
+IsOfAStatement fault.Write = Unit {0}
+IsOfAStatement fault.Device = Unit {0}
+IsOfAStatement fault.Damaged = Unit {0}
+IsOfAStatement fault.NoMemory = Unit {0}
+IsOfAStatement other = ⊥
+
 -- a list was judged over a register, and the line of the answer printed
 pub record States {E F G : Type 0} (world : surroundings.Ghosts E F) (around : E) (guard : register.Ghosts G)
     (q : Question) (held holds : Option (List ℕ)) (old new : G) (result : Result (Unit {0}) StationFault)
@@ -91,3 +100,5 @@ pub record States {E F G : Type 0} (world : surroundings.Ghosts E F) (around : E
   pub crash : guard.is_honest new → (s : State) → Stores guard old s → LeavesOne s (guard.leaves new) q
   -- whatever it keeps, a fault that it reported is the result
   pub reported : PassesOn (guard.reported old) (guard.reported new) result
+  -- a fault is of the clock, of the register, or of printing the answer
+  pub only : IfErr result IsOfAStatement

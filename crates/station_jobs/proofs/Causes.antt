@@ -1,5 +1,6 @@
 -- The faults of a step are faults of the steps that it is part of.
-use Rattle.std.proofs.Common.{◌≡◌, ℕ, refl}
+use Rattle.std.proofs.Common.{◌≡◌, ◌⊎◌, ℕ, Err, Ok, Result, inl, refl}
+use Rattle.std.specs.Prelude.{IfErr}
 use Rattle.guard.specs.declared.register.RegisterFault.{RegisterFault}
 use Rattle.guard.specs.declared.register.RegisterFault.TheVariants as register
 use Rattle.station_jobs.specs.declared.station_fault.StationFault.{StationFault}
@@ -41,6 +42,12 @@ pub question_of_an_answer : (e : StationFault) → IsOfAnAnswer e → IsOfAQuest
 question_of_an_answer Write h = tt
 question_of_an_answer NoMemory h = tt
 question_of_an_answer other h = absurd h
+
+-- a fault of printing, or what holds otherwise
+pub of_printing : (P : Type 0) (r : Result (Unit {0}) StationFault) → IfErr r IsOfAnAnswer
+    → IfErr r (λ e. IsOfAnAnswer e ⊎ P)
+of_printing P (Ok done) only = tt
+of_printing P (Err e) only = inl only
 
 pub question_of_a_register : (e : RegisterFault) → IsOfAQuestion (of_register e)
 question_of_a_register register.Device = tt

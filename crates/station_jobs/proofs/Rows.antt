@@ -1,10 +1,10 @@
 -- The rows of a register, in order of their serials.
 use Rattle.std.proofs.Common.{◌≡◌, ◌≤◌, ◌<◌, ◌^◌, ◌+◌, ◌-◌, ◌++◌, ◌∷◌, [], ℕ, List, Option, Some, None, Err}
-use Rattle.std.proofs.Common.{append_assoc, arith, length, refl, sym, ap, subst, ◌∙◌, inl, inr}
+use Rattle.std.proofs.Common.{append_assoc, arith, refl, sym, ap, subst, ◌∙◌, inl, inr}
 use Rattle.std.specs.List.{flat_map}
 use Rattle.std.specs.Io.KnownBytes.{Appends}
 use Rattle.std.proofs.KnownBytes.{Appends-nil, Appends-trans}
-use Rattle.std.proofs.lemmas.List.{append-nil, take_all}
+use Rattle.std.proofs.lemmas.List.{append-nil}
 use Rattle.std.proofs.lemmas.List.Elements.{All-contains}
 use Rattle.wire.specs.Streams.{AppendsBeginning}
 use Rattle.wire.proofs.StreamLaws.{begins_after}
@@ -61,13 +61,6 @@ all_listed s held mid holds from first (none, same) = record {
 
 -- ---- after a fault
 
-begins_whole : (held holds : Option (List ℕ)) (text : List ℕ) → Appends held holds text
-    → AppendsBeginning held holds text
-begins_whole held holds text printed = record {
-  count = length text;
-  grown = subst (λ (t : List ℕ). Appends held holds t) (sym (take_all (length text) text (omega arith))) printed;
-}
-
 follow_append : (s : State) (from mid next : ℕ) (a b : List Approved) → Follow s from a mid → Follow s mid b next
     → Follow s from (a ++ b) next
 follow_append s from mid next [] b is more = subst (λ (n : ℕ). Follow s n b next) is more
@@ -94,11 +87,6 @@ pub one_cut : (s : State) (from : ℕ) (held holds : Option (List ℕ)) (a : App
 one_cut s from held holds a first (inl same) =
     subst (λ (h : Option (List ℕ)). ListsFirst s from held h) (sym same) (none_listed s from held)
 one_cut s from held holds a first (inr cut) = begun s from held holds a first cut.0 cut.1
-
-pub one_whole : (s : State) (from : ℕ) (held holds : Option (List ℕ)) (a : Approved) → IsRowFrom s from (Some a)
-    → IsWhole a → Appends held holds (row_line a) → ListsFirst s from held holds
-one_whole s from held holds a first whole printed =
-    begun s from held holds a first whole (begins_whole held holds (row_line a) printed)
 
 pub cut_after : (s : State) (held mid holds : Option (List ℕ)) (from : ℕ) → Listed s held mid from
     → ListsFirst s from mid holds → ListsFirst s 0 held holds

@@ -1,6 +1,6 @@
 //! Printing approved unsigned certificates (bodies).
 
-ghost use Rattle.std.specs.Prelude.{◌≡◌, ◌++◌, ◌∷◌, [], decimal, IfErr, IfOk, OnErr, OnOk};
+ghost use Rattle.std.specs.Prelude.{◌≡◌, ◌≢◌, ◌++◌, ◌∷◌, [], decimal, IfErr, IfOk, OnErr, OnOk};
 ghost use Rattle.std.specs.Io.KnownBytes.{Appends};
 ghost use Rattle.guard.specs.Machine.{State};
 ghost use Rattle.station_jobs.specs.Bodies.{AreReadable, CutsRow, IsWhole, ListsFirst, ListsRows, PrintsBody};
@@ -68,6 +68,7 @@ fn print_row<W: Write>(alloc: Global, row: &Approved, out: &mut W) -> Result<(),
     ensures whole { OnOk result (IsWhole row.now) }
     ensures err { OnErr result (CutsRow row.now (W.contents out.old) (W.contents out.new)) }
     ensures only { IfErr result (IsOfARow (IsWhole row.now)) }
+    ensures silent { IfErr result (λ e. e ≢ StationFault.Write → W.contents out.new ≡ W.contents out.old) }
 {
     let line = line_of(alloc, row)?;
     print(out, line.as_slice())
@@ -92,17 +93,26 @@ fn print_from<G: Register, W: Write>(
         → IfErr result (HasCause (G.has_failed register.new)) }
     ensures only { IfErr result IsOfRows }
     ensures reported { PassesOn (G.reported register.old) (G.reported register.new) result }
+
+    // Whatever the register keeps, it is as it was before.
+    ensures before { G.is_honest register.new → G.is_as_before register.old register.new }
+
+    // Nor is anything printed beside a fault other than that of the output.
+    ensures silent { IfErr result (λ e. e ≢ StationFault.Write → W.contents out.new ≡ W.contents out.old) }
 {
     match register.row_from(alloc, from) {
-        Ok(Some(row)) => {
+        Ok(Some(row)) if row.serial < u64::MAX => {
             let printed = print_row(alloc, &row, out);
             let serial = row.serial;
             drop(row);
             match printed {
-                Ok(()) if serial < u64::MAX => Ok(Some(serial + 1)),
-                Ok(()) => Err(StationFault::Damaged),
+                Ok(()) => Ok(Some(serial + 1)),
                 Err(fault) => Err(fault),
             }
+        }
+        Ok(Some(row)) => {
+            drop(row);
+            Err(StationFault::Damaged)
         }
         Ok(None) => Ok(None),
         Err(fault) => Err(StationFault::from(fault)),
@@ -128,6 +138,9 @@ pub fn print_bodies<G: Register, W: Write>(
 
     // Whatever the register keeps, a fault that it reports is the one that is returned.
     ensures reported { PassesOn (G.reported register.old) (G.reported register.new) result }
+
+    // It is as it was before.
+    ensures before { G.is_honest register.new → G.is_as_before register.old register.new }
 {
     let mut from = 0;
     for _row in 0..u64::MAX {
@@ -156,6 +169,12 @@ pub fn print_body<G: Register, W: Write>(
 
     // Whatever the register keeps, a fault that it reports is the one that is returned.
     ensures reported { PassesOn (G.reported register.old) (G.reported register.new) result }
+
+    // It is as it was before.
+    ensures before { G.is_honest register.new → G.is_as_before register.old register.new }
+
+    // Nor is anything printed beside a fault other than that of the output.
+    ensures silent { IfErr result (λ e. e ≢ StationFault.Write → W.contents out.new ≡ W.contents out.old) }
 {
     match register.body_of(alloc, serial) {
         Ok(Some(body)) => print(out, body.as_slice()),

@@ -1,7 +1,7 @@
 //! Judging unsigned certificates (bodies) in order, and printing the line of each answer.
 
-ghost use Rattle.std.specs.Prelude.{◌≡◌, ◌<◌, ◌≤◌, ◌^◌, ◌∷◌, [], take, map, string_bytes, IfErr, IfOk, IfSome, OnErr};
-ghost use Rattle.std.specs.Prelude.{OnOk};
+ghost use Rattle.std.specs.Prelude.{◌≡◌, ◌≢◌, ◌<◌, ◌≤◌, ◌^◌, ◌∷◌, ◌⊎◌, [], take, map, string_bytes, IfErr, IfOk};
+ghost use Rattle.std.specs.Prelude.{IfSome, OnErr, OnOk};
 ghost use Rattle.std.specs.Io.KnownBytes.{Appends};
 ghost use Rattle.wire.specs.Streams.{AppendsBeginning};
 ghost use Rattle.guard.specs.AnswerLines.{answer_line};
@@ -26,6 +26,7 @@ fn print_answer<W: Write>(alloc: Global, answer: Answer, out: &mut W) -> Result<
     ensures ok { OnOk result (Appends (W.contents out.old) (W.contents out.new) (answer_line answer)) }
     ensures err { OnErr result (AppendsBeginning (W.contents out.old) (W.contents out.new) (answer_line answer)) }
     ensures only { IfErr result IsOfAnAnswer }
+    ensures silent { IfErr result (λ e. e ≢ StationFault.Write → W.contents out.new ≡ W.contents out.old) }
 {
     let mut line = Vec::new(alloc);
     put_answer(&mut line, answer)?;
@@ -50,6 +51,13 @@ fn answer_body<G: Register, W: Write>(
         (question policy.now window body.now) (W.contents out.old) (W.contents out.new) result }
     ensures only { IfErr result IsOfAQuestion }
     ensures reported { PassesOn (G.reported register.old) (G.reported register.new) result }
+
+    // Whatever the register keeps, only a fault of printing comes after a change of it.
+    ensures before { G.is_honest register.new
+        → IfErr result (λ e. IsOfAnAnswer e ⊎ G.is_as_before register.old register.new) }
+
+    // Nor is anything printed beside a fault other than that of the output.
+    ensures silent { IfErr result (λ e. e ≢ StationFault.Write → W.contents out.new ≡ W.contents out.old) }
 {
     match judge(alloc, register, policy, window, body) {
         Ok(answer) => print_answer(alloc, answer, out),
@@ -95,6 +103,8 @@ pub fn judge_file<F: Read + Drop, P: Surroundings<File = F>, G: Register, W: Wri
         (W.contents out.new) result }
     ensures only { IfErr result IsOfBodies }
     ensures reported { PassesOn (G.reported register.old) (G.reported register.new) result }
+    ensures before { G.is_honest register.new
+        → IfErr result (λ e. IsOfAnAnswer e ⊎ G.is_as_before register.old register.new) }
 {
     match weighed(alloc, around, path) {
         Ok((body, moment)) => {

@@ -2,7 +2,7 @@
 //!
 //! A guard is opened once, or not at all if a file can't be read. It is closed afterwards.
 
-ghost use Rattle.std.specs.Prelude.{◌≡◌, Err, IfErr, IfOk, IsTrue, Ok, false, map, string_bytes};
+ghost use Rattle.std.specs.Prelude.{◌≡◌, Err, IfErr, IfOk, IsTrue, Ok, OnErr, false, map, string_bytes};
 ghost use Rattle.office.specs.Openings.{are_serials};
 ghost use Rattle.guard.specs.Machine.{State};
 ghost use Rattle.guard.specs.Policies.{policy_at};
@@ -266,6 +266,7 @@ fn retire_over<G: Register>(alloc: Global, register: &mut G, last: u64) -> Resul
     ensures retires { G.is_honest register.new → (s : State) → G.keeps register.old s
         → Retires last s (Leaves G.Register (OfRetiring last) register.old register.new s) result }
     ensures reported { PassesOn (G.reported register.old) (G.reported register.new) result }
+    ensures before { G.is_honest register.new → OnErr result (G.is_as_before register.old register.new) }
 {
     match register.scope() {
         Ok(scope) => match retire(alloc, register, last) {

@@ -12,6 +12,7 @@ loop-row-init g c = record {
   listed = λ h s kept. starts s (g.W.Write.contents c.args.out.now);
   counted = λ h s kept are. (omega arith, omega arith);
   reported = refl;
+  before = λ h. g.met.G.Register.unasked c.args.register.now;
 }
 
 pub loop-row-preserved : goal.loop-row-preserved
@@ -36,6 +37,9 @@ loop-row-preserved g c =
           (subst (PrintsFrom s c.loop-row.from (g.W.Write.contents c.loop-row.out) (g.W.Write.contents c.print_from.new.out))
           c.in-Ok-Some.field-0-is (c.in-Ok-Some.ensures.prints h s (inv.stays before s kept).kept));
       reported = c.in-Ok-Some.ensures.reported ∙ inv.reported;
+      before = λ h.
+          g.met.G.Register.through c.args.register.now c.loop-row.register c.print_from.new.register
+          (inv.before (c.print_from.ensures.honest h)) (c.print_from.ensures.before h);
     }
 
 pub returns-in-Err-clause-lists : goal.returns-in-Err-clause-lists

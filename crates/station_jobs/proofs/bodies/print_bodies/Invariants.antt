@@ -16,4 +16,5 @@ invariant-loop-row g l = record {
   counted : g.G.Register.is_honest l.register → (s : State) → g.G.Register.keeps l.fn.register s → AreReadable s
       → (l._row ≤ l.from) × (l.from ≤ 2 ^ 63);
   reported : g.G.Register.reported l.register ≡ g.G.Register.reported l.fn.register;
+  before : g.G.Register.is_honest l.register → g.G.Register.is_as_before l.fn.register l.register;
 }

@@ -1,5 +1,7 @@
+use Rattle.std.proofs.Common.{inr}
 use Rattle.guard.specs.Decided.{question}
 use Rattle.guard.specs.Machine.{Question}
+use Rattle.station_jobs.proofs.Causes.{of_printing}
 use Rattle.station_jobs.proofs.Leavings.{answered, unanswered}
 use Rattle.station_jobs.proofs.Reported.{reported_of_a_question, unreported_answer}
 use Rattle.station_jobs.proofs.judging.answer_body.Goals as goal
@@ -30,3 +32,11 @@ pub returns-in-Err-clause-reported : goal.returns-in-Err-clause-reported
 returns-in-Err-clause-reported g c =
     rw c.from.ensures (reported_of_a_question (g.G.Register.reported c.args.register.now)
     (g.G.Register.reported c.judge.new.register) c.in-Err.fault c.in-Err.ensures.reported)
+
+pub returns-in-Ok-clause-before : goal.returns-in-Ok-clause-before
+returns-in-Ok-clause-before g c h =
+    of_printing (g.G.Register.is_as_before c.args.register.now c.judge.new.register) c.print_answer.result
+    c.print_answer.ensures.only
+
+pub returns-in-Err-clause-before : goal.returns-in-Err-clause-before
+returns-in-Err-clause-before g c h = inr (c.in-Err.ensures.before h)

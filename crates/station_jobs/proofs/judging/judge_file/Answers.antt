@@ -24,3 +24,6 @@ returns-in-Ok-clause-judges g c h s kept =
 
 pub returns-in-Err-clause-reported : goal.returns-in-Err-clause-reported
 returns-in-Err-clause-reported g c = inr (refl, own_body c.in-Err.fault c.in-Err.ensures.only)
+
+pub returns-in-Err-clause-before : goal.returns-in-Err-clause-before
+returns-in-Err-clause-before g c h = inr (g.met.G.Register.unasked c.args.register.now)
