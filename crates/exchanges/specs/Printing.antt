@@ -39,6 +39,6 @@ pub record Prints (before after keeps : Opening → List Arrival → Type 0) (ex
   pub faults : has_fault given ≡ fault
   pub forms : HaveForms exchanges given
 
--- A register gave each of the exchanges a response or a fault, whatever was printed.
+-- A register that meant a history gave each of the exchanges a response or a fault, whatever was printed.
 abbrev pub AreRun : (before after keeps : Opening → List Arrival → Type 0) → List Exchange → Type 0
 AreRun before after keeps exchanges = (given : List Given) × Serves before after keeps exchanges given

@@ -78,7 +78,7 @@ pub fn apply_exchanges<R: Registry, W: Write>(
         → Prints (R.means registry.old) (R.means registry.new)
         (Keeps R.means R.is_open registry.new) exchanges.now (W.contents out.old) (W.contents out.new) true }
 
-    // All exchanges were run, whatever was printed.
+    // If the register meant a history, all exchanges were run, whatever was printed.
     ensures write { R.is_honest registry.new → result ≡ Err RunFault.Write → AreRun (R.means registry.old)
         (R.means registry.new) (Keeps R.means R.is_open registry.new) exchanges.now }
 

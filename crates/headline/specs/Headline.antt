@@ -132,7 +132,7 @@ pub record OfficePrints (old new : State) (exchanges : List Exchange) (held hold
   pub prints : Prints (Tells old) (Tells new) (Stores new) exchanges held holds fault
   pub lists : (o : Opening) (l : List Arrival) → Tells old o l → AreExactLists o l exchanges prints.given
 
--- The exchanges were run as specified, whatever was printed.
+-- If the tables represented a history, the exchanges were run as specified, whatever was printed.
 abbrev pub OfficeRuns : (old new : State) → List Exchange → Type 0
 OfficeRuns old new exchanges = AreRun (Tells old) (Tells new) (Stores new) exchanges
 
@@ -147,7 +147,7 @@ abbrev pub PrintsWithFaults : List Exchange → (held holds : Option (List ℕ))
 PrintsWithFaults exchanges held holds old new r =
     r ≡ Err run.Fault → OfficePrints old new exchanges held holds true
 
--- if the output fails, all exchanges were run
+-- if the output fails and the tables represented a history, all exchanges were run
 abbrev pub RunsUnprinted : List Exchange → (old new : State) → Result (Unit {0}) RunFault → Type 0
 RunsUnprinted exchanges old new r = r ≡ Err run.Write → OfficeRuns old new exchanges
 

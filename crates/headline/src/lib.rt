@@ -65,8 +65,8 @@ pub fn replay<S: Alter, W: Write>(
     ensures fault { On S.Store (PrintsWithFaults exchanges.now (W.contents out.old) (W.contents out.new))
         store.old.conn store.new.conn result }
 
-    // If the output fails, all exchanges were still run, whatever was printed. If memory was refused, none was run, and
-    // nothing is printed.
+    // If the output fails and the tables represented a history, all exchanges were still run, whatever was printed. If
+    // memory was refused, none was run, and nothing is printed.
     ensures write { On S.Store (RunsUnprinted exchanges.now) store.old.conn store.new.conn result }
     ensures unrun { result ≡ Err RunFault.NoMemory → store.new ≡ store.old }
     ensures unprinted { result ≡ Err RunFault.NoMemory → out.new ≡ out.old }
@@ -118,14 +118,14 @@ pub fn respond<S: Alter>(
     // mean.
     ensures reads { AsksNoChange request.now → Between S.Store IsAsBeforeWhereOpen store.old.conn store.new.conn }
 
-    // If the tables represent a history, the fault is `NoMemory` or `Device`. `Device` is returned only if the database
-    // failed, or refused a specified row.
+    // If the tables represent a history, the fault is `NoMemory` or `Device`, and `Device` is returned only if the
+    // database failed, or refused a specified row.
     ensures only { On S.Store FailsAsRegister store.old.conn store.new.conn result }
     ensures cause { HasCleanDisk (state S.Store store.new.conn) → IfErr result (λ e. HasRegisterCause e (OfficeStops
         (λ s. state S.Store s.conn) request.now moment nonce.now store.old store.new)) }
 
-    // For a GET, except that of the pending certificates, it is returned only if the disk failed during the call, or
-    // had shut the connection before.
+    // For a GET, except that of the pending certificates, over tables that represent a history it is returned only if
+    // the disk failed during the call, or had shut the connection before.
     ensures plain { AsksPlainGet request.now → HasCleanDisk (state S.Store store.new.conn) → IfErr result
         (λ e. HasRegisterCause e (RegisterHasFailed (state S.Store store.old.conn) (state S.Store store.new.conn))) }
 

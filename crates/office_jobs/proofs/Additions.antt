@@ -113,7 +113,7 @@ module _ (old new : State) (was : IsTrue old.is_open) where
   pub done : (job : OfficeJob) (held holds : Option (List ℕ)) (r : Result Unit JobFault)
       → DoesOfficeJob job old new held holds r → AddsArrivals old new
   done (job.Init opening) held holds r h = made opening.now r h.0
-  done (job.Apply exchanges) held holds r h = applied exchanges.now held holds r h
+  done (job.Apply exchanges) held holds r h = applied exchanges.now held holds r h.applies
   done job.Krl held holds r h = listed held holds r h
   done job.Signers held holds r h = reported report.Signers held holds r h.came
   done job.Table held holds r h = reported report.Table held holds r h.came

@@ -359,7 +359,7 @@ module _ (old new : State) where
     does_asked (job.Init opening) held holds r lawful refuses h =
         (founding_asked opening.now, refl, founded clean was settled opening.now lawful r h.0)
     does_asked (job.Apply exchanges) held holds r lawful refuses h =
-        applied exchanges.now held holds r (refuses (λ making. making)) h
+        applied exchanges.now held holds r (refuses (λ making. making)) h.applies
     does_asked job.Krl held holds r lawful refuses h = listed held holds r (refuses (λ making. making)) h
     does_asked job.Signers held holds r lawful refuses h =
         signers_shown held holds r (refuses (λ making. making)) h.came

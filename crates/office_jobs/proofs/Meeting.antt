@@ -4,10 +4,12 @@ use Rattle.office_jobs.proofs.Words.{JobFault, KeepsTelling, List, MeetsOver, No
 use Rattle.office_jobs.proofs.Words.{Some, State, StoreFault, Tells, [], heard_of, of_store, refl, subst, sym, ℕ, ◌≡◌}
 use Rattle.office_jobs.proofs.Words.{◌≤◌}
 use Rattle.std.proofs.Common.{arith, map, suc, zero}
+use Rattle.std.specs.Prelude.{All}
 use Rattle.office.specs.declared.registry.Registry.{Ghosts}
 use Rattle.office.specs.declared.store_fault.StoreFault.TheVariants as store
 use Rattle.web.specs.Runs.{Serves as AllServed}
-use Rattle.server.specs.Connections.{AreServed, Extends, ServesConnections, Visit, exchange_of, given_of, visit_lines}
+use Rattle.server.specs.Connections.{AreRead, AreServed, Extends, HasNoMessage, ServesConnections, Visit, exchange_of}
+use Rattle.server.specs.Connections.{given_of, visit_lines}
 use Rattle.server.specs.Names.{listening_line, no_memory_line}
 use Rattle.office_jobs.proofs.Carried.{before_again}
 use Rattle.office_jobs.specs.declared.job_fault.JobFault.TheVariants as fault
@@ -18,27 +20,30 @@ pub met_over : {S : Type 0} (n : ℕ) (book book' : Option Book) (nonces nonces'
     (old new : State)
     → ((visits : List Visit) → AreServed r a b visits → HasCleanDisk new → AllServed (Tells old) (Tells new)
     (λ o l. Tells new o l × IsTrue new.is_open) (map exchange_of visits) (map given_of visits))
+    → ((visits : List Visit) → AreRead r a b visits → HasCleanDisk new → All HasNoMessage visits → IsAsBefore old new)
     → (x : ServesConnections n book book' nonces nonces' r a b)
     → MeetsOver n book book' nonces nonces' (visit_lines 1 x.visits) old new
-met_over n book book' nonces nonces' r a b old new carry x = record {
+met_over n book book' nonces nonces' r a b old new carry reads x = record {
   visits = x.visits;
   all = x.all;
   told = x.told;
   drawn = x.drawn;
   lines = refl;
   served = carry x.visits x.served;
+  reads = reads x.visits x.reads;
 }
 
 met_from : (n : ℕ) (book book' : Option Book) (nonces nonces' : Option (List ℕ)) (said : List ℕ) (old mid new : State)
-    → (HasCleanDisk new → KeepsTelling old mid)
+    → (HasCleanDisk new → IsAsBefore old mid) → (HasCleanDisk new → KeepsTelling old mid)
     → MeetsOver n book book' nonces nonces' said mid new → MeetsOver n book book' nonces nonces' said old new
-met_from n book book' nonces nonces' said old mid new tells x = record {
+met_from n book book' nonces nonces' said old mid new before tells x = record {
   visits = x.visits;
   all = x.all;
   told = x.told;
   drawn = x.drawn;
   lines = x.lines;
   served = λ clean o l m. x.served clean o l (tells clean o l m);
+  reads = λ clean none. before_again old mid new (before clean) (x.reads clean none);
 }
 
 -- if nothing was done, nothing has changed
@@ -94,7 +99,7 @@ served_from n source heard said old mid new held holds (Ok status) before tells 
   h.2,
   h.3,
   record {
-    met = λ done. let m = h.4.met done in (m.0, m.1, met_from n _ _ source _ said old mid new tells m.2);
+    met = λ done. let m = h.4.met done in (m.0, m.1, met_from n _ _ source _ said old mid new before tells m.2);
     unmet = λ failed clean. (
       before_again old mid new (before clean) (h.4.unmet failed clean).0,
       λ o l m. (h.4.unmet failed clean).1 o l (tells clean o l m),

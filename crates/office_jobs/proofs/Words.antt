@@ -35,7 +35,7 @@ pub use Rattle.store_sql.specs.Schema.{whole}
 pub use Rattle.values.specs.declared.limits.TheConstants.{LAST_SERIAL}
 pub use Rattle.web.specs.declared.exchange.Exchange.{Exchange}
 pub use Rattle.web.specs.declared.exchange.Given.{Given}
-pub use Rattle.office_jobs.specs.Applying.{Applies}
+pub use Rattle.office_jobs.specs.Applying.{Applies, AppliesAll}
 pub use Rattle.office_jobs.specs.Asked.{AsksExchanges, AsksOffice, AsksServing}
 pub use Rattle.office_jobs.specs.Faults.{IsOfATrial, IsOfExchanges, of_store, run_result}
 pub use Rattle.office_jobs.specs.Finding.{OpensFor, OpensThere}

@@ -3,6 +3,7 @@ use Rattle.std.specs.Prelude.{◌≡◌, ℕ, List, Option, Result, Ok, Err, tru
 use Rattle.sqlite.specs.State.{State}
 use Rattle.office.specs.declared.store_fault.StoreFault.TheVariants as store
 use Rattle.web.specs.declared.exchange.Exchange.{Exchange}
+use Rattle.web.specs.Runs.{AskNoChange}
 use Rattle.store.specs.Transactions.{IsAsBefore}
 use Rattle.headline.specs.Headline.{OfficePrints, OfficeRuns}
 use Rattle.office_jobs.specs.declared.job_fault.JobFault.{JobFault}
@@ -10,8 +11,8 @@ use Rattle.office_jobs.specs.declared.job_fault.JobFault.TheVariants.{Fault, NoM
 use Rattle.office_jobs.specs.Opening.{IsUnprinted, IsUnopened}
 
 -- The outcome. Each exchange gets its specified response, or some get a fault, and this is printed: one for each, and
--- each response of the form that its request asks for, whatever the tables mean. Or the output failed, and all were run.
--- Or nothing was run or printed: memory was refused, or the office wasn't opened.
+-- each response of the form that its request asks for, whatever the tables mean. Or the output failed, and all were run
+-- if the tables represented a history. Or nothing was run or printed: memory was refused, or the office wasn't opened.
 abbrev pub Applies : List Exchange → (old new : State) → (held holds : Option (List ℕ)) → Result (Unit {0}) JobFault
     → Type 0
 Applies exchanges old new held holds (Ok done) = OfficePrints old new exchanges held holds false
@@ -20,3 +21,9 @@ Applies exchanges old new held holds (Err Write) = OfficeRuns old new exchanges
 Applies exchanges old new held holds (Err NoMemory) = IsAsBefore old new × IsUnprinted old new held holds store.NoMemory
 Applies exchanges old new held holds (Err (Store e)) = IsUnopened old new e × (holds ≡ held)
 Applies exchanges old new held holds (Err other) = ⊥
+
+-- The same, and if no exchange is a message, the database is unchanged, whatever its tables mean.
+pub record AppliesAll (exchanges : List Exchange) (old new : State) (held holds : Option (List ℕ))
+    (result : Result (Unit {0}) JobFault) : Type 0 where
+  pub applies : Applies exchanges old new held holds result
+  pub reads : AskNoChange exchanges → IsAsBefore old new

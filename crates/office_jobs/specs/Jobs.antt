@@ -14,7 +14,7 @@ use Rattle.office_jobs.specs.declared.job_fault.JobFault.TheVariants.{Store}
 use Rattle.office_jobs.specs.declared.job.OfficeJob.{OfficeJob}
 use Rattle.office_jobs.specs.declared.job.OfficeJob.TheVariants.{Init, Apply, Krl, Signers, Table, Migrate}
 use Rattle.office_jobs.specs.declared.reporting.Report.TheVariants as report
-use Rattle.office_jobs.specs.Applying.{Applies}
+use Rattle.office_jobs.specs.Applying.{AppliesAll}
 use Rattle.office_jobs.specs.Listing.{PrintsKrl}
 use Rattle.office_jobs.specs.Making.{MakesOffice, MigratesOffice, ready_text}
 use Rattle.office_jobs.specs.Opening.{HeedsRows}
@@ -63,7 +63,7 @@ Wants g other conn last r = WantsOffice g conn last r
 abbrev pub DoesOfficeJob : OfficeJob → (old new : State) → (held holds : Option (List ℕ)) → Result (Unit {0}) JobFault
     → Type 0
 DoesOfficeJob (Init opening) old new held holds r = MakesOffice opening.now old new r × (holds ≡ held)
-DoesOfficeJob (Apply exchanges) old new held holds r = Applies exchanges.now old new held holds r
+DoesOfficeJob (Apply exchanges) old new held holds r = AppliesAll exchanges.now old new held holds r
 DoesOfficeJob Krl old new held holds r = PrintsKrl old new held holds r
 DoesOfficeJob Signers old new held holds r = Reports report.Signers old new held holds r
 DoesOfficeJob Table old new held holds r = Reports report.Table old new held holds r

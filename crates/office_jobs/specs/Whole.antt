@@ -26,7 +26,7 @@ use Rattle.server.specs.Books.{Book}
 use Rattle.office_jobs.specs.declared.world.World.{Ghosts}
 use Rattle.office_jobs.specs.declared.job_fault.JobFault.{JobFault}
 use Rattle.office_jobs.specs.declared.job_fault.JobFault.TheVariants.{BadExchange, Write}
-use Rattle.office_jobs.specs.Applying.{Applies}
+use Rattle.office_jobs.specs.Applying.{AppliesAll}
 use Rattle.office_jobs.specs.Asked.{AsksExchanges, AsksServing, founding_asked}
 use Rattle.office_jobs.specs.Ending.{closed}
 use Rattle.office_jobs.specs.Faults.{IsOfAnOpening, IsOfExchanges}
@@ -197,7 +197,8 @@ module _ {W File Tables Incoming Reader Writer : Type 0} (store : store.Ghosts T
       : Type 0 where
     pub exchanges : Result (List Exchange) JobFault
     pub are_of : AreOf file exchanges
-    pub applied : Follows (λ es. DoesIn (OpensThere world db) (WantsOffice store) (Applies es) (AsksExchanges es) [] held holds)
+    pub applied : Follows (λ es. DoesIn (OpensThere world db) (WantsOffice store) (AppliesAll es) (AsksExchanges es) []
+        held holds)
         ((w' ≡ w) × (holds ≡ held)) exchanges result
 
   -- The office with the key of the file was made, and this is reported. Or there is no initial configuration, and then

@@ -8,7 +8,9 @@ ghost use Rattle.office_jobs.specs.Trial.{AppliesToTrial};
 ghost use Rattle.office_jobs.specs.Opening.{HeedsRows};
 ghost use Rattle.std.specs.List.{list_any};
 ghost use Rattle.store_sql.specs.Look.{is_office_table};
-ghost use Rattle.store_sql.specs.Honest.{IsOutside, IsUnlimited, On, StaysClean, tables_of};
+ghost use Rattle.store_sql.specs.Honest.{Between, IsOutside, IsUnlimited, On, StaysClean, tables_of};
+ghost use Rattle.store.specs.Transactions.{IsAsBefore};
+ghost use Rattle.web.specs.Runs.{AskNoChange};
 
 use crate::file_reader::read_exchanges_from;
 use crate::job_fault::JobFault;
@@ -44,6 +46,9 @@ pub fn apply_over<S: Alter, W: Write>(
     ensures applies { On S.Store (λ old new. Applies exchanges.now old new (W.contents out.old) (W.contents out.new))
         conn result.1 result.0 }
     ensures honest { StaysClean S.Store conn result.1 }
+
+    // If no exchange is a message, the database is unchanged, whatever its tables mean.
+    ensures reads { AskNoChange exchanges.now → Between S.Store IsAsBefore conn result.1 }
 
     // A database without an office's table is refused and left unchanged.
     ensures none { list_any is_office_table (tables_of S.Store conn) ≡ false

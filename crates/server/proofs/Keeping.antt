@@ -30,8 +30,9 @@ known_at_first means below register seen rows revoked same none empty unread o l
 pub met_as : {S T : Type 0} (n : ℕ) (book book' : Option Book) (nonces nonces' : Option (List ℕ)) (r : Ghosts T)
     (q : Ghosts S) (a b : T) (c d : S) → ((o : Opening) (l : List Arrival) → q.means c o l → r.means a o l)
     → ((o : Opening) (l : List Arrival) → r.means b o l → q.means d o l) → (q.is_honest d → r.is_honest b)
-    → (r.is_open b → q.is_open d) → ServesConnections n book book' nonces nonces' r a b → ServesConnections n book book' nonces nonces' q c d
-met_as n book book' from from' r q a b c d first last honest opened x = record {
+    → (r.is_open b → q.is_open d) → (q.is_open d → r.is_open b) → (r.is_as_before a b → q.is_as_before c d)
+    → ServesConnections n book book' nonces nonces' r a b → ServesConnections n book book' nonces nonces' q c d
+met_as n book book' from from' r q a b c d first last honest opened was_open same x = record {
   visits = x.visits;
   all = x.all;
   told = x.told;
@@ -39,6 +40,7 @@ met_as n book book' from from' r q a b c d first last honest opened x = record {
   served = λ h o l m.
       let s = x.served (honest h) o l (first o l m) in
       (s.0, s.1, last o s.0 s.2, λ answered. let k = s.3 answered in (last o s.0 k.0, opened k.1));
+  reads = λ none h is. same (x.reads none (honest h) (was_open is));
 }
 
 -- the same of connections whose lines were printed
@@ -46,10 +48,12 @@ pub told_as : {S T : Type 0} (n : ℕ) (book book' : Option Book) (nonces nonces
     (q : Ghosts S) (a b : T) (c d : S) (failed failed' : ℕ) (taken taken' : Option (List ℕ))
     → ((o : Opening) (l : List Arrival) → q.means c o l → r.means a o l)
     → ((o : Opening) (l : List Arrival) → r.means b o l → q.means d o l) → (q.is_honest d → r.is_honest b)
-    → (r.is_open b → q.is_open d) → MeetsTold n book book' nonces nonces' r a b failed failed' taken taken'
+    → (r.is_open b → q.is_open d) → (q.is_open d → r.is_open b) → (r.is_as_before a b → q.is_as_before c d)
+    → MeetsTold n book book' nonces nonces' r a b failed failed' taken taken'
     → MeetsTold n book book' nonces nonces' q c d failed failed' taken taken'
 unfolding met_as
-told_as n book book' from from' r q a b c d failed failed' taken taken' first last honest opened x = record {
-  meets = met_as n book book' from from' r q a b c d first last honest opened x.meets;
-  lines = x.lines;
-}
+told_as n book book' from from' r q a b c d failed failed' taken taken' first last honest opened was_open same x =
+    record {
+      meets = met_as n book book' from from' r q a b c d first last honest opened was_open same x.meets;
+      lines = x.lines;
+    }

@@ -6,13 +6,14 @@ use Rattle.server.proofs.Words.{Visits, WhereTold, [], answered, ap, append-nil,
 use Rattle.server.proofs.Words.{given_of, inl, inr, length, length-append, map, refl, subst, sym, with_ask, ℕ, ◌++◌}
 use Rattle.server.proofs.Words.{◌+◌, ◌∙◌, ◌∷◌, ◌≡◌, ◌≤◌}
 use Rattle.std.proofs.Common.{◌⊎◌}
-use Rattle.std.specs.Prelude.{flat_map}
+use Rattle.std.specs.Prelude.{All, flat_map}
 use Rattle.std.proofs.KnownBytes.{Appends-nil, Consumes-trans}
 use Rattle.std.proofs.lemmas.List.{append_assoc}
 use Rattle.std.proofs.lemmas.List.Concat.{flat_map-append}
+use Rattle.std.proofs.lemmas.List.Elements.{All-cons, All-head, All-nil, All-tail}
 use Rattle.web.specs.Answers.{AsksTheRegister}
 use Rattle.web.specs.Runs.{HasAnswered}
-use Rattle.server.specs.Connections.{EndsWith, IfGiven}
+use Rattle.server.specs.Connections.{EndsWith, HasNoMessage, IfGiven}
 use Rattle.server.specs.Connections.{TellsAll, drawn_of}
 use Rattle.server.specs.Connections.{fault_line, visit_line, visit_lines}
 use Rattle.server.specs.Names.{connection_line}
@@ -101,15 +102,31 @@ served_more register visits visit result s0 s1 s2 ends first last back stays = �
       ),
     )
 
+-- the visits before the last have no message if all have none
+first_have_none : (visits : List Visit) (visit : Visit) → All HasNoMessage (visits ++ visit ∷ [])
+    → All HasNoMessage visits
+first_have_none [] visit none = All-nil HasNoMessage
+first_have_none (v ∷ visits) visit none = All-cons HasNoMessage v visits
+    (All-head HasNoMessage v (visits ++ visit ∷ []) none)
+    (first_have_none visits visit (All-tail HasNoMessage v (visits ++ visit ∷ []) none))
+
+-- nor has the last
+last_has_none : (visits : List Visit) (visit : Visit) → All HasNoMessage (visits ++ visit ∷ [])
+    → All HasNoMessage (visit ∷ [])
+last_has_none [] visit none = none
+last_has_none (v ∷ visits) visit none = last_has_none visits visit
+    (All-tail HasNoMessage v (visits ++ visit ∷ []) none)
+
 -- zero connections change nothing
 pub meets_none : {S : Type 0} (book : Option Book) (source : Option (List ℕ)) (register : Ghosts S) (s : S)
-    → ServesConnections 0 book book source source register s s
-meets_none book source register s = record {
+    → register.is_as_before s s → ServesConnections 0 book book source source register s s
+meets_none book source register s unasked = record {
   visits = [];
   all = refl;
   told = refl;
   drawn = Consumes-nil source;
   served = λ h o l m. (l, refl, m, λ none. absurd none);
+  reads = λ none honest is. unasked;
 }
 
 -- one more connection
@@ -117,8 +134,10 @@ pub meets_more : {S T : Type 0} (n : ℕ) (result : Result T Fault) (b0 b1 b2 : 
     (register : Ghosts S) (s0 s1 s2 : S) → ServesConnections n b0 b1 n0 n1 register s0 s1
     → Visits result b1 b2 n1 n2 register s1 s2 → (register.is_honest s2 → register.is_honest s1)
     → (register.is_honest s2 → IfGiven result (register.is_open s1 → register.is_open s2))
+    → (register.is_honest s2 → register.is_open s2 → register.is_open s1)
+    → (register.is_as_before s0 s1 → register.is_as_before s1 s2 → register.is_as_before s0 s2)
     → ServesConnections (n + 1) b0 b2 n0 n2 register s0 s2
-meets_more n result b0 b1 b2 n0 n1 n2 register s0 s1 s2 m v back stays =
+meets_more n result b0 b1 b2 n0 n1 n2 register s0 s1 s2 m v back stays was_open through =
     let all : length (m.visits ++ v.visit ∷ []) ≡ n + 1 = omega (arith, length-append m.visits (v.visit ∷ []), m.all) in
     record {
       visits = m.visits ++ v.visit ∷ [];
@@ -126,6 +145,9 @@ meets_more n result b0 b1 b2 n0 n1 n2 register s0 s1 s2 m v back stays =
       told = told_more m.visits v.visit b0 b1 b2 m.told v.told;
       drawn = drawn_more m.visits v.visit n0 n1 n2 m.drawn v.drawn;
       served = served_more register m.visits v.visit result s0 s1 s2 v.ends m.served v.served back stays;
+      reads = λ none honest is. through
+          (m.reads (first_have_none m.visits v.visit none) (back honest) (was_open honest is))
+          (v.reads (last_has_none m.visits v.visit none) honest is);
     }
 
 -- ---- what is printed
@@ -154,10 +176,11 @@ lines_more number (v ∷ visits) visit =
 
 -- zero connections print nothing
 pub told_none : {S : Type 0} (book : Option Book) (source : Option (List ℕ)) (register : Ghosts S) (s : S) (failed : ℕ)
-    (taken : Option (List ℕ)) → MeetsTold 0 book book source source register s s failed failed taken taken
+    (taken : Option (List ℕ)) → register.is_as_before s s
+    → MeetsTold 0 book book source source register s s failed failed taken taken
 unfolding meets_none
-told_none book source register s failed taken =
-    record { meets = meets_none book source register s; lines = λ same. Appends-nil taken }
+told_none book source register s failed taken unasked =
+    record { meets = meets_none book source register s unasked; lines = λ same. Appends-nil taken }
 
 -- one more connection, whose line is printed if the output doesn't fail
 pub told_one_more : {S T : Type 0} (n : ℕ) (result : Result T Fault) (b0 b1 b2 : Option Book)
@@ -165,18 +188,21 @@ pub told_one_more : {S T : Type 0} (n : ℕ) (result : Result T Fault) (b0 b1 b2
     → MeetsTold n b0 b1 n0 n1 register s0 s1 f0 f1 t0 t1
     → Visits result b1 b2 n1 n2 register s1 s2 → (register.is_honest s2 → register.is_honest s1)
     → (register.is_honest s2 → IfGiven result (register.is_open s1 → register.is_open s2))
+    → (register.is_honest s2 → register.is_open s2 → register.is_open s1)
+    → (register.is_as_before s0 s1 → register.is_as_before s1 s2 → register.is_as_before s0 s2)
     → f0 ≤ f1 → f1 ≤ f2 → (f2 ≡ f1 → Appends t1 t2 (fault_line (n + 1) result))
     → MeetsTold (n + 1) b0 b2 n0 n2 register s0 s2 f0 f2 t0 t2
 unfolding meets_more
-told_one_more n result b0 b1 b2 n0 n1 n2 register s0 s1 s2 f0 f1 f2 t0 t1 t2 m v back stays low high told = record {
-  meets = meets_more n result b0 b1 b2 n0 n1 n2 register s0 s1 s2 m.meets v back stays;
-  lines = λ same.
-      let first : f1 ≡ f0 = omega (arith, same, low, high) in
-      let last : f2 ≡ f1 = omega (arith, same, low, high) in
-      let at : n + 1 ≡ 1 + length m.meets.visits = omega (arith, m.meets.all) in
-      let line : fault_line (n + 1) result ≡ visit_line (1 + length m.meets.visits) v.visit =
-      same_line (n + 1) v.visit result v.ends ∙ ap (λ k. visit_line k v.visit) at in
-      subst (Appends t0 t2) (lines_more 1 m.meets.visits v.visit)
-      (Appends-trans t0 t1 t2 (visit_lines 1 m.meets.visits) (visit_line (1 + length m.meets.visits) v.visit)
-      (m.lines first) (subst (Appends t1 t2) line (told last)));
-}
+told_one_more n result b0 b1 b2 n0 n1 n2 register s0 s1 s2 f0 f1 f2 t0 t1 t2 m v back stays was_open through low
+    high told = record {
+      meets = meets_more n result b0 b1 b2 n0 n1 n2 register s0 s1 s2 m.meets v back stays was_open through;
+      lines = λ same.
+          let first : f1 ≡ f0 = omega (arith, same, low, high) in
+          let last : f2 ≡ f1 = omega (arith, same, low, high) in
+          let at : n + 1 ≡ 1 + length m.meets.visits = omega (arith, m.meets.all) in
+          let line : fault_line (n + 1) result ≡ visit_line (1 + length m.meets.visits) v.visit =
+          same_line (n + 1) v.visit result v.ends ∙ ap (λ k. visit_line k v.visit) at in
+          subst (Appends t0 t2) (lines_more 1 m.meets.visits v.visit)
+          (Appends-trans t0 t1 t2 (visit_lines 1 m.meets.visits) (visit_line (1 + length m.meets.visits) v.visit)
+          (m.lines first) (subst (Appends t1 t2) line (told last)));
+    }

@@ -1,6 +1,6 @@
 -- What connections do to a listener, to a nonce source and to a register.
 use Rattle.std.specs.Prelude.{◌≡◌, ◌≤◌, ◌+◌, ℕ, List, [], ◌∷◌, ◌++◌, length, take, map, flat_map}
-use Rattle.std.specs.Prelude.{All, Option, Some, Result, Ok, Err}
+use Rattle.std.specs.Prelude.{All, IfSome, Option, Some, None, Result, Ok, Err}
 use Rattle.std.specs.Io.KnownBytes.{Appends, Consumes}
 use Rattle.office.specs.declared.opening.Opening.{Opening}
 use Rattle.office.specs.declared.arrival.Arrival.{Arrival}
@@ -8,23 +8,26 @@ use Rattle.office.specs.declared.registry.Registry.{Ghosts}
 use Rattle.web.specs.declared.exchange.Exchange.{Exchange}
 use Rattle.web.specs.declared.exchange.Given.{Given}
 use Rattle.web.specs.declared.exchange.Given.TheVariants as given
-use Rattle.web.specs.Answers.{Keeps}
+use Rattle.web.specs.Answers.{AsksNoChange, Keeps}
+use Rattle.web.specs.Forms.{HasForm}
 use Rattle.web.specs.Runs.{Serves}
 use Rattle.web.specs.declared.serve_fault.ServeFault.TheVariants.{Write}
 use Rattle.web.specs.Faults.{IfServed}
 use Rattle.web.specs.Nonces.{IsDrawn}
 use Rattle.web.specs.Requests.{IsOneRequest}
+use Rattle.web.specs.Served.{LeavesRows}
 use Rattle.server.specs.declared.connection_fault.Fault.{Fault}
 use Rattle.server.specs.declared.connection_fault.Fault.TheVariants.{Socket, Clock, Serving}
 use Rattle.server.specs.Books.{Coming, Book, IsMet, WhereTold}
 use Rattle.server.specs.Names.{connection_line}
 
--- a request that was served, at a valid time and with a whole nonce, and its response
+-- a request that was served, at a valid time and with a whole nonce, and its response, of the form that it asks for
 pub record Talk : Type 0 where
   pub exchange : Exchange
   pub response : List ℕ
   pub lawful : exchange.moment ≤ 253402300799
   pub size : length exchange.nonce ≡ 32
+  pub form : HasForm exchange.request response
 
 -- A fault after which nothing was written, and the nonce bytes that were drawn before it. `Write` comes after a prefix
 -- of the response.
@@ -34,11 +37,12 @@ IsSilent Clock drawn = drawn ≡ []
 IsSilent (Serving Write) drawn = ⊥
 IsSilent (Serving fault) drawn = IsDrawn {A = Unit {0}} (Err fault) drawn
 
--- a connection on which nothing was written
+-- a connection on which nothing was written, with its request if the register may have been asked
 pub record Silence : Type 0 where
   pub fault : Fault
   pub drawn : List ℕ
   pub silent : IsSilent fault drawn
+  pub request : Option (List ℕ)
 
 -- What one connection did: it was answered, or it was cut off after a prefix of the response, or it was closed without
 -- any bytes written.
@@ -79,11 +83,18 @@ TellsFault Socket old new = (old.coming ≡ []) × (new ≡ old)
 TellsFault Clock old new = ⊥
 TellsFault (Serving fault) old new = (next : Coming) × IsMet old new next []
 
+-- the request, if there is one, is a prefix of what the next connection sends
+abbrev pub IsSentNext : (request : Option (List ℕ)) → Book → Type 0
+IsSentNext None book = Unit {0}
+IsSentNext (Some request) book =
+    (left : List ℕ) × IsOneRequest (Some left) request × (moment : ℕ) × (later : List Coming)
+    × (book.coming ≡ record { sent = request ++ left; moment = moment } ∷ later)
+
 -- the book after a visit
 abbrev pub TellsVisit : Visit → (old new : Book) → Type 0
 TellsVisit (answered talk) old new = IsHeld talk talk.response old new
 TellsVisit (cut talk) old new = (count : ℕ) × IsHeld talk (take count talk.response) old new
-TellsVisit (closed silence) old new = TellsFault silence.fault old new
+TellsVisit (closed silence) old new = TellsFault silence.fault old new × IsSentNext silence.request old
 
 -- the same for a sequence of visits
 abbrev pub TellsAll : List Visit → (old new : Option Book) → Type 0
@@ -120,6 +131,16 @@ abbrev pub AreServed : {S : Type 0} → Ghosts S → (old new : S) → List Visi
 AreServed register old new visits = register.is_honest new → Serves (register.means old) (register.means new)
     (Keeps register.means register.is_open new) (map exchange_of visits) (map given_of visits)
 
+-- the request of a visit is no message, or the register wasn't asked
+abbrev pub HasNoMessage : Visit → Type 0
+HasNoMessage (answered talk) = AsksNoChange talk.exchange.request
+HasNoMessage (cut talk) = AsksNoChange talk.exchange.request
+HasNoMessage (closed silence) = IfSome silence.request AsksNoChange
+
+-- if no visit's request is a message, the stored rows are unchanged, whatever they mean
+abbrev pub AreRead : {S : Type 0} → Ghosts S → (old new : S) → List Visit → Type 0
+AreRead register old new visits = All HasNoMessage visits → LeavesRows register old new
+
 -- ---- visits
 
 -- what one connection did, which ended with this result
@@ -130,6 +151,7 @@ pub record Visits {A S : Type 0} (result : Result A Fault) (book book' : Option 
   pub told : WhereTold (TellsVisit visit) book book'
   pub drawn : Consumes nonces nonces' (drawn_of visit)
   pub served : AreServed register old new (visit ∷ [])
+  pub reads : AreRead register old new (visit ∷ [])
 
 -- What `count` connections did, in order. The nonces that they drew, concatenated, are a prefix of the nonce source:
 -- each nonce is the next 32 bytes, none is used twice, and nothing is skipped except what was drawn before a fault.
@@ -140,6 +162,7 @@ pub record ServesConnections {S : Type 0} (count : ℕ) (book book' : Option Boo
   pub told : TellsAll visits book book'
   pub drawn : Consumes nonces nonces' (flat_map drawn_of visits)
   pub served : AreServed register old new visits
+  pub reads : AreRead register old new visits
 
 -- ---- what is printed
 

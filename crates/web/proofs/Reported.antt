@@ -1,7 +1,7 @@
 -- A report that is written batch by batch covers all certificates.
 use Rattle.web.proofs.Words.{Arrival, Bool, Certificate, Err, Global, IfOk, List, Ok, Opening, Result, State, Vec, []}
 use Rattle.web.proofs.Words.{ap, append_assoc, arith, drop, flat_map, length, line_among, line_as, map, refl, state}
-use Rattle.web.proofs.Words.{sym, table_report, take, ℕ, ◌++◌, ◌+◌, ◌∙◌, ◌∷◌, ◌≡◌, ◌≤◌}
+use Rattle.web.proofs.Words.{sym, table_report, take, ℕ, ◌++◌, ◌∙◌, ◌∷◌, ◌≡◌, ◌≤◌}
 use Rattle.std.proofs.Common.{ap₂}
 use Rattle.std.proofs.lemmas.List.{length-drop, length-map, length-take, take_all}
 use Rattle.std.proofs.lemmas.List.Concat.{flat_map-append}

@@ -1,16 +1,21 @@
 -- The input that one call takes, and its answer.
 use Rattle.std.specs.Prelude.{◌≡◌, ◌⊎◌, ℕ, List, length, Option}
 use Rattle.std.specs.Io.KnownBytes.{Consumes}
-use Rattle.office.specs.declared.opening.Opening.{Opening}
-use Rattle.office.specs.declared.arrival.Arrival.{Arrival}
-use Rattle.web.specs.Answers.{AsksNoChange, IsAnswered}
+use Rattle.office.specs.declared.registry.Registry.{Ghosts}
+use Rattle.web.specs.Answers.{AsksNoChange, IsAnswered, Keeps}
+use Rattle.web.specs.Forms.{HasForm}
 use Rattle.web.specs.Requests.{IsOneRequest}
+
+-- the stored rows are unchanged if the register is honest and open afterwards, whatever they mean
+abbrev pub LeavesRows : {S : Type 0} → Ghosts S → (old new : S) → Type 0
+LeavesRows register old new = register.is_honest new → register.is_open new → register.is_as_before old new
 
 -- Exactly one request and one nonce were taken from the bytes that the reader and the nonce source had left, and the
 -- response is the one specified for them. The register then means the history followed by the request's arrival, if it
--- has one. If the ask needed the register, it preserves that history.
-pub record Served (reader reader' nonces nonces' : Option (List ℕ)) (moment : ℕ) (honest : Type 0)
-    (before after keeps : Opening → List Arrival → Type 0) : Type 0 where
+-- has one. If the ask needed the register, it preserves that history. Whatever the register means, the response has the
+-- form that the request asks for, and a request that is no message leaves the stored rows unchanged.
+pub record Served {S : Type 0} (reader reader' nonces nonces' : Option (List ℕ)) (moment : ℕ) (register : Ghosts S)
+    (old new : S) : Type 0 where
   pub request : List ℕ
   pub nonce : List ℕ
   pub response : List ℕ
@@ -18,7 +23,10 @@ pub record Served (reader reader' nonces nonces' : Option (List ℕ)) (moment : 
   pub one : IsOneRequest reader' request
   pub nonce_taken : Consumes nonces nonces' nonce
   pub nonce_size : length nonce ≡ 32
-  pub answered : honest → IsAnswered before after keeps request moment nonce response
+  pub answered : register.is_honest new → IsAnswered (register.means old) (register.means new)
+      (Keeps register.means register.is_open new) request moment nonce response
+  pub form : HasForm request response
+  pub reads : AsksNoChange request → LeavesRows register old new
 
 -- Exactly one request and one nonce were taken in the same way, and the register was stopped in answering them.
 pub record Stopped (reader reader' nonces nonces' : Option (List ℕ)) (stops : (request nonce : List ℕ) → Type 0)

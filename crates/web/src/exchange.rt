@@ -17,6 +17,6 @@ pub struct Exchange {
 pub enum Given {
     /// The bytes of a response.
     Answer(Text),
-    /// Nothing: a fault occurred, and the office is unchanged.
+    /// Nothing: a fault occurred. A register that meant a history still means it.
     Fault,
 }

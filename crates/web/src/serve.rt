@@ -6,11 +6,10 @@ ghost use Rattle.wire.specs.Streams.{AppendsBeginning};
 ghost use Rattle.office.specs.declared.opening.Opening.{Opening};
 ghost use Rattle.office.specs.declared.arrival.Arrival.{Arrival};
 ghost use Rattle.office.specs.Registers.{FailuresPersist, MeansTheSame};
-ghost use Rattle.web.specs.Answers.{Keeps};
 ghost use Rattle.web.specs.Causes.{StopsAt};
 ghost use Rattle.web.specs.Faults.{is_read, is_write, IfServed, IfUnserved};
 ghost use Rattle.web.specs.Nonces.{Draws, HasNonceCause};
-ghost use Rattle.web.specs.Served.{KeepsIfRead, Served, Stopped};
+ghost use Rattle.web.specs.Served.{KeepsIfRead, LeavesRows, Served, Stopped};
 
 use crate::request::answer_request;
 use crate::serve_fault::ServeFault;
@@ -42,15 +41,15 @@ pub fn serve_one<R: Source, W: Sink, S: Registry, N: Source>(
     ensures stays_open { S.is_honest registry.new → IfServed result (S.is_open registry.old → S.is_open registry.new) }
 
     // One request and one nonce were taken, and the response specified for them was written. If the request needed the
-    // register, it is open and so preserves the history.
+    // register, it is open and so preserves the history. Whatever the register means, the response has the form that
+    // the request asks for.
     ensures ok { OnOk result ((x : Served (R.remaining reader.old) (R.remaining reader.new) (N.remaining nonces.old)
-        (N.remaining nonces.new) moment (S.is_honest registry.new) (S.means registry.old) (S.means registry.new)
-        (Keeps S.means S.is_open registry.new)) × Appends (W.taken writer.old) (W.taken writer.new) x.response) }
+        (N.remaining nonces.new) moment S.Registry registry.old registry.new)
+        × Appends (W.taken writer.old) (W.taken writer.new) x.response) }
 
     // The same, except that the writer failed after a prefix of the response.
     ensures write { result ≡ Err ServeFault.Write → (x : Served (R.remaining reader.old) (R.remaining reader.new)
-        (N.remaining nonces.old) (N.remaining nonces.new) moment (S.is_honest registry.new) (S.means registry.old)
-        (S.means registry.new) (Keeps S.means S.is_open registry.new))
+        (N.remaining nonces.old) (N.remaining nonces.new) moment S.Registry registry.old registry.new)
         × AppendsBeginning (W.taken writer.old) (W.taken writer.new) x.response }
 
     // After any other fault nothing was written, and the register means what it meant.
@@ -58,8 +57,8 @@ pub fn serve_one<R: Source, W: Sink, S: Registry, N: Source>(
     ensures unchanged { S.is_honest registry.new → IfUnserved result (MeansTheSame S.means registry.old registry.new) }
 
     // A request that is no message leaves the stored rows unchanged, whatever they mean.
-    ensures reads { S.is_honest registry.new → S.is_open registry.new → KeepsIfRead (R.remaining reader.old)
-        (R.remaining reader.new) (S.is_as_before registry.old registry.new) }
+    ensures reads { KeepsIfRead (R.remaining reader.old) (R.remaining reader.new)
+        (LeavesRows S.Registry registry.old registry.new) }
 
     // The bytes drawn from the nonce source are the next ones, whatever the result of the call: a nonce, or nothing if
     // no request was read, or less if the source failed or ended.

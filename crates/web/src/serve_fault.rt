@@ -6,14 +6,16 @@ ghost use Rattle.web.specs.Faults.{serving_fault};
 
 use office::StoreFault;
 
-/// Why a request wasn't served. Except for `Write`, nothing was written, and the office is unchanged.
+/// Why a request wasn't served. Except for `Write`, nothing was written, and a register that meant a history still
+/// means it.
 #[derive(Clone, Copy, Debug, PartialEq, Eq)]
 pub enum ServeFault {
     /// The reader failed.
     Read,
     /// The nonce source failed or ended.
     Nonces,
-    /// The register failed, for another reason than lack of memory, or its database refused the rows of the request.
+    /// The register failed, for another reason than lack of memory, or its database refused the rows of the request, or
+    /// a row is damaged.
     Store,
     /// An allocation was refused.
     NoMemory,

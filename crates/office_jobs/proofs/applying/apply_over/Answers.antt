@@ -1,5 +1,5 @@
-use Rattle.office_jobs.proofs.Words.{Applies, HasCleanDisk, State, ap, state, subst, sym}
-use Rattle.office_jobs.proofs.Carried.{applied, of_an_office, of_refused_rows}
+use Rattle.office_jobs.proofs.Words.{Applies, HasCleanDisk, IsAsBefore, State, ap, state, subst, sym}
+use Rattle.office_jobs.proofs.Carried.{applied, before_again, before_open, of_an_office, of_refused_rows}
 use Rattle.office_jobs.proofs.applying.apply_over.Goals as goal
 
 pub returns-in-Ok-clause-applies : goal.returns-in-Ok-clause-applies
@@ -32,3 +32,16 @@ returns-in-Ok-clause-rows g c honest rows has =
 pub returns-in-Err-clause-rows : goal.returns-in-Err-clause-rows
 returns-in-Err-clause-rows g c honest rows has =
     of_refused_rows (Unit {0}) rows _ c.in-Err.fault c.from.result c.from.ensures ((c.in-Err.ensures.unopened honest).refused rows has)
+
+pub returns-in-Ok-clause-reads : goal.returns-in-Ok-clause-reads
+returns-in-Ok-clause-reads g c none honest =
+    let back = ap (state g.S.Store) c.into_connection.ensures in
+    let clean : HasCleanDisk (state g.S.Store c.replay.new.store.conn) = subst HasCleanDisk back honest in
+    subst (λ (s : State). IsAsBefore (state g.S.Store c.args.conn) s) (sym back)
+    (before_again (state g.S.Store c.args.conn) (state g.S.Store c.in-Ok.store.conn)
+    (state g.S.Store c.replay.new.store.conn) (c.in-Ok.ensures.opened (c.replay.ensures.honest clean)).before
+    (before_open (state g.S.Store c.in-Ok.store.conn) (state g.S.Store c.replay.new.store.conn)
+    (c.replay.ensures.reads none clean)))
+
+pub returns-in-Err-clause-reads : goal.returns-in-Err-clause-reads
+returns-in-Err-clause-reads g c none honest = (c.in-Err.ensures.unopened honest).before

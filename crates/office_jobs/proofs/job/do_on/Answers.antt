@@ -1,6 +1,13 @@
-use Rattle.office_jobs.proofs.Words.{OfficeJob, ap, subst, sym}
+use Rattle.office_jobs.proofs.Words.{DoesOfficeJob, OfficeJob, ap, state, subst, sym}
 use Rattle.office_jobs.specs.Jobs.{Wants}
 use Rattle.office_jobs.proofs.job.do_on.Goals as goal
+
+pub returns-in-Apply-clause-does : goal.returns-in-Apply-clause-does
+returns-in-Apply-clause-does g c honest =
+    let run = c.apply_over-outcome in
+    subst (λ (job : OfficeJob). DoesOfficeJob job (state g.S.Store c.args.conn) (state g.S.Store run.result.1)
+    (g.W.Write.contents c.args.out) (g.W.Write.contents run.new.out) run.result.0) (sym c.in-Apply.is)
+    (record { applies = run.ensures.applies honest; reads = λ none. run.ensures.reads none honest })
 
 pub returns-in-Apply-clause-wants : goal.returns-in-Apply-clause-wants
 returns-in-Apply-clause-wants g c =

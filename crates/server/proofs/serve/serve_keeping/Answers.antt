@@ -15,7 +15,9 @@ returns-clause-met g c done =
     (sym c.into_register.ensures)
     (told_as c.args.connections _ _ _ _ _ g.S.Registry _ _ c.args.store c.serve_on-status.new.store.register _ _ _ _
     (known_at_first means c.args.store _ _ _ _ first.register first.seen first.rows first.revoked) (λ o l m. m.register_means)
-    (λ h. h) (λ is. is) (c.serve_on-status.ensures.met done))
+    (λ h. h) (λ is. is) (λ is. is)
+    (subst (λ (s : g.row.S.Denot). g.S.Registry.is_as_before s c.serve_on-status.new.store.register) first.register)
+    (c.serve_on-status.ensures.met done))
 
 pub returns-clause-served : goal.returns-clause-served
 returns-clause-served g c =

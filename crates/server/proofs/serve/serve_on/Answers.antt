@@ -7,7 +7,7 @@ pub loop-served-init : goal.loop-served-init
 loop-served-init g c = record {
   honest = λ h. h;
   was_open = λ h is. is;
-  meets = told_none _ _ g.S.Registry _ _ _;
+  meets = told_none _ _ g.S.Registry _ _ _ (g.met.S.Registry.unasked c.args.store.now);
   failed = (omega arith);
   least = (omega arith);
   most = (omega arith);
@@ -24,8 +24,8 @@ loop-served-preserved g c =
       honest = λ h. at.invariant.honest (step.ensures.failures.honest h);
       was_open = λ h is. at.invariant.was_open (step.ensures.failures.honest h) (step.ensures.failures.was_open h is);
       meets = told_one_more at.served step.result _ _ _ _ _ _ g.S.Registry _ _ _ _ _ _ _ _ _ at.invariant.meets
-          step.ensures.visit step.ensures.failures.honest step.ensures.stays_open at.invariant.least told.ensures.least
-          told.ensures.told;
+          step.ensures.visit step.ensures.failures.honest step.ensures.stays_open step.ensures.failures.was_open
+          (g.met.S.Registry.through _ _ _) at.invariant.least told.ensures.least told.ensures.told;
       failed = failed;
       least = (omega (arith, at.invariant.least, told.ensures.least));
       most = (omega (arith, at.invariant.most, told.ensures.most));

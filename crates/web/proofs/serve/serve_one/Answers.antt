@@ -19,6 +19,9 @@ returns-in-Ok-clause-ok g c =
         nonce_taken = c.in_ok-nonce.ensures.consumed;
         nonce_size = c.in_ok-nonce.ensures.size;
         answered = λ honest. c.in_ok-response.ensures.answered honest taken.bytes taken.asks;
+        form = (request_ask c.in_ok-request.request, taken.asks, c.in_ok-response.ensures.form);
+        reads = λ none honest is. c.answer_request.ensures.reads honest is
+            (is_no_message taken.bytes (request_ask c.in_ok-request.request) taken.asks none);
       },
       sent,
     )
@@ -37,6 +40,9 @@ returns-clause-write g c _ =
         nonce_taken = c.in_ok-nonce.ensures.consumed;
         nonce_size = c.in_ok-nonce.ensures.size;
         answered = λ honest. c.in_ok-response.ensures.answered honest taken.bytes taken.asks;
+        form = (request_ask c.in_ok-request.request, taken.asks, c.in_ok-response.ensures.form);
+        reads = λ none honest is. c.answer_request.ensures.reads honest is
+            (is_no_message taken.bytes (request_ask c.in_ok-request.request) taken.asks none);
       },
       sent,
     )
@@ -56,40 +62,40 @@ returns-in_err-response-clause-store g c honest store o l means =
     }
 
 pub returns-in-Ok-clause-reads : goal.returns-in-Ok-clause-reads
-returns-in-Ok-clause-reads g c honest is =
+returns-in-Ok-clause-reads g c =
     let taken = c.in_ok-request.ensures.taken in
     inr (record {
       request = taken.bytes;
       taken = taken.consumed;
       one = taken.one;
-      reads = λ none. c.answer_request.ensures.reads honest is
+      reads = λ none honest is. c.answer_request.ensures.reads honest is
           (is_no_message taken.bytes (request_ask c.in_ok-request.request) taken.asks none);
     })
 
 pub returns-clause-reads : goal.returns-clause-reads
-returns-clause-reads g c honest is =
+returns-clause-reads g c =
     let taken = c.in_ok-request.ensures.taken in
     inr (record {
       request = taken.bytes;
       taken = taken.consumed;
       one = taken.one;
-      reads = λ none. c.answer_request.ensures.reads honest is
+      reads = λ none honest is. c.answer_request.ensures.reads honest is
           (is_no_message taken.bytes (request_ask c.in_ok-request.request) taken.asks none);
     })
 
 pub returns-in_err-response-clause-reads : goal.returns-in_err-response-clause-reads
-returns-in_err-response-clause-reads g c honest is =
+returns-in_err-response-clause-reads g c =
     let taken = c.in_ok-request.ensures.taken in
     inr (record {
       request = taken.bytes;
       taken = taken.consumed;
       one = taken.one;
-      reads = λ none. c.answer_request.ensures.reads honest is
+      reads = λ none honest is. c.answer_request.ensures.reads honest is
           (is_no_message taken.bytes (request_ask c.in_ok-request.request) taken.asks none);
     })
 
 pub returns-in_err-request-clause-reads : goal.returns-in_err-request-clause-reads
-returns-in_err-request-clause-reads g c honest is = inl (g.met.S.Registry.unasked c.args.registry.now)
+returns-in_err-request-clause-reads g c = inl (λ honest is. g.met.S.Registry.unasked c.args.registry.now)
 
 pub returns-in_err-nonce-clause-reads : goal.returns-in_err-nonce-clause-reads
-returns-in_err-nonce-clause-reads g c honest is = inl (g.met.S.Registry.unasked c.args.registry.now)
+returns-in_err-nonce-clause-reads g c = inl (λ honest is. g.met.S.Registry.unasked c.args.registry.now)
