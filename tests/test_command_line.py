@@ -119,6 +119,8 @@ MISTAKES = [
     "serve --db a --port -1 --connections 1 --nonces b",
     "serve --db a --port 0 --connections 1 --nonces b c",
     "serve --db a --db a --port 0 --connections 1 --nonces b",
+    "init --db made.db --ca ca.pub --root root --station station --first 1",
+    "table --db kept.db kept.db",
 ]
 
 
@@ -132,10 +134,15 @@ def test_what_is_printed(program, files, words, output):
     assert (0, output, b"") == said([program, *words.split()], cwd=files)
 
 
+def contents(folder):
+    return {it.name: it.read_bytes() for it in folder.iterdir() if it.is_file()}
+
+
 @pytest.mark.parametrize("words", MISTAKES)
 def test_words_that_are_no_command(program, files, words):
+    before = contents(files)
     status, out, err = said([program, *words.split()], cwd=files)
-    assert (2, b"", True) == (status, out, len(err) > 0)
+    assert (2, b"", True, before) == (status, out, len(err) > 0, contents(files))
 
 
 @pytest.mark.parametrize("words", [

@@ -36,8 +36,7 @@ _, REVOKED_LIST = row("a-revoked-key-id-is-not-issued")[1]
 CUT, CUT_REFUSED = row("a-cut-request-is-refused")[40]
 HALF = LIST[:11]
 
-# The response to a body of 20000 bytes, as the tables of docs/FORMATS.md have it.
-LONG = post("ana", "i1", b"a" * 20000)
+# The response to a body of more than 16384 bytes, as the tables of docs/FORMATS.md have it.
 TOO_LONG = (b"HTTP/1.1 413 Payload Too Large\r\ncontent-type: text/plain\r\ncontent-length: 18\r\n"
             b"connection: close\r\n\r\nrefused 5 TooLong\n")
 
@@ -235,10 +234,11 @@ def test_a_peer_that_has_hung_up_is_no_fault(system):
         assert (CUT_REFUSED, NO_LIST, ends()) == (given(cut), given(last), server.ended())
 
 
-def test_a_response_comes_whole_before_a_body_that_is_not_read(system):
+@pytest.mark.parametrize("size", [20000, 40000])
+def test_a_response_comes_whole_before_a_body_that_is_not_read(system, size):
     """And the connection isn't reset behind it."""
     with system.serving(2) as server:
-        peer, other = server.client(LONG), server.client(LIST)
+        peer, other = server.client(post("ana", "i1", b"a" * size)), server.client(LIST)
         with peer.dup() as kept:
             server.go_on()
             assert (TOO_LONG, NO_LIST, ends()) == (given(peer), given(other), server.ended())

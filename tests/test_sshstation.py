@@ -4,7 +4,9 @@ What a guard answers of a body is compared in test_guard, and what the station a
 Digests are those of hashlib, the fingerprint is that of FORMATS, and the texts of help are those that clap 4 writes.
 """
 import contextlib
+import errno
 import hashlib
+import itertools
 import os
 import sqlite3
 import stat
@@ -511,9 +513,13 @@ def test_what_reads_a_guard_makes_no_file(sshstation, room, words):
 @pytest.mark.parametrize("change, fault", [
     ("UPDATE guard SET schema = 2", "WrongSchema"), ("UPDATE guard SET ca = x'00'", "Damaged"),
     ("UPDATE guard SET first = 0", "Damaged"), ("UPDATE guard SET id = 2", "Damaged"),
+    ("UPDATE guard SET first = -1", "Damaged"), ("UPDATE guard SET first = 'one'", "Damaged"),
+    ("UPDATE guard SET ca = 'a key of some thirty-two bytes..'", "Damaged"),
     ("DELETE FROM guard", "NotAGuard"), ("DROP TABLE guard", "NotAGuard"),
     ("INSERT INTO approved VALUES (3, -1, x'00')", "Damaged"),
-], ids=["schema", "ca", "first", "id", "no-row", "no-table", "moment"])
+    ("INSERT INTO approved VALUES (3, 1000, 'a text')", "Damaged"),
+], ids=["schema", "ca", "first", "id", "less-than-none", "text-for-serial", "text-for-ca", "no-row", "no-table", "moment",
+        "text-for-body"])
 def test_tables_that_somebody_changed_are_named_and_left(guard, room, change, fault):
     put(room, a=body(3))
     with contextlib.closing(sqlite3.connect("guard.db")) as tables, tables:
@@ -547,6 +553,38 @@ def test_an_office_is_no_guard(guard, program, room):
                 "--first", 1, "--last", 9])
     assert 0 == made.returncode
     assert (1, "", "sshstation: NotAGuard\n") == guard.run("bodies", "--db", "office.db")
+
+
+# ---- a disk that fails
+
+@pytest.mark.slow
+@pytest.mark.parametrize("words, done", [
+    (["judge", "--policy", "policy", "a"], sign(3, body(3))), (["retire", "--last", "50"], "retired 1 50\n"),
+], ids=["judge", "retire"])
+def test_a_disk_that_fails_is_named(guard, room, words, done):
+    """It fails at each call on the file in turn, and from then on. What was printed before the fault holds."""
+    put(room, a=body(3))
+    (room / "disk").mkdir()
+    library, mark, db = preloaded("failing_disk.c", room), room / "mark", room / "disk/guard.db"
+    strange = os.environ | {"LD_PRELOAD": str(library), "DISK": str(db), "MARK": str(mark)}
+    for number in itertools.count(1):
+        for left in db.parent.iterdir():
+            left.unlink()
+        db.write_bytes((room / "guard.db").read_bytes())
+        mark.unlink(missing_ok=True)
+        given = guard.run(words[0], "--db", db, *words[1:], env=strange | {"FAIL": f"any any {number} 0 {errno.EIO}"})
+        if not mark.exists():
+            break
+        first = mark.read_text().splitlines()[0]
+        # Whoever closes a file isn't told of an error.
+        wanted = [(1, "", "sshstation: Device\n"), (1, done, "sshstation: Device\n")]
+        assert given in wanted + [(0, done, "")] * first.endswith("close"), f"call {number}: {first}"
+        again = guard.run(words[0], "--db", db, *words[1:])
+        assert (0, done, "") == again, f"call {number}: {first}"
+        kept = guard.run("bodies", "--db", db)[1].split()[:2]
+        assert kept == done.split()[1:] * (words[0] == "judge"), f"call {number}: {first}"
+    assert (0, done, "") == given
+    assert number > 20
 
 
 # ---- policies
@@ -598,6 +636,12 @@ def test_a_clock_past_the_latest_moment_is_a_fault(guard, room, moment, wanted):
     strange = preloaded("strange_system.c", room)
     assert wanted == guard.judge("a", env=os.environ | {"LD_PRELOAD": str(strange), "MOMENT": str(moment)})
     assert [] == guard.bodies()
+
+
+def test_a_file_that_is_missing_is_told_before_a_clock_that_has_stopped(guard, room):
+    strange = preloaded("strange_system.c", room)
+    environment = os.environ | {"LD_PRELOAD": str(strange), "MOMENT": str(LATEST + 1)}
+    assert (1, "", "sshstation: File\n") == guard.judge("missing", env=environment)
 
 
 def test_each_body_is_judged_at_the_time_at_which_its_path_is_read(guard, room, programs):
