@@ -118,6 +118,10 @@ pub fn respond<S: Alter>(
     // mean.
     ensures reads { AsksNoChange request.now → Between S.Store IsAsBeforeWhereOpen store.old.conn store.new.conn }
 
+    // Nor has any request changed it that ends with a fault, except perhaps with `Damaged`.
+    ensures before { IfErr result (λ e. e ≢ StoreFault.Damaged
+        → Between S.Store IsAsBeforeWhereOpen store.old.conn store.new.conn) }
+
     // If the tables represent a history, the fault is `NoMemory` or `Device`, and `Device` is returned only if the
     // database failed, or refused a specified row.
     ensures only { On S.Store FailsAsRegister store.old.conn store.new.conn result }

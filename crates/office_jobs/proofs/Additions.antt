@@ -124,8 +124,8 @@ module _ (old new : State) (was : IsTrue old.is_open) where
       → ServesOffice connections source heard said old new held holds r → HasCleanDisk new → AddsArrivals old new
   served connections source heard said held holds (Ok status) h clean =
       λ o l told. let more = h.4.served clean o l told in (more.more, more.history)
-  served connections source heard said held holds (Err fault.Socket) h clean = adds_none old new (h.4 clean)
-  served connections source heard said held holds (Err fault.Write) h clean = adds_none old new (h.3 clean)
+  served connections source heard said held holds (Err fault.Socket) h clean = adds_none old new (h.4 clean).1
+  served connections source heard said held holds (Err fault.Write) h clean = adds_none old new (h.3 clean).1
   served connections source heard said held holds (Err fault.NoMemory) h clean = adds_none old new (h.3 clean).tells
   served connections source heard said held holds (Err (fault.Store e)) h clean =
       adds_none old new (h.3 clean).tells

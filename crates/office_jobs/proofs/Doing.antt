@@ -412,9 +412,9 @@ module _ (old new : State) where
         stays (Ok (suc k)) refuses (h.4.unmet one clean).1,
       )
   serves_asked clean n nonces heard said held holds (Err fault.Socket) refuses h =
-      (nothing_asked, refl, stays {A = ℕ} (Err fault.Socket) refuses (h.4 clean))
+      (nothing_asked, refl, stays {A = ℕ} (Err fault.Socket) refuses (h.4 clean).1)
   serves_asked clean n nonces heard said held holds (Err fault.Write) refuses h =
-      (nothing_asked, refl, stays {A = ℕ} (Err fault.Write) refuses (h.3 clean))
+      (nothing_asked, refl, stays {A = ℕ} (Err fault.Write) refuses (h.3 clean).1)
   serves_asked clean n nonces heard said held holds (Err fault.NoMemory) refuses h =
       (nothing_asked, refl, stays {A = ℕ} (Err fault.NoMemory) refuses (h.3 clean).tells)
   serves_asked clean n nonces heard said held holds (Err (fault.Store e)) refuses h =

@@ -47,7 +47,7 @@ met_from n book book' nonces nonces' said old mid new before tells x = record {
 }
 
 -- if nothing was done, nothing has changed
-same_is_unmet : (old new : State) → new ≡ old → IsAsBefore old new × KeepsTelling old new
+pub same_is_unmet : (old new : State) → new ≡ old → IsAsBefore old new × KeepsTelling old new
 same_is_unmet old new same = subst (λ (s : State). IsAsBefore old s × KeepsTelling old s) (sym same)
     (record { was_open = λ is. is; rest = λ _ rests. rests; same = λ _ _. refl }, λ o l told. told)
 
@@ -87,6 +87,12 @@ served_at n port status book book' source first left said old new held listening
       },
     )
 
+-- if nothing has changed after an opening that changed nothing, nothing has changed
+unmet_from : (old mid new : State) → IsAsBefore old mid → KeepsTelling old mid → IsAsBefore mid new × KeepsTelling mid new
+    → IsAsBefore old new × KeepsTelling old new
+unmet_from old mid new before tells next =
+    (before_again old mid new before next.0, λ o l told. next.1 o l (tells o l told))
+
 -- connections served after an opening are served over the database that was opened
 served_from : (n : ℕ) (source : Option (List ℕ)) (heard : Result (Option Book × ℕ) ErrorKind) (said : List ℕ)
     (old mid new : State) (held holds : Option (List ℕ)) (r : Result ℕ JobFault)
@@ -100,19 +106,16 @@ served_from n source heard said old mid new held holds (Ok status) before tells 
   h.3,
   record {
     met = λ done. let m = h.4.met done in (m.0, m.1, met_from n _ _ source _ said old mid new before tells m.2);
-    unmet = λ failed clean. (
-      before_again old mid new (before clean) (h.4.unmet failed clean).0,
-      λ o l m. (h.4.unmet failed clean).1 o l (tells clean o l m),
-    );
+    unmet = λ failed clean. unmet_from old mid new (before clean) (tells clean) (h.4.unmet failed clean);
     lacking = h.4.lacking;
     served = λ clean o l m. h.4.served clean o l (tells clean o l m);
     lawful = h.4.lawful;
   },
 )
 served_from n source heard said old mid new held holds (Err fault.Socket) before tells h =
-    (h.0, h.1, h.2, h.3, λ clean o l m. h.4 clean o l (tells clean o l m))
+    (h.0, h.1, h.2, h.3, λ clean. unmet_from old mid new (before clean) (tells clean) (h.4 clean))
 served_from n source heard said old mid new held holds (Err fault.Write) before tells h =
-    (h.0, h.1, h.2, λ clean o l m. h.3 clean o l (tells clean o l m))
+    (h.0, h.1, h.2, λ clean. unmet_from old mid new (before clean) (tells clean) (h.3 clean))
 served_from n source heard said old mid new held holds (Err fault.NoMemory) before tells h =
     let no = h.0 in absurd (cc)
 served_from n source heard said old mid new held holds (Err (fault.Store e)) before tells h =

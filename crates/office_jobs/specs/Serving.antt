@@ -55,9 +55,10 @@ ServesOffice connections source heard said old new held holds (Ok status) =
     × IsServed connections book source said old new status
 ServesOffice connections source heard said old new held holds (Err Socket) =
     (kind : ErrorKind) × (heard ≡ Some (Err kind)) × (holds ≡ held) × (said ≡ [])
-    × (HasCleanDisk new → KeepsTelling old new)
+    × (HasCleanDisk new → IsAsBefore old new × KeepsTelling old new)
 ServesOffice connections source heard said old new held holds (Err Write) =
-    (at : Option Book × ℕ) × (heard ≡ Some (Ok at)) × (said ≡ []) × (HasCleanDisk new → KeepsTelling old new)
+    (at : Option Book × ℕ) × (heard ≡ Some (Ok at)) × (said ≡ [])
+    × (HasCleanDisk new → IsAsBefore old new × KeepsTelling old new)
 ServesOffice connections source heard said old new held holds (Err NoMemory) =
     (heard ≡ None) × (holds ≡ held) × (said ≡ []) × (HasCleanDisk new → IsUnopened old new store.NoMemory)
 ServesOffice connections source heard said old new held holds (Err (Store e)) =
