@@ -287,9 +287,20 @@ def test_init_wants_serials_in_order(sshstation, room, first, last):
 
 @pytest.mark.parametrize("first, last", [(1, 1), (1, LAST_SERIAL), (LAST_SERIAL, LAST_SERIAL)])
 def test_init_takes_all_serials_of_an_office(sshstation, room, first, last):
+    """The first and the last of them are signed."""
     (room / "ca.pub").write_text(CA)
-    words = ["init", "--db", "guard.db", "--ca", "ca.pub", "--first", first, "--last", last]
-    assert (0, f"guard ready {first} {last}\nca {FINGERPRINT}\n", "") == Guard(sshstation).run(*words)
+    (room / "policy").write_text(department())
+    data = [body(first), body(last)]
+    put(room, a=data[0], b=data[1])
+    guard, words = Guard(sshstation), ["init", "--db", "guard.db", "--ca", "ca.pub", "--first", first, "--last", last]
+    assert (0, f"guard ready {first} {last}\nca {FINGERPRINT}\n", "") == guard.run(*words)
+    assert (0, sign(first, data[0]) + sign(last, data[1]), "") == guard.judge("a", "b")
+
+
+def test_init_takes_a_key_with_the_longest_comment(sshstation, room):
+    (room / "ca.pub").write_text(f"{CA} {'a' * 1024}\n")
+    words = ["init", "--db", "guard.db", "--ca", "ca.pub", "--first", 1, "--last", 100]
+    assert (0, f"guard ready 1 100\nca {FINGERPRINT}\n", "") == Guard(sshstation).run(*words)
 
 
 @pytest.mark.parametrize("text, fault", [
@@ -513,13 +524,10 @@ def test_what_reads_a_guard_makes_no_file(sshstation, room, words):
 @pytest.mark.parametrize("change, fault", [
     ("UPDATE guard SET schema = 2", "WrongSchema"), ("UPDATE guard SET ca = x'00'", "Damaged"),
     ("UPDATE guard SET first = 0", "Damaged"), ("UPDATE guard SET id = 2", "Damaged"),
-    ("UPDATE guard SET first = -1", "Damaged"), ("UPDATE guard SET first = 'one'", "Damaged"),
-    ("UPDATE guard SET ca = 'a key of some thirty-two bytes..'", "Damaged"),
+    ("UPDATE guard SET first = -1", "Damaged"),
     ("DELETE FROM guard", "NotAGuard"), ("DROP TABLE guard", "NotAGuard"),
     ("INSERT INTO approved VALUES (3, -1, x'00')", "Damaged"),
-    ("INSERT INTO approved VALUES (3, 1000, 'a text')", "Damaged"),
-], ids=["schema", "ca", "first", "id", "less-than-none", "text-for-serial", "text-for-ca", "no-row", "no-table", "moment",
-        "text-for-body"])
+], ids=["schema", "ca", "first", "id", "less-than-none", "no-row", "no-table", "moment"])
 def test_tables_that_somebody_changed_are_named_and_left(guard, room, change, fault):
     put(room, a=body(3))
     with contextlib.closing(sqlite3.connect("guard.db")) as tables, tables:
@@ -558,12 +566,12 @@ def test_an_office_is_no_guard(guard, program, room):
 # ---- a disk that fails
 
 @pytest.mark.slow
-@pytest.mark.parametrize("words, done", [
-    (["judge", "--policy", "policy", "a"], sign(3, body(3))), (["retire", "--last", "50"], "retired 1 50\n"),
-], ids=["judge", "retire"])
-def test_a_disk_that_fails_is_named(guard, room, words, done):
+@pytest.mark.parametrize("words", [["judge", "--policy", "policy", "a"], ["retire", "--last", "50"]], ids=lambda it: it[0])
+def test_a_disk_that_fails_is_named(guard, room, words):
     """It fails at each call on the file in turn, and from then on. What was printed before the fault holds."""
-    put(room, a=body(3))
+    data = body(3)
+    put(room, a=data)
+    done = sign(3, data) if words[0] == "judge" else "retired 1 50\n"
     (room / "disk").mkdir()
     library, mark, db = preloaded("failing_disk.c", room), room / "mark", room / "disk/guard.db"
     strange = os.environ | {"LD_PRELOAD": str(library), "DISK": str(db), "MARK": str(mark)}
