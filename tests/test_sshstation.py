@@ -305,8 +305,9 @@ def test_init_takes_a_key_with_the_longest_comment(sshstation, room):
 
 @pytest.mark.parametrize("text, fault", [
     ("ssh-rsa AAAA", "WrongType"), ("ssh-ed25519 AAAA", "BadBase64"), ("", "WrongType"),
-    (f"{CA} \x01", "BadComment"), (f"{CA} ".ljust(8193, "a"), "File"), (None, "File"),
-], ids=["other-type", "no-key", "empty", "bad-comment", "too-long", "missing"])
+    (f"{CA} \x01", "BadComment"), (f"ssh-ed25519 {'A' * 68}", "BadBlob"), (f"{CA} ".ljust(8193, "a"), "File"),
+    (None, "File"),
+], ids=["other-type", "no-key", "empty", "bad-comment", "bad-blob", "too-long", "missing"])
 def test_init_wants_a_key_line_before_all_else(sshstation, room, text, fault):
     if text is not None:
         (room / "ca.pub").write_text(text)
@@ -561,6 +562,24 @@ def test_an_office_is_no_guard(guard, program, room):
                 "--first", 1, "--last", 9])
     assert 0 == made.returncode
     assert (1, "", "sshstation: NotAGuard\n") == guard.run("bodies", "--db", "office.db")
+
+
+def test_a_damaged_row_keeps_no_other_from_being_answered(guard, room):
+    data = {"a": body(1), "b": body(5)}
+    put(room, **data)
+    assert sign(1, data["a"]) == guard.judge("a")[1]
+    with contextlib.closing(sqlite3.connect("guard.db")) as tables, tables:
+        tables.execute("INSERT INTO approved VALUES (3, -1, x'00')")
+    assert (0, sign(1, data["a"]) + sign(5, data["b"]), "") == guard.judge("a", "b")
+    done = run([guard.program, "body", "--db", "guard.db", 1])
+    assert (0, data["a"], b"") == (done.returncode, done.stdout, done.stderr)
+
+
+def test_a_body_may_come_from_a_pipe(guard, room):
+    data = body(1)
+    put(room, a=data)
+    done = run(["sh", "-c", f"cat a | {guard.program} judge --db guard.db --policy policy /dev/stdin"])
+    assert (0, sign(1, data).encode(), b"") == (done.returncode, done.stdout, done.stderr)
 
 
 # ---- a disk that fails
