@@ -9,7 +9,7 @@ use Rattle.web.specs.declared.exchange.Exchange.{Exchange}
 use Rattle.web.specs.declared.exchange.Given.{Given}
 use Rattle.web.specs.declared.exchange.Given.TheVariants.{Answer, Fault}
 use Rattle.web.specs.Forms.{HaveForms}
-use Rattle.web.specs.Runs.{Serves}
+use Rattle.web.specs.Runs.{AreGivenNoChange, Serves}
 
 -- the word `answer`, a length and a response of that length, or the word `fault`
 abbrev pub given_text : Given → List ℕ
@@ -30,14 +30,16 @@ has_fault given = list_any is_fault given
 
 -- The output of a register for the exchanges is printed after the earlier output; `fault` says whether any got a fault.
 -- Whatever the register means, there is a response or a fault for each exchange, and each response has the form that
--- its request asks for.
-pub record Prints (before after keeps : Opening → List Arrival → Type 0) (exchanges : List Exchange)
+-- its request asks for. If each exchange is no message, was refused, or got a fault, the stored rows are unchanged:
+-- `same`.
+pub record Prints (before after keeps : Opening → List Arrival → Type 0) (same : Type 0) (exchanges : List Exchange)
     (old new : Option (List ℕ)) (fault : Bool) : Type 0 where
   pub given : List Given
   pub serves : Serves before after keeps exchanges given
   pub printed : Appends old new (all_given_text given)
   pub faults : has_fault given ≡ fault
   pub forms : HaveForms exchanges given
+  pub rows : AreGivenNoChange exchanges given → same
 
 -- A register that meant a history gave each of the exchanges a response or a fault, whatever was printed.
 abbrev pub AreRun : (before after keeps : Opening → List Arrival → Type 0) → List Exchange → Type 0

@@ -73,10 +73,12 @@ pub fn apply_exchanges<R: Registry, W: Write>(
 ) -> Result<(), RunFault>
     ensures failures { FailuresPersist R.is_honest R.is_open registry.old registry.new }
     ensures ok { R.is_honest registry.new → OnOk result (Prints (R.means registry.old) (R.means registry.new)
-        (Keeps R.means R.is_open registry.new) exchanges.now (W.contents out.old) (W.contents out.new) false) }
+        (Keeps R.means R.is_open registry.new) (R.is_open registry.new → R.is_as_before registry.old registry.new)
+        exchanges.now (W.contents out.old) (W.contents out.new) false) }
     ensures fault { R.is_honest registry.new → result ≡ Err RunFault.Fault
         → Prints (R.means registry.old) (R.means registry.new)
-        (Keeps R.means R.is_open registry.new) exchanges.now (W.contents out.old) (W.contents out.new) true }
+        (Keeps R.means R.is_open registry.new) (R.is_open registry.new → R.is_as_before registry.old registry.new)
+        exchanges.now (W.contents out.old) (W.contents out.new) true }
 
     // If the register meant a history, all exchanges were run, whatever was printed.
     ensures write { R.is_honest registry.new → result ≡ Err RunFault.Write → AreRun (R.means registry.old)

@@ -1,22 +1,29 @@
 -- A failure in answering a request is one of the disk.
-use Rattle.std.proofs.Common.{Err, Ok, Result, arith, inl, inr}
-use Rattle.std.specs.Prelude.{◌≢◌, IfErr, IsTrue}
+use Rattle.std.proofs.Common.{Err, Ok, Result, arith, inl, inr, ℕ}
+use Rattle.std.specs.Prelude.{IfErr, IfOk, IsTrue, OnErr, Vec}
+use Rattle.std.specs.declared.alloc.Global.{Global}
 use Rattle.sqlite.specs.State.{State}
 use Rattle.office.specs.declared.store_fault.StoreFault.{StoreFault}
-use Rattle.office.specs.declared.store_fault.StoreFault.TheVariants as fault
 use Rattle.office.specs.Faults.{HasRegisterCause}
 use Rattle.store.specs.Transactions.{FailuresStay, IsAsBefore}
 use Rattle.store.specs.Meaning.{RegisterHasFailed, Tells}
 use Rattle.store.proofs.Words.{both_ways, cases_Bool}
+use Rattle.web.specs.Answers.{IsRefusal}
 use Rattle.web.specs.Causes.{FailsAfter}
 use Rattle.web.proofs.Shown.{cause_as}
 
--- a fault other than `Damaged` has left the rows as they were
+-- a fault has left the rows as they were
 pub unchanged : {T : Type 0} (r : Result T StoreFault) (Honest Open As More : Type 0)
-    → (Honest → Open → IfErr r (λ e. e ≢ fault.Damaged → As × More))
-    → IfErr r (λ e. e ≢ fault.Damaged → Honest → Open → As)
+    → (Honest → Open → OnErr r (As × More)) → OnErr r (Honest → Open → As)
 unchanged (Ok x) Honest Open As More h = tt
-unchanged (Err e) Honest Open As More h = λ other honest is. (h honest is other).0
+unchanged (Err e) Honest Open As More h = λ honest is. (h honest is).0
+
+-- a response that is a refusal, too
+pub refused_unchanged : {E : Type 0} (r : Result (Vec ℕ Global) E) (Honest Open As More : Type 0)
+    → (Honest → IfOk r (λ v. IsRefusal v.items → Open → As × More))
+    → IfOk r (λ v. IsRefusal v.items → Honest → Open → As)
+refused_unchanged (Ok v) Honest Open As More h = λ refused honest is. (h honest refused is).0
+refused_unchanged (Err e) Honest Open As More h = tt
 
 module _ {S : Type 0} (of : S → State) where
   -- the database failed after calls that left it as it was

@@ -13,10 +13,15 @@ use Rattle.web.specs.Runs.{Serves}
 use Rattle.exchanges.specs.Printing.{AreRun, Prints}
 use Rattle.headline.proofs.Listed.{AsksOneThing, ListsAreExact, in_run}
 use Rattle.headline.specs.Headline.{OfficeAnswers, OfficePrints, OfficeRuns}
+use Rattle.store.specs.Transactions.{FailuresStay, IsAsBefore}
 
 -- tables that represent a history and are open
 abbrev pub AreOpen : State → Opening → List Arrival → Type 0
 AreOpen s o l = Tells s o l × IsTrue s.is_open
+
+-- rows that are as they were while the connection is open, with no failure of the disk forgotten
+abbrev pub AreSame : (old new : State) → Type 0
+AreSame old new = IsTrue new.is_open → IsAsBefore old new × FailuresStay old new
 
 pub answers : {E : Type 0} (r : Result (Vec ℕ Global) E) (old new : State) (request : List ℕ) (moment : ℕ) (nonce : List ℕ)
     → StoresWhereOpen new → IfOk r (λ v. IsAnswered (Tells old) (Tells new) (AreOpen new) request moment nonce v.items)
@@ -42,7 +47,7 @@ pub runs : (old new : State) (exchanges : List Exchange) → StoresWhereOpen new
 runs old new exchanges keeps are = (are.0, serves old new exchanges are.0 keeps are.1)
 
 pub prints : (old new : State) (exchanges : List Exchange) (held holds : Option (List ℕ)) (fault : Bool) → ListsAreExact → AsksOneThing
-    → StoresWhereOpen new → Prints (Tells old) (Tells new) (AreOpen new) exchanges held holds fault
+    → StoresWhereOpen new → Prints (Tells old) (Tells new) (AreOpen new) (AreSame old new) exchanges held holds fault
     → OfficePrints old new exchanges held holds fault
 prints old new exchanges held holds fault exact one keeps p = record {
   prints = record {
@@ -51,13 +56,14 @@ prints old new exchanges held holds fault exact one keeps p = record {
     printed = p.printed;
     faults = p.faults;
     forms = p.forms;
+    rows = λ none is. (p.rows none is).0;
   };
   lists = λ o l m. let r = p.serves o l m in in_run exact one o l exchanges p.given r.0 r.1;
 }
 
 pub prints_ok : {E : Type 0} (r : Result (Unit {0}) E) (old new : State) (exchanges : List Exchange) (held holds : Option (List ℕ))
     (fault : Bool) → ListsAreExact → AsksOneThing → StoresWhereOpen new
-    → OnOk r (Prints (Tells old) (Tells new) (AreOpen new) exchanges held holds fault)
+    → OnOk r (Prints (Tells old) (Tells new) (AreOpen new) (AreSame old new) exchanges held holds fault)
     → OnOk r (OfficePrints old new exchanges held holds fault)
 prints_ok (Err e) old new exchanges held holds fault exact one keeps p = tt
 prints_ok (Ok x) old new exchanges held holds fault exact one keeps p = prints old new exchanges held holds fault exact one keeps p

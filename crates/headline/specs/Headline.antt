@@ -115,6 +115,10 @@ OfficeStops of request moment nonce old new =
     StopsAt (λ s. Tells (of s)) (λ a b. RegisterHasFailed (of a) (of b)) (λ a b x. IsStopped (of a) (of b) x)
     request moment nonce old new
 
+-- while the connection is open, the database is as it was, whatever its tables mean
+abbrev pub IsAsBeforeWhereOpen : (old new : State) → Type 0
+IsAsBeforeWhereOpen old new = IsTrue new.is_open → IsAsBefore old new
+
 -- Each response to a GET of the list is the exact list of the history before it.
 abbrev pub AreExactLists : Opening → List Arrival → List Exchange → List Given → Type 0
 AreExactLists o l (x ∷ xs) (Answer response ∷ given) =
@@ -126,10 +130,11 @@ AreExactLists o l (x ∷ xs) [] = Unit {0}
 
 -- The specified responses are printed after what the output held; `fault` says whether any is a fault. The
 -- tables then represent the history with the arrivals that had no fault, and durably represent it if they have answered
--- since the last fault.
+-- since the last fault. Whatever they mean, they are unchanged if each exchange is no message, was refused, or got a
+-- fault.
 pub record OfficePrints (old new : State) (exchanges : List Exchange) (held holds : Option (List ℕ)) (fault : Bool)
     : Type 0 where
-  pub prints : Prints (Tells old) (Tells new) (Stores new) exchanges held holds fault
+  pub prints : Prints (Tells old) (Tells new) (Stores new) (IsAsBeforeWhereOpen old new) exchanges held holds fault
   pub lists : (o : Opening) (l : List Arrival) → Tells old o l → AreExactLists o l exchanges prints.given
 
 -- If the tables represented a history, the exchanges were run as specified, whatever was printed.
@@ -180,10 +185,6 @@ WritesList held holds old new r = OnOk r ((bytes : List ℕ) × Appends held hol
 -- if the list was found, the tables durably represent each history that they represented before
 abbrev pub StoresWhereFound : (old new : State) → Result (Unit {0}) PublishFault → Type 0
 StoresWhereFound old new r = IfFound r ((o : Opening) (l : List Arrival) → Tells old o l → Stores new o l)
-
--- while the connection is open, the database is as it was, whatever its tables mean
-abbrev pub IsAsBeforeWhereOpen : (old new : State) → Type 0
-IsAsBeforeWhereOpen old new = IsTrue new.is_open → IsAsBefore old new
 
 -- if the tables represent a history, each fault of the register is one that a register may return
 abbrev pub PublishFailsAsRegister : (old new : State) → Result (Unit {0}) PublishFault → Type 0

@@ -11,7 +11,7 @@
 
 mod publish_fault;
 
-ghost use Rattle.std.specs.Prelude.{◌≡◌, ◌≢◌, ◌⊎◌, ◌<◌, ◌+◌, ℕ, List, length, Err, IfErr, IfOk, IsTrue, OnOk};
+ghost use Rattle.std.specs.Prelude.{◌≡◌, ◌≢◌, ◌⊎◌, ◌<◌, ◌+◌, ℕ, List, length, Err, IfErr, IfOk, IsTrue, OnErr, OnOk};
 ghost use Rattle.std.specs.Prelude.{if◌then◌else◌};
 ghost use Rattle.std.specs.Io.KnownBytes.{Appends};
 ghost use Rattle.krl.specs.Published.{fits, published_text};
@@ -22,7 +22,7 @@ ghost use Rattle.office.specs.declared.opening.Opening.{Opening};
 ghost use Rattle.office.specs.declared.arrival.Arrival.{Arrival};
 ghost use Rattle.office.specs.Faults.{HasRegisterCause};
 ghost use Rattle.store.specs.Meaning.{RegisterHasFailed, KeepsTelling, StoresWhereOpen};
-ghost use Rattle.web.specs.Answers.{AsksNoChange};
+ghost use Rattle.web.specs.Answers.{AsksNoChange, IsRefusal};
 ghost use Rattle.web.specs.Causes.{AsksPlainGet, IsOfAList};
 ghost use Rattle.web.specs.Forms.{HasForm};
 ghost use Rattle.web.specs.Runs.{AskNoChange};
@@ -56,7 +56,8 @@ pub fn replay<S: Alter, W: Write>(
     // Each exchange gets the response of the reference model after the first acceptances among the earlier arrivals
     // that had no fault; the response to a GET of the list is the exact list. The tables then represent the history
     // with all arrivals. If an exchange used the tables, they are open and durably represent that history. Whatever the
-    // tables mean, there is a response for each exchange, of the form that its request asks for.
+    // tables mean, there is a response for each exchange, of the form that its request asks for, and the database is
+    // unchanged while the connection is open if each message was refused or got a fault.
     ensures ok { On S.Store (PrintsDue exchanges.now (W.contents out.old) (W.contents out.new))
         store.old.conn store.new.conn result }
 
@@ -118,9 +119,10 @@ pub fn respond<S: Alter>(
     // mean.
     ensures reads { AsksNoChange request.now → Between S.Store IsAsBeforeWhereOpen store.old.conn store.new.conn }
 
-    // Nor has any request changed it that ends with a fault, except perhaps with `Damaged`.
-    ensures before { IfErr result (λ e. e ≢ StoreFault.Damaged
+    // Nor has any request changed it that is refused, or that ends with a fault.
+    ensures refused { IfOk result (λ v. IsRefusal v.items
         → Between S.Store IsAsBeforeWhereOpen store.old.conn store.new.conn) }
+    ensures before { OnErr result (Between S.Store IsAsBeforeWhereOpen store.old.conn store.new.conn) }
 
     // If the tables represent a history, the fault is `NoMemory` or `Device`, and `Device` is returned only if the
     // database failed, or refused a specified row.

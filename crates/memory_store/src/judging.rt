@@ -2,7 +2,7 @@
 //!
 //! Large values are dropped explicitly: if one lives to a function's end, the proof takes each of its fields apart.
 
-ghost use Rattle.std.specs.Prelude.{◌≡◌, ◌≤◌, IfOk, IfErr, IsTrue, Some};
+ghost use Rattle.std.specs.Prelude.{◌≡◌, ◌≤◌, IfOk, IfErr, IsTrue, Some, length};
 ghost use Rattle.std.specs.List.{list_any};
 ghost use Rattle.std.specs.Option.{option_copied};
 ghost use Rattle.message.specs.Values.{is_message};
@@ -14,7 +14,7 @@ ghost use Rattle.memory_store.specs.Contents.{JudgesArrival, state_of};
 
 use crate::store::PlainStore;
 use message::{Message, MessageFault, read_message};
-use office::{Arrival, Decision, Kept, Stop, decide};
+use office::{Arrival, Decision, Kept, MAX_REPLY, Stop, decide};
 use std::alloc::Global;
 use text::Text;
 use values::{LATEST_MOMENT, Refusal};
@@ -57,6 +57,7 @@ impl PlainStore {
         ensures room { IfOk result (λ d. HasRoom d.change (state_of self.now)) }
         ensures change { IfOk result (λ d. IsLawfulChange d.change) }
         ensures version { IfOk result (λ d. d.version ≤ LAST_VERSION) }
+        ensures short { IfOk result (λ d. length d.reply ≤ 99) }
     {
         match read_message(alloc, arrival.bytes.as_slice()) {
             Ok(message) => {
@@ -77,6 +78,7 @@ impl PlainStore {
         ensures room { IfOk result (λ d. HasRoom d.change (state_of self.now)) }
         ensures change { IfOk result (λ d. IsLawfulChange d.change) }
         ensures version { IfOk result (λ d. d.version ≤ LAST_VERSION) }
+        ensures short { IfOk result (λ d. length d.reply ≤ 99) }
     {
         if LATEST_MOMENT < arrival.moment {
             return Err(Stop::Refused(Refusal::BadMoment));
@@ -95,6 +97,7 @@ impl PlainStore {
         ensures room { IfOk result (λ d. HasRoom d.change (state_of self.now)) }
         ensures change { IfOk result (λ d. IsLawfulChange d.change) }
         ensures version { IfOk result (λ d. d.version ≤ LAST_VERSION) }
+        ensures short { IfOk result (λ d. length d.reply ≤ 99) }
     {
         // A version past the last is reported as `NoMemory`.
         if LAST_VERSION < self.version {
@@ -109,19 +112,22 @@ impl PlainStore {
             arrival.moment,
             &arrival.nonce,
         ) {
-            Ok(decision) => in_versions(decision),
+            Ok(decision) => in_limits(decision),
             Err(stop) => Err(stop),
         }
     }
 }
 
-/// The decision, unless its version is past the last: that is reported as `NoMemory`.
-fn in_versions(decision: Decision) -> Result<Decision, Stop>
+/// The decision, unless its version is past the last, or its reply longer than any of an office: that is reported as
+/// `NoMemory`.
+fn in_limits(decision: Decision) -> Result<Decision, Stop>
     ensures same { IfOk result (λ d. d ≡ decision) }
     ensures version { IfOk result (λ d. d.version ≤ LAST_VERSION) }
+    ensures short { IfOk result (λ d. length d.reply ≤ 99) }
     ensures err { IfErr result (λ stop. stop ≡ NoMemory) }
 {
-    if LAST_VERSION < decision.version {
+    let size = decision.reply.as_slice().len();
+    if LAST_VERSION < decision.version || MAX_REPLY < size {
         drop(decision);
         return Err(Stop::NoMemory);
     }

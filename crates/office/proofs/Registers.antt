@@ -1,5 +1,9 @@
--- Reading calls of a register, one after the other.
+-- Reading calls of a register, one after the other, and arrivals that it doesn't accept.
 use Rattle.office.proofs.Words.{Arrival, List, Opening, Preserves}
+use Rattle.std.specs.Prelude.{Result, Ok, Err}
+use Rattle.office.specs.declared.arrival.Outcome.{Outcome}
+use Rattle.office.specs.declared.arrival.Outcome.TheVariants.{Accepted, Refused, Repeated}
+use Rattle.office.specs.Registers.{UnlessAccepted}
 
 -- no call
 pub preserves_none : {S : Type 0} {is_honest is_open : S → Type 0} {is_as_before : S → S → Type 0}
@@ -24,3 +28,10 @@ preserves_both {S} {is_honest} {is_open} {is_as_before} {means} {a} {b} {c} thro
   same = λ h o l m. next.same h o l (first.same (next.honest h) o l m);
   before = λ h is. through a b c (first.before (next.honest h) (next.was_open h is)) (next.before h is);
 }
+
+-- what holds at all holds unless an arrival is accepted
+pub unless_accepted : {E : Type 0} (r : Result Outcome E) (P : Type 0) → P → UnlessAccepted r P
+unless_accepted (Ok (Accepted reply)) P is = tt
+unless_accepted (Ok (Repeated reply)) P is = is
+unless_accepted (Ok (Refused refusal)) P is = is
+unless_accepted (Err e) P is = is

@@ -1,7 +1,9 @@
 -- The effect of a call on the office that a register means.
-use Rattle.std.specs.Prelude.{List, [], ◌∷◌, ◌++◌, IfOk, IfErr, Result}
+use Rattle.std.specs.Prelude.{◌≤◌, List, [], ◌∷◌, ◌++◌, length, IfOk, IfErr, Result, Ok, Err}
 use Rattle.office.specs.declared.opening.Opening.{Opening}
 use Rattle.office.specs.declared.arrival.Arrival.{Arrival}
+use Rattle.office.specs.declared.arrival.Outcome.{Outcome}
+use Rattle.office.specs.declared.arrival.Outcome.TheVariants.{Accepted, Repeated, Refused}
 use Rattle.office.specs.declared.store_fault.StoreFault.{StoreFault}
 use Rattle.office.specs.Faults.{IsOfARegister}
 
@@ -23,6 +25,19 @@ MeansTheSame means old new = (o : Opening) (l : List Arrival) → means old o l 
 abbrev pub MeansOneMore : {S : Type 0} → (means : S → Opening → List Arrival → Type 0) → Arrival → (old new : S)
     → Type 0
 MeansOneMore means arrival old new = (o : Opening) (l : List Arrival) → means old o l → means new o (l ++ arrival ∷ [])
+
+-- a fact that holds unless the arrival is accepted now: it is a repeat, or is refused, or the call fails
+abbrev pub UnlessAccepted : {E : Type 0} → Result Outcome E → Type 0 → Type 0
+UnlessAccepted (Ok (Accepted reply)) P = Unit {0}
+UnlessAccepted (Ok (Repeated reply)) P = P
+UnlessAccepted (Ok (Refused refusal)) P = P
+UnlessAccepted (Err e) P = P
+
+-- if the arrival is accepted now, its reply has at most 99 bytes
+abbrev pub IsShortIfAccepted : Outcome → Type 0
+IsShortIfAccepted (Accepted reply) = length reply ≤ 99
+IsShortIfAccepted (Repeated reply) = Unit {0}
+IsShortIfAccepted (Refused refusal) = Unit {0}
 
 -- a call repairs nothing: a register that has lost its honesty, or that a failed disk has shut, stays so
 pub record FailuresPersist {S : Type 0} (is_honest is_open : S → Type 0) (old new : S) : Type 0 where

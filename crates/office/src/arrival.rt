@@ -3,6 +3,9 @@
 use text::Text;
 use values::Refusal;
 
+/// The most bytes in a reply.
+pub const MAX_REPLY: usize = 99;
+
 /// A received request: a message with its caller, its request key, its time and its nonce.
 ///
 /// Caller and key are names (1 to 32 bytes of `a-z 0-9 -`: see `is_name`); its creator ensures this.

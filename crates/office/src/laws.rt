@@ -3,6 +3,7 @@
 ghost use Rattle.std.specs.Prelude.{◌≡◌, ℕ, List, true};
 ghost use Rattle.values.specs.declared.limits.TheConstants.{LAST_SERIAL, LATEST_MOMENT};
 ghost use Rattle.message.specs.declared.kinds.Message.{Message};
+ghost use Rattle.office.specs.declared.arrival.TheConstants.{MAX_REPLY};
 ghost use Rattle.office.specs.declared.ca.TheConstants.{MOST_CAS};
 ghost use Rattle.office.specs.declared.opening.Opening.{Opening};
 ghost use Rattle.office.specs.declared.arrival.Arrival.{Arrival};
@@ -29,4 +30,5 @@ pub fn limits_of_offices()
     ensures moment { LATEST_MOMENT ≡ 253402300799 }
     ensures serial { LAST_SERIAL ≡ 9223372036854775806 }
     ensures cas { MOST_CAS ≡ 8 }
+    ensures reply { MAX_REPLY ≡ 99 }
 {}

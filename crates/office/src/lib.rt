@@ -29,7 +29,7 @@ mod showing;
 mod store_fault;
 mod view;
 
-pub use arrival::{Arrival, Kept, Outcome};
+pub use arrival::{Arrival, Kept, MAX_REPLY, Outcome};
 pub use ca::{Ca, MOST_CAS};
 pub use certificate::Certificate;
 pub use concern::{Concern, concerned};

@@ -1,6 +1,6 @@
 //! The interface of a store to the layers above.
 
-ghost use Rattle.std.specs.Prelude.{◌≡◌, ◌++◌, [], ◌∷◌, List, OnOk, OnErr, IfErr};
+ghost use Rattle.std.specs.Prelude.{◌≡◌, ◌++◌, [], ◌∷◌, List, IfOk, OnOk, OnErr, IfErr};
 ghost use Rattle.office.specs.declared.opening.Opening.{Opening};
 ghost use Rattle.office.specs.declared.arrival.Arrival.{Arrival};
 ghost use Rattle.office.specs.Machine.{body_of};
@@ -9,8 +9,8 @@ ghost use Rattle.office.specs.Publication.{AreRevoked, departments_of, issued_of
 ghost use Rattle.office.specs.History.{due, state};
 ghost use Rattle.office.specs.Shows.{IsOffice};
 ghost use Rattle.office.specs.Faults.{HasRegisterCause};
-ghost use Rattle.office.specs.Registers.{AnswersBy, FailsAsARegister, FailsWithin, FailuresPersist, MeansOneMore};
-ghost use Rattle.office.specs.Registers.{MeansTheSame, Preserves};
+ghost use Rattle.office.specs.Registers.{AnswersBy, FailsAsARegister, FailsWithin, FailuresPersist, IsShortIfAccepted};
+ghost use Rattle.office.specs.Registers.{MeansOneMore, MeansTheSame, Preserves, UnlessAccepted};
 
 use crate::arrival::{Arrival, Outcome};
 use crate::ca::Ca;
@@ -28,9 +28,9 @@ use text::Text;
 /// other than `cause`, assume that the register is honest after it. A call that answers was made on an open register,
 /// and leaves it open; a register that a failed disk has shut stays shut and only returns faults. A reading call
 /// preserves what the register means, and so does a fault; while the register is open, the stored rows are then
-/// unchanged too, even if they mean no history, for example in damaged tables. `Device` is returned only if the
-/// database failed, or refused the rows of an arrival, and a register that means a history returns no other fault than
-/// lack of memory.
+/// unchanged too, even if they mean no history, for example in damaged tables. An arrival that is refused or repeated
+/// leaves them unchanged in the same way. `Device` is returned only if the database failed, or refused the rows of an
+/// arrival, and a register that means a history returns no other fault than lack of memory.
 pub trait Registry {
     /// So far every answer of the disk was faithful.
     ghost is_honest: { Self → Type 0 };
@@ -51,14 +51,17 @@ pub trait Registry {
     ghost means: { Self → Opening → List Arrival → Type 0 };
 
     /// Handles the next arrival: the stored reply, a first acceptance or a refusal, as specified. After a fault the
-    /// register means what it meant.
+    /// register means what it meant. Only an acceptance changes the stored rows, whatever they mean, and its reply has
+    /// at most 99 bytes.
     fn apply(&mut self, alloc: Global, arrival: Arrival) -> Result<Outcome, StoreFault>
         ensures failures { FailuresPersist is_honest is_open self.old self.new }
         ensures stays_open { is_honest self.new → OnOk result (is_open self.new) }
         ensures due { is_honest self.new → AnswersBy means self.old result (λ o l outcome. outcome ≡ due o l arrival) }
         ensures next { is_honest self.new → OnOk result (MeansOneMore means arrival self.old self.new) }
         ensures fault { is_honest self.new → OnErr result (MeansTheSame means self.old self.new) }
-        ensures before { is_honest self.new → is_open self.new → OnErr result (is_as_before self.old self.new) }
+        ensures before { is_honest self.new → is_open self.new
+            → UnlessAccepted result (is_as_before self.old self.new) }
+        ensures short { is_honest self.new → IfOk result IsShortIfAccepted }
         ensures cause { IfErr result (λ e. HasRegisterCause e (stops self.old self.new arrival)) }
         ensures only { is_honest self.new → FailsAsARegister means self.old result };
 

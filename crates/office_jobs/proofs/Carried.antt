@@ -106,15 +106,16 @@ of_refused_rows A rows failed e f same h =
 -- ---- exchanges
 
 prints_from : (old mid new : State) (es : List Exchange) (held holds : Option (List ℕ)) (fault : Bool)
-    → KeepsTelling old mid
+    → IsAsBefore old mid → KeepsTelling old mid
     → OfficePrints mid new es held holds fault → OfficePrints old new es held holds fault
-prints_from old mid new es held holds fault tells p = record {
+prints_from old mid new es held holds fault before tells p = record {
   prints = record {
     given = p.prints.given;
     serves = λ o l m. p.prints.serves o l (tells o l m);
     printed = p.prints.printed;
     faults = p.prints.faults;
     forms = p.prints.forms;
+    rows = λ none is. before_again old mid new before (p.prints.rows none is);
   };
   lists = λ o l m. p.lists o l (tells o l m);
 }
@@ -144,10 +145,10 @@ pub applied : (r : Result Unit RunFault) (done : Result Unit JobFault) (es : Lis
     → Applies es old new held holds done
 applied (Ok x) done es old mid new held holds same opened ok fault write stays silent =
     subst (λ (d : Result Unit JobFault). Applies es old new held holds d) (sym same)
-    (prints_from old mid new es held holds false opened.tells ok)
+    (prints_from old mid new es held holds false opened.before opened.tells ok)
 applied (Err run.Fault) done es old mid new held holds same opened ok fault write stays silent =
     subst (λ (d : Result Unit JobFault). Applies es old new held holds d) (sym same)
-    (prints_from old mid new es held holds true opened.tells (fault refl))
+    (prints_from old mid new es held holds true opened.before opened.tells (fault refl))
 applied (Err run.Write) done es old mid new held holds same opened ok fault write stays silent =
     subst (λ (d : Result Unit JobFault). Applies es old new held holds d) (sym same)
     (runs_from old mid new es opened.tells (write refl))

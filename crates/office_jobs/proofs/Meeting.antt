@@ -8,8 +8,8 @@ use Rattle.std.specs.Prelude.{All}
 use Rattle.office.specs.declared.registry.Registry.{Ghosts}
 use Rattle.office.specs.declared.store_fault.StoreFault.TheVariants as store
 use Rattle.web.specs.Runs.{Serves as AllServed}
-use Rattle.server.specs.Connections.{AreRead, AreServed, Extends, HasNoMessage, ServesConnections, Visit, exchange_of}
-use Rattle.server.specs.Connections.{given_of, visit_lines}
+use Rattle.server.specs.Connections.{AreRead, AreServed, ChangesNothing, Extends, ServesConnections, Visit}
+use Rattle.server.specs.Connections.{exchange_of, given_of, visit_lines}
 use Rattle.server.specs.Names.{listening_line, no_memory_line}
 use Rattle.office_jobs.proofs.Carried.{before_again}
 use Rattle.office_jobs.specs.declared.job_fault.JobFault.TheVariants as fault
@@ -20,7 +20,7 @@ pub met_over : {S : Type 0} (n : ℕ) (book book' : Option Book) (nonces nonces'
     (old new : State)
     → ((visits : List Visit) → AreServed r a b visits → HasCleanDisk new → AllServed (Tells old) (Tells new)
     (λ o l. Tells new o l × IsTrue new.is_open) (map exchange_of visits) (map given_of visits))
-    → ((visits : List Visit) → AreRead r a b visits → HasCleanDisk new → All HasNoMessage visits → IsAsBefore old new)
+    → ((visits : List Visit) → AreRead r a b visits → HasCleanDisk new → All ChangesNothing visits → IsAsBefore old new)
     → (x : ServesConnections n book book' nonces nonces' r a b)
     → MeetsOver n book book' nonces nonces' (visit_lines 1 x.visits) old new
 met_over n book book' nonces nonces' r a b old new carry reads x = record {

@@ -13,6 +13,7 @@ use Rattle.office_jobs.specs.Opening.{IsUnprinted, IsUnopened}
 -- The outcome. Each exchange gets its specified response, or some get a fault, and this is printed: one for each, and
 -- each response of the form that its request asks for, whatever the tables mean. Or the output failed, and all were run
 -- if the tables represented a history. Or nothing was run or printed: memory was refused, or the office wasn't opened.
+-- If what was printed is a refusal or a fault for each message, the database is unchanged, whatever its tables mean.
 abbrev pub Applies : List Exchange → (old new : State) → (held holds : Option (List ℕ)) → Result (Unit {0}) JobFault
     → Type 0
 Applies exchanges old new held holds (Ok done) = OfficePrints old new exchanges held holds false

@@ -7,7 +7,7 @@ use Rattle.sqlite.specs.State.{HasCleanDisk, State}
 use Rattle.office.specs.declared.store_fault.StoreFault.TheVariants as store
 use Rattle.web.specs.Runs.{Serves as AllServed}
 use Rattle.server.specs.Books.{Book}
-use Rattle.server.specs.Connections.{Extends, HasNoMessage, TellsAll, Visit, drawn_of, exchange_of, given_of}
+use Rattle.server.specs.Connections.{ChangesNothing, Extends, TellsAll, Visit, drawn_of, exchange_of, given_of}
 use Rattle.server.specs.Connections.{visit_lines}
 use Rattle.server.specs.Names.{listening_line, no_memory_line}
 use Rattle.store.specs.Transactions.{IsAsBefore}
@@ -18,7 +18,8 @@ use Rattle.office_jobs.specs.Opening.{IsUnopened}
 
 -- What `connections` connections did, in order, between the old and the new tables. Each got its specified response, or
 -- a fault, and `said` has the lines of the faults. If one was answered since the last fault, the tables represent the
--- history and the connection is open. If no visit has a message, the database is unchanged, whatever its tables mean.
+-- history and the connection is open. If each visit with a message was refused or closed, the database is unchanged,
+-- whatever its tables mean.
 pub record MeetsOver (connections : ℕ) (book book' : Option Book) (nonces nonces' : Option (List ℕ)) (said : List ℕ)
     (old new : State) : Type 0 where
   pub visits : List Visit
@@ -28,7 +29,7 @@ pub record MeetsOver (connections : ℕ) (book book' : Option Book) (nonces nonc
   pub lines : said ≡ visit_lines 1 visits
   pub served : HasCleanDisk new → AllServed (Tells old) (Tells new) (λ o l. Tells new o l × IsTrue new.is_open)
       (map exchange_of visits) (map given_of visits)
-  pub reads : HasCleanDisk new → All HasNoMessage visits → IsAsBefore old new
+  pub reads : HasCleanDisk new → All ChangesNothing visits → IsAsBefore old new
 
 -- The connections in the listener's book were handled, each with the specified response or a fault. Or there was no
 -- memory to begin with, and nothing has changed. `said` has the lines of the faults, whatever the disk has returned.

@@ -13,7 +13,7 @@ use Rattle.std.proofs.lemmas.List.Concat.{flat_map-append}
 use Rattle.std.proofs.lemmas.List.Elements.{All-cons, All-head, All-nil, All-tail}
 use Rattle.web.specs.Answers.{AsksTheRegister}
 use Rattle.web.specs.Runs.{HasAnswered}
-use Rattle.server.specs.Connections.{EndsWith, HasNoMessage, IfGiven}
+use Rattle.server.specs.Connections.{ChangesNothing, EndsWith, IfGiven}
 use Rattle.server.specs.Connections.{TellsAll, drawn_of}
 use Rattle.server.specs.Connections.{fault_line, visit_line, visit_lines}
 use Rattle.server.specs.Names.{connection_line}
@@ -102,20 +102,20 @@ served_more register visits visit result s0 s1 s2 ends first last back stays = �
       ),
     )
 
--- the visits before the last have no message if all have none
-first_have_none : (visits : List Visit) (visit : Visit) → All HasNoMessage (visits ++ visit ∷ [])
-    → All HasNoMessage visits
-first_have_none [] visit none = All-nil HasNoMessage
-first_have_none (v ∷ visits) visit none = All-cons HasNoMessage v visits
-    (All-head HasNoMessage v (visits ++ visit ∷ []) none)
-    (first_have_none visits visit (All-tail HasNoMessage v (visits ++ visit ∷ []) none))
+-- the visits before the last have changed nothing if none has
+first_change_nothing : (visits : List Visit) (visit : Visit) → All ChangesNothing (visits ++ visit ∷ [])
+    → All ChangesNothing visits
+first_change_nothing [] visit none = All-nil ChangesNothing
+first_change_nothing (v ∷ visits) visit none = All-cons ChangesNothing v visits
+    (All-head ChangesNothing v (visits ++ visit ∷ []) none)
+    (first_change_nothing visits visit (All-tail ChangesNothing v (visits ++ visit ∷ []) none))
 
 -- nor has the last
-last_has_none : (visits : List Visit) (visit : Visit) → All HasNoMessage (visits ++ visit ∷ [])
-    → All HasNoMessage (visit ∷ [])
-last_has_none [] visit none = none
-last_has_none (v ∷ visits) visit none = last_has_none visits visit
-    (All-tail HasNoMessage v (visits ++ visit ∷ []) none)
+last_changes_nothing : (visits : List Visit) (visit : Visit) → All ChangesNothing (visits ++ visit ∷ [])
+    → All ChangesNothing (visit ∷ [])
+last_changes_nothing [] visit none = none
+last_changes_nothing (v ∷ visits) visit none = last_changes_nothing visits visit
+    (All-tail ChangesNothing v (visits ++ visit ∷ []) none)
 
 -- zero connections change nothing
 pub meets_none : {S : Type 0} (book : Option Book) (source : Option (List ℕ)) (register : Ghosts S) (s : S)
@@ -146,8 +146,8 @@ meets_more n result b0 b1 b2 n0 n1 n2 register s0 s1 s2 m v back stays was_open 
       drawn = drawn_more m.visits v.visit n0 n1 n2 m.drawn v.drawn;
       served = served_more register m.visits v.visit result s0 s1 s2 v.ends m.served v.served back stays;
       reads = λ none honest is. through
-          (m.reads (first_have_none m.visits v.visit none) (back honest) (was_open honest is))
-          (v.reads (last_has_none m.visits v.visit none) honest is);
+          (m.reads (first_change_nothing m.visits v.visit none) (back honest) (was_open honest is))
+          (v.reads (last_changes_nothing m.visits v.visit none) honest is);
     }
 
 -- ---- what is printed

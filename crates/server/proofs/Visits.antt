@@ -5,23 +5,21 @@ use Rattle.server.proofs.Words.{WhereTold, [], answered, ap, closed, cut, inl, i
 use Rattle.server.proofs.Words.{◌∙◌, ◌∷◌, ◌≡◌, ◌≤◌}
 use Rattle.std.proofs.Common.{take, Some}
 use Rattle.std.proofs.lemmas.List.Elements.{All-head}
-use Rattle.std.specs.Prelude.{IfSome}
 use Rattle.wire.specs.Streams.{AppendsBeginning}
 use Rattle.http_requests.proofs.OneAsk.{one_of}
 use Rattle.web.specs.declared.exchange.Exchange.{Exchange}
 use Rattle.web.specs.declared.exchange.Given.TheVariants.{Answer}
-use Rattle.web.specs.Answers.{AsksNoChange, IsAnswered, IsOfTheRegister, Keeps}
+use Rattle.web.specs.Answers.{IsAnswered, IsOfTheRegister, Keeps}
 use Rattle.web.specs.Runs.{Serves}
 use Rattle.web.specs.declared.serve_fault.ServeFault.{ServeFault}
 use Rattle.web.specs.declared.serve_fault.ServeFault.TheVariants.{Read, Nonces, Store, NoMemory, Write}
 use Rattle.web.specs.Faults.{IfUnserved}
 use Rattle.web.specs.Nonces.{Draws}
 use Rattle.web.specs.Requests.{IsOneRequest}
-use Rattle.web.specs.Served.{KeepsIfRead, LeavesRows, Served}
+use Rattle.web.specs.Served.{LeavesRows, Served}
 use Rattle.server.specs.declared.connection_fault.Fault.TheVariants.{Socket, Clock, Serving}
-use Rattle.server.specs.Books.{Coming, IsConnectionAccepted, IsEnded}
-use Rattle.server.specs.Connections.{HasNoMessage, IsHeld, IsOfAccepting, IsSentNext, IsSilent, Silence}
-use Rattle.server.specs.Connections.{TellsFault}
+use Rattle.server.specs.Books.{IsConnectionAccepted, IsEnded}
+use Rattle.server.specs.Connections.{ChangesNothing, IsHeld, IsOfAccepting, IsSilent, TellsFault}
 
 -- the bytes read from a connection are a prefix of what it sent
 split_request : (sent : List ℕ) (reader : Option (List ℕ)) (request : List ℕ) → Consumes (Some sent) reader request
@@ -62,45 +60,24 @@ told_held talk written reader reader' writer writer' (Some old) (Some mid) (Some
       met = record { coming = cc; kept = cc };
     }
 
--- exactly this request was taken from the reader, if there is one
-abbrev IsTakenFrom : (reader reader' request : Option (List ℕ)) → Type 0
-IsTakenFrom reader reader' None = Unit {0}
-IsTakenFrom reader reader' (Some request) = Consumes reader reader' request × IsOneRequest reader' request
-
--- a request that was taken from the reader of a connection is a prefix of what the connection sent
-sent_next : (request reader reader' : Option (List ℕ)) (sent : List ℕ) (moment : ℕ) (later : List Coming) (book : Book)
-    → reader ≡ Some sent → book.coming ≡ record { sent = sent; moment = moment } ∷ later
-    → IsTakenFrom reader reader' request → IsSentNext request book
-sent_next None reader reader' sent moment later book gives coming taken = tt
-sent_next (Some request) reader reader' sent moment later book gives coming taken =
-    let parts = split_request sent reader' request
-    (subst (λ (r : Option (List ℕ)). Consumes r reader' request) gives taken.0) taken.1 in
-    let same = parts.1 in
-    (parts.0, parts.2, moment, later, cc)
-
 -- the book after a connection on which nothing was written
 told_closed : (fault : ServeFault) (drawn : List ℕ) (silent : IsSilent (Serving fault) drawn)
-    (request reader reader' writer writer' : Option (List ℕ)) (moment : ℕ) (old mid new : Option Book)
-    → WhereTold (IsConnectionAccepted reader writer moment) old mid → IsTakenFrom reader reader' request
-    → writer' ≡ writer → WhereTold (IsEnded writer') mid new
-    → WhereTold (TellsVisit (closed (record { fault = Serving fault; drawn = drawn; silent = silent; request = request }))) old new
-told_closed fault drawn silent request reader reader' writer writer' moment None mid new accepted taken same ended = tt
-told_closed fault drawn silent request reader reader' writer writer' moment (Some old) None new accepted taken same
-    ended = absurd accepted
-told_closed fault drawn silent request reader reader' writer writer' moment (Some old) (Some mid) None accepted taken
-    same ended = absurd ended
-told_closed fault drawn silent request reader reader' writer writer' moment (Some old) (Some mid) (Some new) accepted
-    taken same ended =
+    (reader writer writer' : Option (List ℕ)) (moment : ℕ) (old mid new : Option Book)
+    → WhereTold (IsConnectionAccepted reader writer moment) old mid → writer' ≡ writer
+    → WhereTold (IsEnded writer') mid new
+    → WhereTold (TellsVisit (closed (record { fault = Serving fault; drawn = drawn; silent = silent }))) old new
+told_closed fault drawn silent reader writer writer' moment None mid new accepted same ended = tt
+told_closed fault drawn silent reader writer writer' moment (Some old) None new accepted same ended = absurd accepted
+told_closed fault drawn silent reader writer writer' moment (Some old) (Some mid) None accepted same ended = absurd ended
+told_closed fault drawn silent reader writer writer' moment (Some old) (Some mid) (Some new) accepted same ended =
     let silence = accepted.silent in
     let took = ended.took in
     let nothing : ended.written ≡ [] = cc in
     let coming = accepted.coming in
     let coming' = ended.coming in
     let kept = accepted.kept in
-    let kept' = ended.kept in (
-      (record { sent = accepted.sent; moment = moment }, record { coming = cc; kept = cc }),
-      sent_next request reader reader' accepted.sent moment mid.coming old accepted.gives coming taken,
-    )
+    let kept' = ended.kept in
+    (record { sent = accepted.sent; moment = moment }, record { coming = cc; kept = cc })
 
 -- a single answered exchange, as a batch
 serves_one : (x : Exchange) (response : List ℕ) (before after keeps : Opening → List Arrival → Type 0)
@@ -163,7 +140,7 @@ module _ (S W : Type 0) (register : Ghosts S) (taken_by : W → Option (List ℕ
         wrote ended;
     drawn = x.nonce_taken;
     served = talk_served x;
-    reads = λ none. x.reads (All-head HasNoMessage (answered (talk_of x)) [] none);
+    reads = λ none. x.reads (All-head ChangesNothing (answered (talk_of x)) [] none);
   }
 
   -- a prefix of the response was written
@@ -176,38 +153,23 @@ module _ (S W : Type 0) (register : Ghosts S) (taken_by : W → Option (List ℕ
         (taken_by w) (taken_by w') old mid new accepted x.taken x.one wrote.grown ended);
     drawn = x.nonce_taken;
     served = talk_served x;
-    reads = λ none. x.reads (All-head HasNoMessage (cut (talk_of x)) [] none);
+    reads = λ none. x.reads (All-head ChangesNothing (cut (talk_of x)) [] none);
   }
-
-  -- nothing was written, and the register was asked no more than this request
-  closed_with : {T : Type 0} (fault : ServeFault) (drawn : List ℕ) (request : Option (List ℕ))
-      → Consumes source source' drawn → IsSilent (Serving fault) drawn → w' ≡ w
-      → (register.is_honest s' → (o : Opening) (l : List Arrival) → register.means s o l → register.means s' o l)
-      → IsTakenFrom reader reader' request → (IfSome request AsksNoChange → LeavesRows register s s')
-      → Visits {A = T} (Err (Serving fault)) old new source source' register s s'
-  closed_with fault drawn request consumed silent same kept taken reads =
-      let silence : Silence = record { fault = Serving fault; drawn = drawn; silent = silent; request = request } in
-      record {
-        visit = closed silence;
-        ends = refl;
-        told = told_closed fault drawn silent request reader reader' (taken_by w) (taken_by w') moment old mid new
-            accepted taken (ap taken_by same) ended;
-        drawn = consumed;
-        served = λ h o l m. (l, refl, kept h o l m, λ none. absurd none);
-        reads = λ none. reads (All-head HasNoMessage (closed silence) [] none);
-      }
 
   -- nothing was written
   closed_by : {T : Type 0} (fault : ServeFault) (drawn : List ℕ) → Consumes source source' drawn
       → IsSilent (Serving fault) drawn → w' ≡ w
       → (register.is_honest s' → (o : Opening) (l : List Arrival) → register.means s o l → register.means s' o l)
-      → KeepsIfRead reader reader' (LeavesRows register s s')
-      → Visits {A = T} (Err (Serving fault)) old new source source' register s s'
-  closed_by fault drawn consumed silent same kept read = elim read [
-    | inl before ↦ closed_with fault drawn None consumed silent same kept tt (λ none. before)
-    | inr takes ↦ closed_with fault drawn (Some takes.request) consumed silent same kept (takes.taken, takes.one)
-        takes.reads
-  ]
+      → LeavesRows register s s' → Visits {A = T} (Err (Serving fault)) old new source source' register s s'
+  closed_by fault drawn consumed silent same kept before = record {
+    visit = closed (record { fault = Serving fault; drawn = drawn; silent = silent });
+    ends = refl;
+    told = told_closed fault drawn silent reader (taken_by w) (taken_by w') moment old mid new accepted
+        (ap taken_by same) ended;
+    drawn = consumed;
+    served = λ h o l m. (l, refl, kept h o l m, λ none. absurd none);
+    reads = λ none. before;
+  }
 
   -- serving ended with this fault
   failed_by : {T A : Type 0} (fault : ServeFault)
@@ -215,13 +177,14 @@ module _ (S W : Type 0) (register : Ghosts S) (taken_by : W → Option (List ℕ
       → IfUnserved (fails A fault) (w' ≡ w)
       → (register.is_honest s' → IfUnserved (fails A fault) ((o : Opening) (l : List Arrival) → register.means s o l
       → register.means s' o l)) → Draws (fails A fault) source source'
-      → KeepsIfRead reader reader' (LeavesRows register s s')
+      → IfUnserved (fails A fault) (LeavesRows register s s')
       → Visits {A = T} (Err (Serving fault)) old new source source' register s s'
-  failed_by Read broke same kept drew read = closed_by Read drew.drawn drew.consumed drew.size same kept read
-  failed_by Nonces broke same kept drew read = closed_by Nonces drew.drawn drew.consumed drew.size same kept read
-  failed_by Store broke same kept drew read = closed_by Store drew.drawn drew.consumed drew.size same kept read
-  failed_by NoMemory broke same kept drew read = closed_by NoMemory drew.drawn drew.consumed drew.size same kept read
-  failed_by Write broke same kept drew read = let cut = broke refl in cut_by cut.0 cut.1
+  failed_by Read broke same kept drew before = closed_by Read drew.drawn drew.consumed drew.size same kept before
+  failed_by Nonces broke same kept drew before = closed_by Nonces drew.drawn drew.consumed drew.size same kept before
+  failed_by Store broke same kept drew before = closed_by Store drew.drawn drew.consumed drew.size same kept before
+  failed_by NoMemory broke same kept drew before =
+      closed_by NoMemory drew.drawn drew.consumed drew.size same kept before
+  failed_by Write broke same kept drew before = let cut = broke refl in cut_by cut.0 cut.1
 
   -- serving succeeded
   pub answered_visit : {T A : Type 0} (t : T) (a : A) (served : Result A ServeFault) → served ≡ Ok a
@@ -235,13 +198,13 @@ module _ (S W : Type 0) (register : Ghosts S) (taken_by : W → Option (List ℕ
       → (served ≡ Err Write → (x : IsServed) × AppendsBeginning (taken_by w) (taken_by w') x.response)
       → IfUnserved served (w' ≡ w) → (register.is_honest s' → IfUnserved served ((o : Opening) (l : List Arrival)
       → register.means s o l → register.means s' o l)) → Draws served source source'
-      → KeepsIfRead reader reader' (LeavesRows register s s')
+      → IfUnserved served (LeavesRows register s s')
       → Visits {A = T} (Err (Serving fault)) old new source source' register s s'
-  failed_visit fault (Ok a) is broke same kept drew read = absurd (cc)
-  failed_visit {T} {A} fault (Err e) is broke same kept drew read =
+  failed_visit fault (Ok a) is broke same kept drew before = absurd (cc)
+  failed_visit {T} {A} fault (Err e) is broke same kept drew before =
       let one : e ≡ fault = cc in
       subst (λ (f : ServeFault). Visits {A = T} (Err (Serving f)) old new source source' register s s') one
-      (failed_by {A = A} e broke same kept drew read)
+      (failed_by {A = A} e broke same kept drew before)
 
 -- if accepting failed, nothing was written, and no nonce drawn
 silent : (fault : Fault) → IsOfAccepting fault → IsSilent fault []
@@ -252,17 +215,17 @@ silent (Serving fault) only = absurd only
 -- the book if no connection was accepted
 told_unaccepted : (fault : Fault) (silent : IsSilent fault []) (old new : Option Book)
     → WhereTold (TellsFault fault) old new
-    → WhereTold (TellsVisit (closed (record { fault = fault; drawn = []; silent = silent; request = None }))) old new
+    → WhereTold (TellsVisit (closed (record { fault = fault; drawn = []; silent = silent }))) old new
 told_unaccepted fault silent None new told = tt
 told_unaccepted fault silent (Some old) None told = absurd told
-told_unaccepted fault silent (Some old) (Some new) told = (told, tt)
+told_unaccepted fault silent (Some old) (Some new) told = told
 
 -- no connection was accepted
 pub unaccepted_visit : {T S : Type 0} (fault : Fault) (source : Option (List ℕ)) (old new : Option Book)
     (register : Ghosts S) (s : S) → register.is_as_before s s → IsOfAccepting fault
     → WhereTold (TellsFault fault) old new → Visits {A = T} (Err fault) old new source source register s s
 unaccepted_visit fault source old new register s unasked only told = record {
-  visit = closed (record { fault = fault; drawn = []; silent = silent fault only; request = None });
+  visit = closed (record { fault = fault; drawn = []; silent = silent fault only });
   ends = refl;
   told = told_unaccepted fault (silent fault only) old new told;
   drawn = Consumes-nil source;

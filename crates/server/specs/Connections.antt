@@ -1,6 +1,6 @@
 -- What connections do to a listener, to a nonce source and to a register.
 use Rattle.std.specs.Prelude.{◌≡◌, ◌≤◌, ◌+◌, ℕ, List, [], ◌∷◌, ◌++◌, length, take, map, flat_map}
-use Rattle.std.specs.Prelude.{All, IfSome, Option, Some, None, Result, Ok, Err}
+use Rattle.std.specs.Prelude.{All, Option, Some, Result, Ok, Err}
 use Rattle.std.specs.Io.KnownBytes.{Appends, Consumes}
 use Rattle.office.specs.declared.opening.Opening.{Opening}
 use Rattle.office.specs.declared.arrival.Arrival.{Arrival}
@@ -8,7 +8,7 @@ use Rattle.office.specs.declared.registry.Registry.{Ghosts}
 use Rattle.web.specs.declared.exchange.Exchange.{Exchange}
 use Rattle.web.specs.declared.exchange.Given.{Given}
 use Rattle.web.specs.declared.exchange.Given.TheVariants as given
-use Rattle.web.specs.Answers.{AsksNoChange, Keeps}
+use Rattle.web.specs.Answers.{GetsNoChange, Keeps}
 use Rattle.web.specs.Forms.{HasForm}
 use Rattle.web.specs.Runs.{Serves}
 use Rattle.web.specs.declared.serve_fault.ServeFault.TheVariants.{Write}
@@ -37,12 +37,11 @@ IsSilent Clock drawn = drawn ≡ []
 IsSilent (Serving Write) drawn = ⊥
 IsSilent (Serving fault) drawn = IsDrawn {A = Unit {0}} (Err fault) drawn
 
--- a connection on which nothing was written, with its request if the register may have been asked
+-- a connection on which nothing was written
 pub record Silence : Type 0 where
   pub fault : Fault
   pub drawn : List ℕ
   pub silent : IsSilent fault drawn
-  pub request : Option (List ℕ)
 
 -- What one connection did: it was answered, or it was cut off after a prefix of the response, or it was closed without
 -- any bytes written.
@@ -83,18 +82,11 @@ TellsFault Socket old new = (old.coming ≡ []) × (new ≡ old)
 TellsFault Clock old new = ⊥
 TellsFault (Serving fault) old new = (next : Coming) × IsMet old new next []
 
--- the request, if there is one, is a prefix of what the next connection sends
-abbrev pub IsSentNext : (request : Option (List ℕ)) → Book → Type 0
-IsSentNext None book = Unit {0}
-IsSentNext (Some request) book =
-    (left : List ℕ) × IsOneRequest (Some left) request × (moment : ℕ) × (later : List Coming)
-    × (book.coming ≡ record { sent = request ++ left; moment = moment } ∷ later)
-
 -- the book after a visit
 abbrev pub TellsVisit : Visit → (old new : Book) → Type 0
 TellsVisit (answered talk) old new = IsHeld talk talk.response old new
 TellsVisit (cut talk) old new = (count : ℕ) × IsHeld talk (take count talk.response) old new
-TellsVisit (closed silence) old new = TellsFault silence.fault old new × IsSentNext silence.request old
+TellsVisit (closed silence) old new = TellsFault silence.fault old new
 
 -- the same for a sequence of visits
 abbrev pub TellsAll : List Visit → (old new : Option Book) → Type 0
@@ -131,15 +123,15 @@ abbrev pub AreServed : {S : Type 0} → Ghosts S → (old new : S) → List Visi
 AreServed register old new visits = register.is_honest new → Serves (register.means old) (register.means new)
     (Keeps register.means register.is_open new) (map exchange_of visits) (map given_of visits)
 
--- the request of a visit is no message, or the register wasn't asked
-abbrev pub HasNoMessage : Visit → Type 0
-HasNoMessage (answered talk) = AsksNoChange talk.exchange.request
-HasNoMessage (cut talk) = AsksNoChange talk.exchange.request
-HasNoMessage (closed silence) = IfSome silence.request AsksNoChange
+-- the visit has changed no stored row: it was closed, or its request is no message, or was refused
+abbrev pub ChangesNothing : Visit → Type 0
+ChangesNothing (answered talk) = GetsNoChange talk.exchange.request talk.response
+ChangesNothing (cut talk) = GetsNoChange talk.exchange.request talk.response
+ChangesNothing (closed silence) = Unit {0}
 
--- if no visit's request is a message, the stored rows are unchanged, whatever they mean
+-- if that holds of every visit, the stored rows are unchanged, whatever they mean
 abbrev pub AreRead : {S : Type 0} → Ghosts S → (old new : S) → List Visit → Type 0
-AreRead register old new visits = All HasNoMessage visits → LeavesRows register old new
+AreRead register old new visits = All ChangesNothing visits → LeavesRows register old new
 
 -- ---- visits
 

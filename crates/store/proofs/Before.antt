@@ -1,8 +1,9 @@
 -- Calls that leave a database as it was, whatever its tables represent.
-use Rattle.store.proofs.Words.{Begins, Concludes, Err, Fails, Fault, HasEnded, IsAsBefore, IsTrue, KeepsUnaccepted, Ok}
-use Rattle.store.proofs.Words.{OnErr, Outcome, Result, Stays, false, inl, inr, refl, subst, sym, ◌∙◌, ◌≡◌}
+use Rattle.store.proofs.Words.{Begins, Concludes, Err, Fails, Fault, HasEnded, IfOk, IsAsBefore, IsTrue}
+use Rattle.store.proofs.Words.{KeepsUnaccepted, Ok, OnErr, Outcome, Result, Stays, false, inl, inr, refl, subst, sym, ◌∙◌, ◌≡◌}
 use Rattle.sqlite.specs.State.{Shows, State}
 use Rattle.office.specs.declared.arrival.Outcome.TheVariants as outcome
+use Rattle.office.specs.Registers.{IsShortIfAccepted}
 use Rattle.store.specs.Arriving.{KeepsUnlessAccepted}
 
 pub fails_before : (a b : State) → Fails a b → IsAsBefore a b
@@ -54,14 +55,23 @@ committed_before a b c d begun kept shows = record {
   same = λ _ _. shows.now_is ∙ (kept ∙ begun.1.now_is);
 }
 
+-- the reply of a transaction is the one of its part
+pub concludes_short : (c d : State) (r q : Result Outcome Fault) → IfOk r IsShortIfAccepted → Concludes r c d q
+    → IfOk q IsShortIfAccepted
+concludes_short c d (Ok v) (Ok w) short told = subst (λ (o : Outcome). IsShortIfAccepted o) (sym told.0) short
+concludes_short c d (Ok v) (Err f) short told = tt
+concludes_short c d (Err e) (Ok w) short told = absurd told
+concludes_short c d (Err e) (Err f) short told = tt
+
+-- a transaction of a received request has changed nothing, unless it is accepted now
 pub concludes_unaccepted : (a b c d : State) (r q : Result Outcome Fault)
     → Begins {X = Unit {0}} {E = Fault} a b (Ok tt)
-    → KeepsUnaccepted b c r → Concludes r c d q → KeepsUnlessAccepted a d q
-concludes_unaccepted a b c d r (Err f) begun keeps told = tt
-concludes_unaccepted a b c d r (Ok (outcome.Accepted reply)) begun keeps told = tt
-concludes_unaccepted a b c d (Err e) (Ok (outcome.Repeated reply)) begun keeps told = absurd told
-concludes_unaccepted a b c d (Err e) (Ok (outcome.Refused x)) begun keeps told = absurd told
-concludes_unaccepted a b c d (Ok v) (Ok (outcome.Repeated reply)) begun keeps told =
+    → Stays b c r → KeepsUnaccepted b c r → Concludes r c d q → KeepsUnlessAccepted a d q
+concludes_unaccepted a b c d r (Err f) begun stays keeps told = concludes_before a b c d r (Err f) begun stays told
+concludes_unaccepted a b c d r (Ok (outcome.Accepted reply)) begun stays keeps told = tt
+concludes_unaccepted a b c d (Err e) (Ok (outcome.Repeated reply)) begun stays keeps told = absurd told
+concludes_unaccepted a b c d (Err e) (Ok (outcome.Refused x)) begun stays keeps told = absurd told
+concludes_unaccepted a b c d (Ok v) (Ok (outcome.Repeated reply)) begun stays keeps told =
     committed_before a b c d begun (subst (λ (o : Outcome). KeepsUnaccepted b c (Ok o)) (sym told.0) keeps) told.1
-concludes_unaccepted a b c d (Ok v) (Ok (outcome.Refused x)) begun keeps told =
+concludes_unaccepted a b c d (Ok v) (Ok (outcome.Refused x)) begun stays keeps told =
     committed_before a b c d begun (subst (λ (o : Outcome). KeepsUnaccepted b c (Ok o)) (sym told.0) keeps) told.1

@@ -16,6 +16,7 @@ use Rattle.office.specs.declared.view.Stop.TheVariants.{Refused}
 use Rattle.office.specs.Machine.{step}
 use Rattle.office.proofs.Steps.{shows_office, shows_refused, shows_repeated}
 use Rattle.office.proofs.Texts.{bad_is}
+use Rattle.office.specs.Registers.{IsShortIfAccepted}
 use Rattle.office.specs.declared.arrival.Outcome.TheVariants as outcome
 use Rattle.office.specs.declared.view.Stop.TheVariants as stop
 use Rattle.store.proofs.Causes.{cause_of, fails_then, fails_weaker}
@@ -143,12 +144,14 @@ keeps_then a b c (Err f) same keeps = tt
 
 -- a part that answers without a change
 pub settling_still : {a : Arrival} {Known : Past → Type 0} {c : Connection} {x : Outcome}
-    → (IsTrue c.is_open → Settles a Known c c (Ok x)) → Settling (IsTrue c.is_open) a Known c c (Ok x)
-settling_still {Known = Known} {c = c} {x = x} settles = record {
+    → (IsTrue c.is_open → Settles a Known c c (Ok x)) → IsShortIfAccepted x
+    → Settling (IsTrue c.is_open) a Known c c (Ok x)
+settling_still {Known = Known} {c = c} {x = x} settles short = record {
   settles = λ clean is_open. settles is_open;
   fails = λ clean. tt;
   stays = λ clean inside. (record { was_open = λ still. still; committed = λ _. refl }, refl);
   keeps = λ clean. kept_same c (Ok x);
+  short = short;
   survives = survives_still c (Waits (IsAfter Known) c);
 }
 
@@ -160,6 +163,7 @@ settling_not {a = a} {Known = Known} {c = c} = record {
   fails = λ clean p after. tt;
   stays = λ clean inside. record { was_open = λ still. still; committed = λ _. refl };
   keeps = λ clean. tt;
+  short = tt;
   survives = survives_still c (Waits (IsAfter Known) c);
 }
 
@@ -171,6 +175,7 @@ settling_open part = record {
   fails = part.fails;
   stays = part.stays;
   keeps = part.keeps;
+  short = part.short;
   survives = part.survives;
 }
 
@@ -185,7 +190,7 @@ stopped_settles a m Known c s r is size new decided =
     go : (s : Stop) → ((p : Past) → Known p → Decided (Err s) (state_at p) a.caller m a.moment a.nonce)
         → Settling (IsTrue c.is_open) a Known c c (stopped s)
     go (Refused x) decided = settling_still (λ is_open. settles_still a Known c (outcome.Refused x) size is_open
-        (λ p h known. refused_still a p x h (new p known).new (step_refused p a m x (new p known) (decided p known))))
+        (λ p h known. refused_still a p x h (new p known).new (step_refused p a m x (new p known) (decided p known)))) tt
     go stop.NoMemory decided = settling_not
 
 -- the same part, given more knowledge
@@ -198,6 +203,7 @@ settling_weaker {Asked} {a} {Known} {Later} {old} {new} {r} less part = record {
       more (λ p after why. why) (part.fails clean);
   stays = part.stays;
   keeps = part.keeps;
+  short = part.short;
   survives = survives_weaker old new (Waits (IsAfter Later) old) (Waits (IsAfter Known) old)
       (λ clean trees h p after. h p (more p after)) part.survives;
 }
@@ -256,6 +262,7 @@ module _ {X : Type 0} {First : State → List Kept → X → Type 0} {a b : Conn
             rest.survives.counts (rest.fails clean);
         stays = λ clean. stays_then a b c x r (reads_stay a b (Ok x) (one.reads (still clean))) (rest.stays clean);
         keeps = λ clean. keeps_then a b c r (one.reads (still clean)).0.now_is (rest.keeps clean);
+        short = rest.short;
         survives = waits_then (IsAfter Known) (IsAfter Later) (λ p. p) a b c leads_later
             (waits_never Known a b one.survives) rest.survives;
       }
@@ -277,5 +284,6 @@ read_failed {a = a} {b = b} asks arrival Known (Err e) is = record {
       cause_of (ExceedsTables arrival p) a b e (subst (λ (g : Fault). HasCause a b g) (sym is) q.1);
   stays = λ clean inside. stops a b (asks.reads clean tt).0;
   keeps = λ clean. tt;
+  short = tt;
   survives = waits_never Known a b asks.survives;
 }

@@ -5,8 +5,10 @@ use Rattle.store.proofs.Words.{NoMemory, Ok, OnErr, OnOk, Opening, Outcome, Rest
 use Rattle.store.proofs.Words.{Trees, [], arith, contents_with, due, inl, inr, store_fault_of, subst, sym, told, ◌++◌}
 use Rattle.store.proofs.Words.{◌∙◌, ◌∷◌, ◌≡◌}
 use Rattle.sqlite.specs.State.{State as Connection}
-use Rattle.store.specs.Transactions.{FailuresStay, KeepsOnErr}
-use Rattle.store.specs.Arriving.{IsCaused, IsStopped}
+use Rattle.office.specs.declared.arrival.Outcome.TheVariants as outcome
+use Rattle.office.specs.Registers.{IsShortIfAccepted, UnlessAccepted}
+use Rattle.store.specs.Transactions.{FailuresStay}
+use Rattle.store.specs.Arriving.{IsCaused, IsStopped, KeepsUnlessAccepted}
 use Rattle.store.proofs.Telling.{disk_failed, left_committed}
 
 -- the contract of a call that processes a received request
@@ -19,7 +21,8 @@ pub record Applied (a : Arrival) (old new : Connection) (q : Result Outcome Stor
   pub next : HasCleanDisk new
       → OnOk q ((o : Opening) (l : List Arrival) → Tells old o l → Tells new o (l ++ a ∷ []))
   pub fault : HasCleanDisk new → OnErr q ((o : Opening) (l : List Arrival) → Tells old o l → Tells new o l)
-  pub before : HasCleanDisk new → IsTrue new.is_open → OnErr q (IsAsBefore old new × FailuresStay old new)
+  pub before : HasCleanDisk new → IsTrue new.is_open → UnlessAccepted q (IsAsBefore old new × FailuresStay old new)
+  pub short : HasCleanDisk new → IfOk q IsShortIfAccepted
   pub cause : IfErr q (λ e. HasRegisterCause e (IsStopped old new a))
   pub only : HasCleanDisk new → IfErr q (λ e. (o : Opening) (l : List Arrival) → Tells old o l → IsOfARegister e)
 
@@ -50,20 +53,29 @@ module _ (a : Arrival) (old new : Connection) where
   of_a_register Device cause o l tells = tt
   of_a_register Damaged cause o l tells = absurd (cause (o, l) (rests_of old o l tells))
 
+  -- an answer that accepts nothing has changed nothing, and no failure of the disk is forgotten
+  unaccepted : (x : Outcome) → KeepsUnlessAccepted old new (Ok x) → FailuresStay old new
+      → UnlessAccepted {E = StoreFault} (Ok x) (IsAsBefore old new × FailuresStay old new)
+  unaccepted (outcome.Accepted reply) before stay = tt
+  unaccepted (outcome.Repeated reply) before stay = (before, stay)
+  unaccepted (outcome.Refused refusal) before stay = (before, stay)
+
   pub applied : (r : Result Outcome Fault) (q : Result Outcome StoreFault) → q ≡ told r
       → (HasCleanDisk new → Ends (IsAfter IsAny) (IsDueAnswer a) (contents_with a) old new r)
-      → (HasCleanDisk new → IfErr r (IsCaused a old new)) → (HasCleanDisk new → KeepsOnErr old new r)
+      → (HasCleanDisk new → IfErr r (IsCaused a old new)) → (HasCleanDisk new → KeepsUnlessAccepted old new r)
+      → (HasCleanDisk new → IfOk r IsShortIfAccepted)
       → Survives old new (LeavesDue (IsAfter IsAny) (IsDueAnswer a) (contents_with a) old)
       → ((trees : Trees) → IsTrue new.is_open → new.may_leave trees → trees ≡ new.committed.trees)
       → Applied a old new q
-  applied r q is ends cause before survives settled =
-      subst (λ z. Applied a old new z) (sym is) (go r ends cause before)
+  applied r q is ends cause before short survives settled =
+      subst (λ z. Applied a old new z) (sym is) (go r ends cause before short)
     where
       go : (r : Result Outcome Fault)
           → (HasCleanDisk new → Ends (IsAfter IsAny) (IsDueAnswer a) (contents_with a) old new r)
-          → (HasCleanDisk new → IfErr r (IsCaused a old new)) → (HasCleanDisk new → KeepsOnErr old new r)
+          → (HasCleanDisk new → IfErr r (IsCaused a old new)) → (HasCleanDisk new → KeepsUnlessAccepted old new r)
+          → (HasCleanDisk new → IfOk r IsShortIfAccepted)
           → Applied a old new (told r)
-      go (Ok x) ends cause before = record {
+      go (Ok x) ends cause before short = record {
         honest = λ clean. omega (arith, survives.clean);
         was_open = λ clean _. (ends clean).0;
         stays_open = λ clean. (ends clean).1;
@@ -78,11 +90,12 @@ module _ (a : Arrival) (old new : Connection) where
               left = left_committed new o (l ++ a ∷ []) (λ trees may. settled trees e.1 may) q.1;
             };
         fault = λ clean. tt;
-        before = λ clean _. tt;
+        before = λ clean _. unaccepted x (before clean) survives.counts;
+        short = short;
         cause = tt;
         only = λ clean. tt;
       }
-      go (Err f) ends cause before = record {
+      go (Err f) ends cause before short = record {
         honest = λ clean. omega (arith, survives.clean);
         was_open = λ clean still. (ends clean still).0;
         stays_open = λ clean. tt;
@@ -103,6 +116,7 @@ module _ (a : Arrival) (old new : Connection) where
           ];
         };
         before = λ clean _. (before clean, survives.counts);
+        short = λ clean. tt;
         cause = caused f cause;
         only = λ clean. of_a_register f (cause clean);
       }

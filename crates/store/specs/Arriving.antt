@@ -1,6 +1,6 @@
 -- One more received request, in one transaction.
-use Rattle.std.specs.Prelude.{◌≡◌, ◌⊎◌, ◌<◌, false, nat_lt, Bool, List, [], ◌∷◌, ◌++◌, find, IfErr, IsOkAnd, Option}
-use Rattle.std.specs.Prelude.{Some, None, Result, Ok, Err, IsTrue}
+use Rattle.std.specs.Prelude.{◌≡◌, ◌⊎◌, ◌<◌, false, nat_lt, Bool, List, [], ◌∷◌, ◌++◌, find, IfErr, IfOk, IsOkAnd}
+use Rattle.std.specs.Prelude.{Option, Some, None, Result, Ok, Err, IsTrue}
 use Rattle.std.specs.List.{list_any}
 use Rattle.sqlite.specs.Effect.{Database}
 use Rattle.sqlite_trees.specs.declared.store.Store.{Ghosts}
@@ -27,6 +27,7 @@ use Rattle.office.specs.declared.view.Change.TheVariants as change
 use Rattle.office.specs.declared.view.Decision.{Decision}
 use Rattle.office.specs.Decided.{HasRoom, written}
 use Rattle.office.specs.Messages.{message_with_text}
+use Rattle.office.specs.Registers.{IsShortIfAccepted, UnlessAccepted}
 use Rattle.office.specs.State.{State, next_serial}
 use Rattle.office.specs.History.{change as change_by, due, first_accepted, has_key, judged, kept_by, reply_kept, state}
 use Rattle.store.specs.Rows.{cert_row, department_row, office_contents, request_row}
@@ -155,6 +156,7 @@ pub record Settling (Given : Type 0) (a : Arrival) (Known : Past → Type 0) (ol
   pub fails : HasCleanDisk new → FailsFor (IsAfter Known) (ExceedsTables a) old new r
   pub stays : HasCleanDisk new → Stays old new r
   pub keeps : HasCleanDisk new → KeepsUnaccepted old new r
+  pub short : IfOk r IsShortIfAccepted
   pub survives : Survives old new (Waits (IsAfter Known) old)
 
 -- for a connection
@@ -176,11 +178,13 @@ of_statement Device = Device
 of_statement Damaged = Device
 of_statement NoMemory = NoMemory
 
--- for any tables: unless the request is accepted now, an answer has changed nothing
+-- for any tables: unless the request is accepted now, the call has changed nothing
 abbrev pub KeepsUnlessAccepted : Connection → Connection → Result Outcome Fault → Type 0
-KeepsUnlessAccepted old new (Ok (outcome.Accepted reply)) = Unit {0}
-KeepsUnlessAccepted old new (Ok other) = IsAsBefore old new
-KeepsUnlessAccepted old new (Err f) = Unit {0}
+KeepsUnlessAccepted old new r = UnlessAccepted r (IsAsBefore old new)
+
+-- if the request is accepted now, its reply has at most 99 bytes
+abbrev pub RepliesShortly : Connection → Connection → Result Outcome Fault → Type 0
+RepliesShortly old new r = IfOk r IsShortIfAccepted
 
 -- a fault has its cause, if the connection is closed or its tables represent a history
 abbrev pub IsCaused : Arrival → Connection → Connection → Fault → Type 0

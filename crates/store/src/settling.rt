@@ -2,7 +2,7 @@
 //!
 //! Large values are dropped explicitly: if a function ends with one, its proof takes each field apart.
 
-ghost use Rattle.std.specs.Prelude.{◌≡◌, IsTrue, Some, length};
+ghost use Rattle.std.specs.Prelude.{◌≡◌, ◌≤◌, IsTrue, Some, length};
 ghost use Rattle.message.specs.Values.{is_message};
 ghost use Rattle.office.specs.Decided.{IsLawfulChange};
 ghost use Rattle.office.specs.Messages.{message_with_text};
@@ -13,7 +13,7 @@ ghost use Rattle.store.specs.Arriving.{SettlesOn, SettlesOpen, stopped};
 use crate::reads::{Concerned, concerned_rows, kept_for};
 use crate::writes::write;
 use message::{Message, MessageFault, read_message};
-use office::{Arrival, Ca, Decision, Kept, Outcome, Stop, decide};
+use office::{Arrival, Ca, Decision, Kept, MAX_REPLY, Outcome, Stop, decide};
 use sqlite::{Alter, Connection};
 use std::alloc::Global;
 use store_sql::Fault;
@@ -31,6 +31,7 @@ fn accept<S: Alter>(
     cas: &[Ca],
 ) -> Result<Outcome, Fault>
     requires lawful { IsLawfulChange decision.now.change }
+    requires short { length decision.now.reply ≤ 99 }
     requires nonce { length arrival.now.nonce ≡ 32 }
     ensures { SettlesOn S.Store arrival.now (IsAccepted arrival.now decision.now cas.now) conn.old conn.new result }
 {
@@ -39,7 +40,8 @@ fn accept<S: Alter>(
     Ok(Outcome::Accepted(reply))
 }
 
-/// Writes the decision. A version above the last one counts as a refused allocation.
+/// Writes the decision. A version above the last one, and a reply that is longer than any of an office, count as a
+/// refused allocation.
 fn accept_version<S: Alter>(
     alloc: Global,
     conn: &mut Connection<S>,
@@ -52,6 +54,10 @@ fn accept_version<S: Alter>(
     ensures { SettlesOn S.Store arrival.now (IsDecided arrival.now decision.now cas.now) conn.old conn.new result }
 {
     if LAST_VERSION < decision.version {
+        return Err(Fault::NoMemory);
+    }
+    let reply = decision.reply.as_slice();
+    if MAX_REPLY < reply.len() {
         return Err(Fault::NoMemory);
     }
     accept(alloc, conn, arrival, decision, cas)

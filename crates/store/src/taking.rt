@@ -1,9 +1,9 @@
 //! Processing of one received request, in one transaction.
 
 ghost use Rattle.std.specs.Prelude.{◌≡◌, length};
-ghost use Rattle.store.specs.Transactions.{Ends, KeepsOnErr, LeavesDue};
-ghost use Rattle.store.specs.Arriving.{FailsAsCaused, IsAfter, IsDueAnswer, IsAny, KeepsUnlessAccepted, contents_with};
-ghost use Rattle.store.specs.Arriving.{of_statement};
+ghost use Rattle.store.specs.Transactions.{Ends, LeavesDue};
+ghost use Rattle.store.specs.Arriving.{FailsAsCaused, IsAfter, IsDueAnswer, IsAny, KeepsUnlessAccepted, RepliesShortly};
+ghost use Rattle.store.specs.Arriving.{contents_with, of_statement};
 ghost use Rattle.store_sql.specs.Honest.{On, OutlivesBy};
 
 use crate::rows::conclude;
@@ -33,10 +33,13 @@ pub(crate) fn take<S: Alter>(
     ensures ends { On S.Store (Ends (IsAfter IsAny) (IsDueAnswer arrival.now) (contents_with arrival.now))
         conn.old conn.new result }
     ensures cause { On S.Store (FailsAsCaused arrival.now) conn.old conn.new result }
-    ensures before { On S.Store KeepsOnErr conn.old conn.new result }
 
-    // A repeated or refused request leaves the database as it was, whatever its tables represent.
-    ensures unaccepted { On S.Store KeepsUnlessAccepted conn.old conn.new result }
+    // A call that fails, and a request that is repeated or refused, leave the database as it was, whatever its tables
+    // represent.
+    ensures before { On S.Store KeepsUnlessAccepted conn.old conn.new result }
+
+    // A reply that is given now has at most 99 bytes.
+    ensures short { On S.Store RepliesShortly conn.old conn.new result }
 
     // A crash during the call leaves the tables as they were, or with the request, which then extends the history.
     ensures survives { OutlivesBy S.Store (LeavesDue (IsAfter IsAny) (IsDueAnswer arrival.now)

@@ -16,10 +16,10 @@ use Rattle.trial.specs.TrialOffice.{trial_arrival, trial_opening}
 
 -- The responses of a register that represents the in-memory office are the specified ones.
 applies : (file : List ℕ) (es run : List Exchange) (before after keeps : Opening → List Arrival → Type 0)
-    (old new : Option (List ℕ)) (fault : Bool) → run ≡ es → AreExchanges es → file ≡ exchanges_text es
-    → before trial_opening (trial_arrival ∷ []) → Prints before after keeps run old new fault
+    (rows : Type 0) (old new : Option (List ℕ)) (fault : Bool) → run ≡ es → AreExchanges es → file ≡ exchanges_text es
+    → before trial_opening (trial_arrival ∷ []) → Prints before after keeps rows run old new fault
     → AppliesToTrial file old new fault
-applies file es run before after keeps old new fault same are text shown prints =
+applies file es run before after keeps rows old new fault same are text shown prints =
     let served = prints.serves trial_opening (trial_arrival ∷ []) shown in
     record {
       exchanges = run;
@@ -34,14 +34,14 @@ applies file es run before after keeps old new fault same are text shown prints 
 
 -- The same for a file whose text is known.
 pub applies_of : (left : Option (List ℕ)) (es run : List Exchange)
-    (before after keeps : Opening → List Arrival → Type 0)
+    (before after keeps : Opening → List Arrival → Type 0) (rows : Type 0)
     (old new : Option (List ℕ)) (fault : Bool) → run ≡ es
     → IfSome left (λ file. AreExchanges es × (file ≡ exchanges_text es))
-    → before trial_opening (trial_arrival ∷ []) → Prints before after keeps run old new fault
+    → before trial_opening (trial_arrival ∷ []) → Prints before after keeps rows run old new fault
     → IfSome left (λ file. AppliesToTrial file old new fault)
-applies_of None es run before after keeps old new fault same found shown prints = tt
-applies_of (Some file) es run before after keeps old new fault same found shown prints =
-    applies file es run before after keeps old new fault same found.0 found.1 shown prints
+applies_of None es run before after keeps rows old new fault same found shown prints = tt
+applies_of (Some file) es run before after keeps rows old new fault same found shown prints =
+    applies file es run before after keeps rows old new fault same found.0 found.1 shown prints
 
 -- A property of a successful batch is a property of the program's result.
 pub of_ok : (r : Result Unit RunFault) (done : Result Unit TrialFault) (P : Type 0) → done ≡ run_result r → OnOk r P

@@ -1,10 +1,11 @@
 -- The form of a response, from the calls that made it.
 use Rattle.web.proofs.Words.{Answer, Ask, Asks, Certificate, Err, Exchange, Given, Global, IfOk, List, Ok, Result, Vec}
-use Rattle.web.proofs.Words.{[], ap, append_assoc, arith, flat_map, get_or, length, length-append, line_among, refl}
-use Rattle.web.proofs.Words.{subst, sym, take, ℕ, ◌++◌, ◌+◌, ◌<◌, ◌∙◌, ◌∷◌, ◌≡◌}
+use Rattle.web.proofs.Words.{[], ap, append_assoc, arith, flat_map, get_or, inl, length, length-append, line_among}
+use Rattle.web.proofs.Words.{refl, subst, sym, take, ℕ, ◌++◌, ◌+◌, ◌<◌, ◌∙◌, ◌∷◌, ◌≡◌}
 use Rattle.std.proofs.Common.{ap₂, append-nil}
 use Rattle.std.proofs.lemmas.List.{take_more}
 use Rattle.std.proofs.lemmas.List.Concat.{flat_map-append}
+use Rattle.std.proofs.lemmas.List.Elements.{All-head, All-tail}
 use Rattle.std.specs.Prelude.{IsTrue, OnOk}
 use Rattle.krl.specs.declared.ca_part.CaPart.{CaPart}
 use Rattle.krl.specs.declared.krl_head.KrlHead.{KrlHead}
@@ -16,7 +17,9 @@ use Rattle.office.specs.declared.listing.Revocations.{Revocations}
 use Rattle.web.specs.declared.exchange.Given.TheVariants.{Fault}
 use Rattle.web.specs.Batches.{Says, table_among}
 use Rattle.web.specs.Forms.{HasForm, HaveForms, MayAnswer, MayShow}
+use Rattle.web.specs.Answers.{AsksNoChange}
 use Rattle.web.specs.Reports.{total_line}
+use Rattle.web.specs.Runs.{AreGivenNoChange, AskNoChange, IsGivenNoChange}
 
 -- a property of a text is one of the response with that text
 pub of_text : {E : Type 0} (r : Result (Vec ℕ Global) E) (text : List ℕ) (P : List ℕ → Type 0)
@@ -91,3 +94,38 @@ next_forms xs i x given now one lt is pushed forms form =
     subst (λ (ys : List Exchange). HaveForms ys now) (sym more)
     (subst (λ (g : List Given). HaveForms (take i xs ++ x ∷ []) g) (sym pushed)
     (more_forms (take i xs) given x one forms form))
+
+-- if exchanges and one more have changed nothing, each of the two has
+both_unchanged : (xs : List Exchange) (given : List Given) (x : Exchange) (one : Given) → HaveForms xs given
+    → AreGivenNoChange (xs ++ x ∷ []) (given ++ one ∷ []) → AreGivenNoChange xs given × IsGivenNoChange x one
+both_unchanged [] [] x one forms none = (tt, none.0)
+both_unchanged [] (g ∷ given) x one forms none = absurd forms
+both_unchanged (y ∷ ys) [] x one forms none = absurd forms
+both_unchanged (y ∷ ys) (Answer response ∷ given) x one forms none =
+    let rest = both_unchanged ys given x one forms.1 none.1 in ((none.0, rest.0), rest.1)
+both_unchanged (y ∷ ys) (Fault ∷ given) x one forms none =
+    let rest = both_unchanged ys given x one forms none.1 in ((none.0, rest.0), rest.1)
+
+-- the same for the next of a list
+pub next_unchanged : (xs : List Exchange) (i : ℕ) (x : Exchange) (given now : List Given) (one : Given) → i < length xs
+    → x ≡ get_or xs i x → now ≡ given ++ one ∷ [] → HaveForms (take i xs) given
+    → AreGivenNoChange (take (i + 1) xs) now → AreGivenNoChange (take i xs) given × IsGivenNoChange x one
+next_unchanged xs i x given now one lt is pushed forms none =
+    let more : take (i + 1) xs ≡ take i xs ++ x ∷ [] =
+    take_more xs i x lt ∙ ap (λ (y : Exchange). take i xs ++ y ∷ []) (sym is) in
+    both_unchanged (take i xs) given x one forms
+    (subst (λ (ys : List Exchange). AreGivenNoChange ys (given ++ one ∷ [])) more
+    (subst (λ (g : List Given). AreGivenNoChange (take (i + 1) xs) g) pushed none))
+
+-- exchanges that are no messages have changed nothing
+pub asked_unchanged : (xs : List Exchange) (given : List Given) → HaveForms xs given → AskNoChange xs
+    → AreGivenNoChange xs given
+asked_unchanged [] [] forms none = tt
+asked_unchanged [] (g ∷ given) forms none = absurd forms
+asked_unchanged (x ∷ xs) [] forms none = absurd forms
+asked_unchanged (x ∷ xs) (Answer response ∷ given) forms none = (
+  inl (All-head (λ y. AsksNoChange y.request) x xs none),
+  asked_unchanged xs given forms.1 (All-tail (λ y. AsksNoChange y.request) x xs none),
+)
+asked_unchanged (x ∷ xs) (Fault ∷ given) forms none =
+    (tt, asked_unchanged xs given forms (All-tail (λ y. AsksNoChange y.request) x xs none))

@@ -2,6 +2,7 @@
 use Rattle.web.proofs.Words.{AlreadyAnOffice, Arrival, Ask, Asks, AsksNoChange, Damaged, Device, Err, Global}
 use Rattle.web.proofs.Words.{HasRegisterCause, IfErr, IfOk, IsOfARegister, List, NoMemory, NotAnOffice, Ok, Opening}
 use Rattle.web.proofs.Words.{Result, StoreFault, Vec, WrongSchema, ap, one_of, subst, sym, ℕ, ◌∙◌, ◌≡◌}
+use Rattle.std.specs.Prelude.{OnErr}
 use Rattle.http_requests.specs.declared.resource.Resource.{Resource}
 use Rattle.http_requests.specs.declared.resource.Resource.TheVariants.{Pending}
 use Rattle.http_requests.specs.Asks.{get}
@@ -23,10 +24,15 @@ is_no_message request ask asks none =
     let N : Ask → Type 0 = IsNoMessage in
     subst N (one_of request none.0 ask none.1 asks) none.2
 
--- a property of every fault holds of the one that a call ends with
-pub always_err : {T E : Type 0} (r : Result T E) (P : E → Type 0) → ((e : E) → P e) → IfErr r P
-always_err (Ok x) P is = tt
-always_err (Err e) P is = is e
+-- a fact holds if a call fails
+pub on_err : {T E : Type 0} (r : Result T E) (P : Type 0) → P → OnErr r P
+on_err (Ok x) P is = tt
+on_err (Err e) P is = is
+
+-- a property of every answer holds of the one that a call gives
+pub always_ok : {T E : Type 0} (r : Result T E) (P : T → Type 0) → ((x : T) → P x) → IfOk r P
+always_ok (Ok x) P is = is x
+always_ok (Err e) P is = tt
 
 -- lack of memory is a fault that a register may return
 pub memory_only : {T : Type 0} (r : Result T StoreFault) (means : Opening → List Arrival → Type 0) → IfErr r (λ e. e ≡ NoMemory)

@@ -1,5 +1,6 @@
 -- The answer to a request.
-use Rattle.std.specs.Prelude.{◌≡◌, IsTrue, ℕ, List, [], ◌∷◌, ◌++◌, Option, Some, None}
+use Rattle.std.specs.Prelude.{◌≡◌, ◌⊎◌, IsTrue, ℕ, List, [], ◌∷◌, ◌++◌, Option, Some, None}
+use Rattle.values.specs.declared.refusal.Refusal.{Refusal}
 use Rattle.values.specs.declared.refusal.Refusal.TheVariants.{UnknownSerial, NotSigned}
 use Rattle.lines.specs.CertLines.{certificate_line_text}
 use Rattle.krl.specs.Published.{fits}
@@ -96,6 +97,14 @@ IsNoMessage (post caller key message) = ⊥
 -- the bytes of a request ask nothing that can change the stored rows
 abbrev pub AsksNoChange : List ℕ → Type 0
 AsksNoChange request = (ask : Ask) × Asks request ask × IsNoMessage ask
+
+-- the response is that of a refusal
+abbrev pub IsRefusal : (response : List ℕ) → Type 0
+IsRefusal response = (refusal : Refusal) × (response ≡ refusal_response refusal)
+
+-- an answered request hasn't changed the stored rows: it asks nothing that can change them, or it was refused
+abbrev pub GetsNoChange : (request response : List ℕ) → Type 0
+GetsNoChange request response = AsksNoChange request ⊎ IsRefusal response
 
 -- the bytes of a request ask something that needs the register
 abbrev pub AsksTheRegister : List ℕ → Type 0

@@ -7,7 +7,7 @@ use Rattle.office.specs.declared.arrival.Arrival.{Arrival}
 use Rattle.web.specs.declared.exchange.Exchange.{Exchange}
 use Rattle.web.specs.declared.exchange.Given.{Given}
 use Rattle.web.specs.declared.exchange.Given.TheVariants.{Answer, Fault}
-use Rattle.web.specs.Answers.{AsksNoChange, AsksTheRegister, MayList, answer_text, with_ask}
+use Rattle.web.specs.Answers.{AsksNoChange, AsksTheRegister, GetsNoChange, MayList, answer_text, with_ask}
 
 -- Each exchange gets a fault, or the response specified after the arrivals before it that got no fault, and the list is
 -- returned only if it may be. The last history is the first, followed by the arrivals of all that got no fault.
@@ -38,3 +38,15 @@ Serves before after keeps exchanges given = (o : Opening) (l : List Arrival) →
 -- none of these is a message
 abbrev pub AskNoChange : List Exchange → Type 0
 AskNoChange exchanges = All (λ x. AsksNoChange x.request) exchanges
+
+-- the exchange hasn't changed the stored rows: it got a fault, or it is no message, or it was refused
+abbrev pub IsGivenNoChange : Exchange → Given → Type 0
+IsGivenNoChange x (Answer response) = GetsNoChange x.request response
+IsGivenNoChange x Fault = Unit {0}
+
+-- the same for each exchange and its result
+abbrev pub AreGivenNoChange : List Exchange → List Given → Type 0
+AreGivenNoChange (x ∷ xs) (g ∷ given) = IsGivenNoChange x g × AreGivenNoChange xs given
+AreGivenNoChange [] [] = Unit {0}
+AreGivenNoChange (x ∷ xs) [] = ⊥
+AreGivenNoChange [] (g ∷ given) = ⊥

@@ -1,8 +1,8 @@
 -- The input that one call takes, and its answer.
-use Rattle.std.specs.Prelude.{◌≡◌, ◌⊎◌, ℕ, List, length, Option}
+use Rattle.std.specs.Prelude.{◌≡◌, ℕ, List, length, Option}
 use Rattle.std.specs.Io.KnownBytes.{Consumes}
 use Rattle.office.specs.declared.registry.Registry.{Ghosts}
-use Rattle.web.specs.Answers.{AsksNoChange, IsAnswered, Keeps}
+use Rattle.web.specs.Answers.{GetsNoChange, IsAnswered, Keeps}
 use Rattle.web.specs.Forms.{HasForm}
 use Rattle.web.specs.Requests.{IsOneRequest}
 
@@ -13,7 +13,8 @@ LeavesRows register old new = register.is_honest new → register.is_open new �
 -- Exactly one request and one nonce were taken from the bytes that the reader and the nonce source had left, and the
 -- response is the one specified for them. The register then means the history followed by the request's arrival, if it
 -- has one. If the ask needed the register, it preserves that history. Whatever the register means, the response has the
--- form that the request asks for, and a request that is no message leaves the stored rows unchanged.
+-- form that the request asks for, and a request that is no message, or that is refused, leaves the stored rows
+-- unchanged.
 pub record Served {S : Type 0} (reader reader' nonces nonces' : Option (List ℕ)) (moment : ℕ) (register : Ghosts S)
     (old new : S) : Type 0 where
   pub request : List ℕ
@@ -26,7 +27,7 @@ pub record Served {S : Type 0} (reader reader' nonces nonces' : Option (List ℕ
   pub answered : register.is_honest new → IsAnswered (register.means old) (register.means new)
       (Keeps register.means register.is_open new) request moment nonce response
   pub form : HasForm request response
-  pub reads : AsksNoChange request → LeavesRows register old new
+  pub reads : GetsNoChange request response → LeavesRows register old new
 
 -- Exactly one request and one nonce were taken in the same way, and the register was stopped in answering them.
 pub record Stopped (reader reader' nonces nonces' : Option (List ℕ)) (stops : (request nonce : List ℕ) → Type 0)
@@ -38,14 +39,3 @@ pub record Stopped (reader reader' nonces nonces' : Option (List ℕ)) (stops : 
   pub nonce_taken : Consumes nonces nonces' nonce
   pub nonce_size : length nonce ≡ 32
   pub stopped : stops request nonce
-
--- Exactly one request was taken, and the stored rows are unchanged if it is no message.
-pub record Takes (reader reader' : Option (List ℕ)) (is_as_before : Type 0) : Type 0 where
-  pub request : List ℕ
-  pub taken : Consumes reader reader' request
-  pub one : IsOneRequest reader' request
-  pub reads : AsksNoChange request → is_as_before
-
--- The stored rows are unchanged, or exactly one request was taken, and they are unchanged if it is no message.
-abbrev pub KeepsIfRead : (reader reader' : Option (List ℕ)) → (is_as_before : Type 0) → Type 0
-KeepsIfRead reader reader' is_as_before = is_as_before ⊎ Takes reader reader' is_as_before

@@ -8,7 +8,8 @@ ghost use Rattle.office.specs.Faults.{HasRegisterCause};
 ghost use Rattle.office.specs.History.{state};
 ghost use Rattle.office.specs.Registers.{AnswersBy, FailsAsARegister, FailsWithin, FailuresPersist, MeansTheSame};
 ghost use Rattle.office.specs.Registers.{Preserves, WhereMeant};
-ghost use Rattle.web.specs.Answers.{AsksNoChange, IsAnswered, IsNoMessage, Keeps, ListFits, resource_response};
+ghost use Rattle.web.specs.Answers.{AsksNoChange, IsAnswered, IsNoMessage, IsRefusal, Keeps, ListFits};
+ghost use Rattle.web.specs.Answers.{resource_response};
 ghost use Rattle.web.specs.Causes.{AsksPlainGet, FailsAfter, IsPlainGet, StopsAt};
 ghost use Rattle.web.specs.Forms.{HasForm, MayAnswer, MayShow};
 ghost use Rattle.web.specs.Requests.{request_ask};
@@ -106,9 +107,11 @@ pub(crate) fn answer_request<R: Registry>(
     ensures form { IfOk result (λ v. MayAnswer (request_ask request) v.items) }
     ensures fault { R.is_honest registry.new → OnErr result (MeansTheSame R.means registry.old registry.new) }
     ensures before { R.is_honest registry.new → R.is_open registry.new
-        → IfErr result (λ e. e ≢ StoreFault.Damaged → R.is_as_before registry.old registry.new) }
+        → OnErr result (R.is_as_before registry.old registry.new) }
     ensures reads { R.is_honest registry.new → R.is_open registry.new → IsNoMessage (request_ask request)
         → R.is_as_before registry.old registry.new }
+    ensures refused { R.is_honest registry.new → IfOk result (λ v. IsRefusal v.items
+        → R.is_open registry.new → R.is_as_before registry.old registry.new) }
     ensures cause { R.is_honest registry.new → (bytes : List ℕ) → Asks bytes (request_ask request) → IfErr result
         (λ e. HasRegisterCause e (StopsAt R.means R.fails R.stops bytes moment nonce.now registry.old registry.new)) }
     ensures plain { R.is_honest registry.new → IsPlainGet (request_ask request) → IfErr result (λ e. HasRegisterCause e
@@ -150,9 +153,11 @@ pub fn answer_by<R: Registry>(
         (R.means registry.new) (Keeps R.means R.is_open registry.new) request.now moment nonce.now v.items) }
     ensures fault { R.is_honest registry.new → OnErr result (MeansTheSame R.means registry.old registry.new) }
     ensures before { R.is_honest registry.new → R.is_open registry.new
-        → IfErr result (λ e. e ≢ StoreFault.Damaged → R.is_as_before registry.old registry.new) }
+        → OnErr result (R.is_as_before registry.old registry.new) }
     ensures reads { R.is_honest registry.new → R.is_open registry.new → AsksNoChange request.now
         → R.is_as_before registry.old registry.new }
+    ensures refused { R.is_honest registry.new → IfOk result (λ v. IsRefusal v.items
+        → R.is_open registry.new → R.is_as_before registry.old registry.new) }
     ensures cause { R.is_honest registry.new → IfErr result
         (λ e. HasRegisterCause e
         (StopsAt R.means R.fails R.stops request.now moment nonce.now registry.old registry.new)) }
@@ -191,12 +196,14 @@ pub fn answer<R: Registry>(
         (R.means registry.new) (Keeps R.means R.is_open registry.new) request.now moment nonce.now v.items) }
     ensures fault { R.is_honest registry.new → OnErr result (MeansTheSame R.means registry.old registry.new) }
 
-    // A request that is no message leaves the stored rows unchanged, whatever they mean. So does each fault except
-    // `Damaged`, which a register that means a history doesn't return.
+    // A request that is no message leaves the stored rows unchanged, whatever they mean. So does each fault, and each
+    // refusal.
     ensures before { R.is_honest registry.new → R.is_open registry.new
-        → IfErr result (λ e. e ≢ StoreFault.Damaged → R.is_as_before registry.old registry.new) }
+        → OnErr result (R.is_as_before registry.old registry.new) }
     ensures reads { R.is_honest registry.new → R.is_open registry.new → AsksNoChange request.now
         → R.is_as_before registry.old registry.new }
+    ensures refused { R.is_honest registry.new → IfOk result (λ v. IsRefusal v.items
+        → R.is_open registry.new → R.is_as_before registry.old registry.new) }
     ensures cause { R.is_honest registry.new → IfErr result
         (λ e. HasRegisterCause e
         (StopsAt R.means R.fails R.stops request.now moment nonce.now registry.old registry.new)) }

@@ -2,9 +2,9 @@
 
 ghost use Rattle.std.specs.Prelude.{◌≡◌, ℕ, List, IfOk, OnErr};
 ghost use Rattle.office.specs.Registers.{FailuresPersist, MeansTheSame};
-ghost use Rattle.web.specs.Answers.{AsksNoChange, IsAnswered, Keeps};
+ghost use Rattle.web.specs.Answers.{IsAnswered, Keeps};
 ghost use Rattle.web.specs.Forms.{HasForm, HaveForms};
-ghost use Rattle.web.specs.Runs.{AskNoChange, Serves};
+ghost use Rattle.web.specs.Runs.{AreGivenNoChange, AskNoChange, IsGivenNoChange, Serves};
 
 use crate::exchange::{Exchange, Given};
 use crate::request::answer_by;
@@ -26,7 +26,7 @@ fn given_by<R: Registry>(
         exchange.now.request exchange.now.moment exchange.now.nonce response
         × (R.is_open registry.old → R.is_open registry.new) }
     ensures fault { R.is_honest registry.new → result ≡ Given.Fault → MeansTheSame R.means registry.old registry.new }
-    ensures reads { R.is_honest registry.new → R.is_open registry.new → AsksNoChange exchange.now.request
+    ensures before { R.is_honest registry.new → R.is_open registry.new → IsGivenNoChange exchange.now result
         → R.is_as_before registry.old registry.new }
     ensures form { (response : List ℕ) → result ≡ Given.Answer response → HasForm exchange.now.request response }
 {
@@ -62,9 +62,12 @@ pub fn run<R: Registry>(
         (R.means registry.new) (Keeps R.means R.is_open registry.new) exchanges.now given.items) }
     ensures err { OnErr result (registry.new ≡ registry.old) }
 
-    // If no exchange is a message, the stored rows are unchanged, whatever they mean.
+    // The stored rows are unchanged, whatever they mean, if no exchange is a message, or if each message was refused or
+    // got a fault.
     ensures reads { R.is_honest registry.new → R.is_open registry.new → AskNoChange exchanges.now
         → R.is_as_before registry.old registry.new }
+    ensures before { R.is_honest registry.new → IfOk result (λ given. AreGivenNoChange exchanges.now given.items
+        → R.is_open registry.new → R.is_as_before registry.old registry.new) }
 
     // Whatever the register means, there is a result for each exchange, and a response has the form that its request
     // asks for.

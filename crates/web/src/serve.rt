@@ -9,7 +9,7 @@ ghost use Rattle.office.specs.Registers.{FailuresPersist, MeansTheSame};
 ghost use Rattle.web.specs.Causes.{StopsAt};
 ghost use Rattle.web.specs.Faults.{is_read, is_write, IfServed, IfUnserved};
 ghost use Rattle.web.specs.Nonces.{Draws, HasNonceCause};
-ghost use Rattle.web.specs.Served.{KeepsIfRead, LeavesRows, Served, Stopped};
+ghost use Rattle.web.specs.Served.{LeavesRows, Served, Stopped};
 
 use crate::request::answer_request;
 use crate::serve_fault::ServeFault;
@@ -42,7 +42,7 @@ pub fn serve_one<R: Source, W: Sink, S: Registry, N: Source>(
 
     // One request and one nonce were taken, and the response specified for them was written. If the request needed the
     // register, it is open and so preserves the history. Whatever the register means, the response has the form that
-    // the request asks for.
+    // the request asks for, and a request that is no message, or that is refused, leaves the stored rows unchanged.
     ensures ok { OnOk result ((x : Served (R.remaining reader.old) (R.remaining reader.new) (N.remaining nonces.old)
         (N.remaining nonces.new) moment S.Registry registry.old registry.new)
         × Appends (W.taken writer.old) (W.taken writer.new) x.response) }
@@ -52,13 +52,11 @@ pub fn serve_one<R: Source, W: Sink, S: Registry, N: Source>(
         (N.remaining nonces.old) (N.remaining nonces.new) moment S.Registry registry.old registry.new)
         × AppendsBeginning (W.taken writer.old) (W.taken writer.new) x.response }
 
-    // After any other fault nothing was written, and the register means what it meant.
+    // After any other fault nothing was written, the register means what it meant, and the stored rows are unchanged,
+    // whatever they mean.
     ensures unwritten { IfUnserved result (writer.new ≡ writer.old) }
     ensures unchanged { S.is_honest registry.new → IfUnserved result (MeansTheSame S.means registry.old registry.new) }
-
-    // A request that is no message leaves the stored rows unchanged, whatever they mean.
-    ensures reads { KeepsIfRead (R.remaining reader.old) (R.remaining reader.new)
-        (LeavesRows S.Registry registry.old registry.new) }
+    ensures before { IfUnserved result (LeavesRows S.Registry registry.old registry.new) }
 
     // The bytes drawn from the nonce source are the next ones, whatever the result of the call: a nonce, or nothing if
     // no request was read, or less if the source failed or ended.

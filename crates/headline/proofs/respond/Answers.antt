@@ -3,7 +3,7 @@ use Rattle.sqlite.specs.Held.{state}
 use Rattle.sqlite.specs.State.{HasCleanDisk}
 use Rattle.store.specs.Transactions.{FailuresStay, IsAsBefore}
 use Rattle.store.specs.Meaning.{Tells}
-use Rattle.headline.proofs.Failed.{caused_by_disk, unchanged}
+use Rattle.headline.proofs.Failed.{caused_by_disk, refused_unchanged, unchanged}
 use Rattle.headline.proofs.Listed.{responded}
 use Rattle.headline.proofs.Stored.{AreOpen, answers}
 use Rattle.headline.proofs.respond.Goals as goal
@@ -23,6 +23,13 @@ returns-clause-list g c honest asks =
 
 pub returns-clause-reads : goal.returns-clause-reads
 returns-clause-reads g c none honest is = (c.answer-response.ensures.reads honest is none).0
+
+pub returns-clause-refused : goal.returns-clause-refused
+returns-clause-refused g c =
+    let old = state g.S.Store c.args.store.now.conn in
+    let new = state g.S.Store c.answer-response.new.registry.conn in
+    refused_unchanged c.answer-response.result (HasCleanDisk new) (IsTrue new.is_open) (IsAsBefore old new)
+    (FailuresStay old new) c.answer-response.ensures.refused
 
 pub returns-clause-before : goal.returns-clause-before
 returns-clause-before g c =

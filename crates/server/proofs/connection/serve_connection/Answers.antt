@@ -12,7 +12,7 @@ returns-in-Err-served-clause-visit g c =
     let by = c.serve_one-served in
     failed_visit _ _ g.S.Registry g.L.Writer.Sink.taken _ _ _ _ _ by.new.writer c.args.store.now by.new.registry _ _ _ _
     c.in-Ok.ensures.lawful c.in-Ok.ensures.ok c.end.ensures _ by.result c.in-Err-served.is by.ensures.write
-    by.ensures.unwritten by.ensures.unchanged by.ensures.drawn by.ensures.reads
+    by.ensures.unwritten by.ensures.unchanged by.ensures.drawn by.ensures.before
 
 pub returns-in-Err-clause-visit : goal.returns-in-Err-clause-visit
 returns-in-Err-clause-visit g c = unaccepted_visit _ _ _ _ g.S.Registry _

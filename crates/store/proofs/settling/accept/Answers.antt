@@ -1,5 +1,6 @@
 use Rattle.store.proofs.Words.{Err, ExceedsTables, IsAccepted, IsAfter, IsDue, List, Ok, Outcome, RefusesDecision}
-use Rattle.store.proofs.Words.{Settles, contents_of, err_from_is_err_and, kept_at, state, state_at, subst, sym, ℕ}
+use Rattle.store.proofs.Words.{Settles, contents_of, err_from_is_err_and, kept_at, length, state, state_at, subst, sym}
+use Rattle.store.proofs.Words.{ℕ, ◌≤◌}
 use Rattle.office.specs.declared.arrival.Outcome.TheVariants as outcome
 use Rattle.store.proofs.Causes.{fails_weaker}
 use Rattle.store.proofs.Accepted.{is_due, settles_written, waits_written}
@@ -20,6 +21,7 @@ returns g c =
       fails = λ clean. tt;
       stays = part.stays;
       keeps = λ clean. tt;
+      short = subst (λ (x : List ℕ). length x ≤ 99) (sym c.in_ok-reply.ensures) c.requires.short;
       survives = waits_written a d cas old new part.survives;
     }
 
@@ -41,5 +43,6 @@ returns-in_err-write g c =
           (part.fault clean);
       stays = part.stays;
       keeps = λ clean. tt;
+      short = tt;
       survives = waits_written a d cas old new part.survives;
     })

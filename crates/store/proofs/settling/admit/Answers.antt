@@ -9,7 +9,7 @@ returns-then-arrival-gt-LATEST_MOMENT g c =
     let is = c.requires.read in
     let late : nat_lt LATEST_MOMENT a.moment ≡ true = lt-ltb _ _ c.if-arrival-gt-LATEST_MOMENT.true in
     settling_still (λ is_open. settles_refused a c.args.is_known (state g.S.Store c.args.conn.now) _ c.requires.nonce
-    is_open (λ p asked. rw (is, late) refl))
+    is_open (λ p asked. rw (is, late) refl)) tt
 
 pub returns-then-is_known : goal.returns-then-is_known
 returns-then-is_known g c =
@@ -17,7 +17,7 @@ returns-then-is_known g c =
     let is = c.requires.read in
     let in_time : nat_lt LATEST_MOMENT a.moment ≡ false = le-ltb _ _ c.if-arrival-gt-LATEST_MOMENT.false in
     settling_still (λ is_open. settles_refused a c.args.is_known (state g.S.Store c.args.conn.now) _ c.requires.nonce
-    is_open (λ p asked. rw (is, in_time, asked.known ∙ c.if-is_known.true) refl))
+    is_open (λ p asked. rw (is, in_time, asked.known ∙ c.if-is_known.true) refl)) tt
 
 pub returns : goal.returns
 returns g c =

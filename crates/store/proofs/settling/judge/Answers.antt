@@ -11,7 +11,7 @@ returns-in-Err-BadLine g c =
     (bad_line c.as_slice.result.now c.in-Err-BadLine.field-0 c.in-Err-BadLine.field-0-0 c.in-Err-BadLine.field-0-is
     c.in-Err-BadLine.ensures.exact) in
     settling_still (λ is_open. settles_refused a c.args.is_known (state g.S.Store c.args.conn.now) _ c.requires is_open
-    (λ p asked. rw is refl))
+    (λ p asked. rw is refl)) tt
 
 pub admit-outcome-requires-clause-read : goal.admit-outcome-requires-clause-read
 admit-outcome-requires-clause-read g c =

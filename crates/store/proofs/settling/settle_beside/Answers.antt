@@ -36,4 +36,4 @@ returns-then-is g c =
     ap (λ (x : List ℕ). bytes_eq k.bytes x) (sym c.as_slice.ensures) ∙ sym c.is.ensures.value ∙ c.if-is.true in
     settling_still (λ is_open. settles_still a (IsFound a c.args.found) (state g.S.Store c.args.conn.now)
     (outcome.Repeated k.reply) c.requires is_open (λ p history is. repeated_still a p k.reply history
-    (repeat_found a (kept_at p) k (apart_after p.0 p.1) (sym is ∙ c.in-Some.is) same)))
+    (repeat_found a (kept_at p) k (apart_after p.0 p.1) (sym is ∙ c.in-Some.is) same))) tt

@@ -1,6 +1,6 @@
 use Rattle.store.proofs.Words.{ExceedsTables, HasCleanDisk, IsAfter, IsAny, IsDueAnswer, Waits, arith, contents_with}
 use Rattle.store.proofs.Words.{state}
-use Rattle.store.proofs.Before.{concludes_before, concludes_unaccepted}
+use Rattle.store.proofs.Before.{concludes_short, concludes_unaccepted}
 use Rattle.store.proofs.Causes.{stops_for}
 use Rattle.store.proofs.Steps.{ends, left_due}
 use Rattle.store.proofs.taking.take.Goals as goal
@@ -28,10 +28,9 @@ returns-in-Ok g c =
           (Waits (IsAfter IsAny) first) old first last new started part.survives (early clean) (late clean)
           end.survives.counts r q (begins (early clean)) (part.settles (late clean) tt) (part.fails (late clean))
           (end.concludes clean) (end.cause clean);
-      before = λ clean. concludes_before old first last new r q (begins (early clean)) (part.stays (late clean))
-          (end.concludes clean);
-      unaccepted = λ clean. concludes_unaccepted old first last new r q (begins (early clean)) (part.keeps (late clean))
-          (end.concludes clean);
+      before = λ clean. concludes_unaccepted old first last new r q (begins (early clean)) (part.stays (late clean))
+          (part.keeps (late clean)) (end.concludes clean);
+      short = λ clean. concludes_short last new r q part.short (end.concludes clean);
       survives = left_due (IsAfter IsAny) (IsDueAnswer a) (contents_with a) old first last new r begins
           (λ clean. part.settles clean tt) started
           part.survives end.survives;

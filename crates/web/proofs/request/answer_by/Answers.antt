@@ -1,6 +1,6 @@
 use Rattle.web.proofs.Words.{Ask, Asks, request_ask, subst, sym}
 use Rattle.web.proofs.Formed.{asked_form}
-use Rattle.web.proofs.Shown.{always_err, is_no_message, is_plain_get}
+use Rattle.web.proofs.Shown.{always_ok, is_no_message, is_plain_get, on_err}
 use Rattle.web.proofs.request.answer_by.Goals as goal
 
 pub returns-clause-answered : goal.returns-clause-answered
@@ -17,10 +17,14 @@ returns-clause-cause g c honest =
 
 pub returns-in_err-request-clause-before : goal.returns-in_err-request-clause-before
 returns-in_err-request-clause-before g c honest is =
-    always_err c.from_residual.result _ (λ e differs. g.met.R.Registry.unasked c.args.registry.now)
+    on_err c.from_residual.result _ (g.met.R.Registry.unasked c.args.registry.now)
 
 pub returns-in_err-request-clause-reads : goal.returns-in_err-request-clause-reads
 returns-in_err-request-clause-reads g c honest is none = g.met.R.Registry.unasked c.args.registry.now
+
+pub returns-in_err-request-clause-refused : goal.returns-in_err-request-clause-refused
+returns-in_err-request-clause-refused g c honest =
+    always_ok c.from_residual.result _ (λ v refused is. g.met.R.Registry.unasked c.args.registry.now)
 
 pub returns-clause-reads : goal.returns-clause-reads
 returns-clause-reads g c honest is none =

@@ -1,5 +1,5 @@
 use Rattle.web.proofs.Words.{Keeps, arrival_by, inl, inr, refl}
-use Rattle.web.proofs.Shown.{always_err, cause_as, memory_cause, memory_only, not_pending}
+use Rattle.web.proofs.Shown.{always_ok, cause_as, memory_cause, memory_only, not_pending, on_err}
 use Rattle.web.proofs.Answered.{of_arrival, of_refusal, of_resource}
 use Rattle.web.proofs.request.answer_request.Goals as goal
 
@@ -46,14 +46,22 @@ returns-in-Post-clause-cause g c honest bytes asks =
 
 pub returns-in-Refused-clause-before : goal.returns-in-Refused-clause-before
 returns-in-Refused-clause-before g c honest is =
-    always_err c.to_refusal.result _ (λ e differs. g.met.R.Registry.unasked c.args.registry.now)
+    on_err c.to_refusal.result _ (g.met.R.Registry.unasked c.args.registry.now)
 
 pub returns-in-Refused-clause-reads : goal.returns-in-Refused-clause-reads
 returns-in-Refused-clause-reads g c honest is none = g.met.R.Registry.unasked c.args.registry.now
 
+pub returns-in-Refused-clause-refused : goal.returns-in-Refused-clause-refused
+returns-in-Refused-clause-refused g c honest =
+    always_ok c.to_refusal.result _ (λ v refused is. g.met.R.Registry.unasked c.args.registry.now)
+
+pub returns-in-Get-clause-refused : goal.returns-in-Get-clause-refused
+returns-in-Get-clause-refused g c honest =
+    always_ok c.to_resource.result _ (λ v refused is. c.to_resource.ensures.preserves.before honest is)
+
 pub returns-in-Get-clause-before : goal.returns-in-Get-clause-before
 returns-in-Get-clause-before g c honest is =
-    always_err c.to_resource.result _ (λ e differs. c.to_resource.ensures.preserves.before honest is)
+    on_err c.to_resource.result _ (c.to_resource.ensures.preserves.before honest is)
 
 pub returns-in-Post-clause-reads : goal.returns-in-Post-clause-reads
 returns-in-Post-clause-reads g c honest is none = absurd (rw c.in-Post.is at none)

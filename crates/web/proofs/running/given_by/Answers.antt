@@ -1,4 +1,5 @@
-use Rattle.web.proofs.Words.{Answer, AsksNoChange, IsAnswered, Keeps, List, subst, sym, ℕ, ◌∙◌, ◌≡◌}
+use Rattle.web.proofs.Words.{Answer, AsksNoChange, IsAnswered, Keeps, List, inl, inr, subst, sym, ℕ, ◌∙◌, ◌≡◌}
+use Rattle.web.specs.Answers.{IsRefusal}
 use Rattle.web.specs.Forms.{HasForm}
 use Rattle.web.proofs.running.given_by.Goals as goal
 
@@ -19,13 +20,16 @@ returns-in-Ok-clause-answered g c honest response is =
       c.in-Ok.ensures.stays_open honest,
     )
 
-pub returns-in-Ok-clause-reads : goal.returns-in-Ok-clause-reads
-returns-in-Ok-clause-reads g c honest is none =
-    c.answer_by-answered.ensures.reads honest is (subst (λ (request : List ℕ). AsksNoChange request) (sym c.as_slice-request.ensures) none)
+pub returns-in-Ok-clause-before : goal.returns-in-Ok-clause-before
+returns-in-Ok-clause-before g c honest is none = elim none [
+  | inl asked ↦ c.answer_by-answered.ensures.reads honest is
+      (subst (λ (request : List ℕ). AsksNoChange request) (sym c.as_slice-request.ensures) asked)
+  | inr refused ↦ c.in-Ok.ensures.refused honest
+      (subst (λ (text : List ℕ). IsRefusal text) c.from_vec.ensures refused) is
+]
 
-pub returns-in-Err-clause-reads : goal.returns-in-Err-clause-reads
-returns-in-Err-clause-reads g c honest is none =
-    c.answer_by-answered.ensures.reads honest is (subst (λ (request : List ℕ). AsksNoChange request) (sym c.as_slice-request.ensures) none)
+pub returns-in-Err-clause-before : goal.returns-in-Err-clause-before
+returns-in-Err-clause-before g c honest is none = c.in-Err.ensures.before honest is
 
 pub returns-in-Ok-clause-form : goal.returns-in-Ok-clause-form
 returns-in-Ok-clause-form g c response is =

@@ -2,7 +2,7 @@ use Rattle.web.proofs.Words.{inl, inr, request_ask, subst}
 use Rattle.std.specs.Io.KnownBytes.{Appends}
 use Rattle.wire.specs.Streams.{AppendsBeginning}
 use Rattle.web.proofs.Shown.{is_no_message}
-use Rattle.web.proofs.Stores.{cause_of_store}
+use Rattle.web.proofs.Stores.{cause_of_store, if_unserved}
 use Rattle.web.proofs.serve.serve_one.Goals as goal
 
 pub returns-in-Ok-clause-ok : goal.returns-in-Ok-clause-ok
@@ -20,8 +20,11 @@ returns-in-Ok-clause-ok g c =
         nonce_size = c.in_ok-nonce.ensures.size;
         answered = λ honest. c.in_ok-response.ensures.answered honest taken.bytes taken.asks;
         form = (request_ask c.in_ok-request.request, taken.asks, c.in_ok-response.ensures.form);
-        reads = λ none honest is. c.answer_request.ensures.reads honest is
-            (is_no_message taken.bytes (request_ask c.in_ok-request.request) taken.asks none);
+        reads = λ none honest is. elim none [
+          | inl asked ↦ c.answer_request.ensures.reads honest is
+              (is_no_message taken.bytes (request_ask c.in_ok-request.request) taken.asks asked)
+          | inr refused ↦ c.in_ok-response.ensures.refused honest refused is
+        ];
       },
       sent,
     )
@@ -41,8 +44,11 @@ returns-clause-write g c _ =
         nonce_size = c.in_ok-nonce.ensures.size;
         answered = λ honest. c.in_ok-response.ensures.answered honest taken.bytes taken.asks;
         form = (request_ask c.in_ok-request.request, taken.asks, c.in_ok-response.ensures.form);
-        reads = λ none honest is. c.answer_request.ensures.reads honest is
-            (is_no_message taken.bytes (request_ask c.in_ok-request.request) taken.asks none);
+        reads = λ none honest is. elim none [
+          | inl asked ↦ c.answer_request.ensures.reads honest is
+              (is_no_message taken.bytes (request_ask c.in_ok-request.request) taken.asks asked)
+          | inr refused ↦ c.in_ok-response.ensures.refused honest refused is
+        ];
       },
       sent,
     )
@@ -61,41 +67,14 @@ returns-in_err-response-clause-store g c honest store o l means =
           (c.in_err-response.ensures.cause honest taken.bytes taken.asks);
     }
 
-pub returns-in-Ok-clause-reads : goal.returns-in-Ok-clause-reads
-returns-in-Ok-clause-reads g c =
-    let taken = c.in_ok-request.ensures.taken in
-    inr (record {
-      request = taken.bytes;
-      taken = taken.consumed;
-      one = taken.one;
-      reads = λ none honest is. c.answer_request.ensures.reads honest is
-          (is_no_message taken.bytes (request_ask c.in_ok-request.request) taken.asks none);
-    })
+pub returns-in_err-response-clause-before : goal.returns-in_err-response-clause-before
+returns-in_err-response-clause-before g c =
+    if_unserved c.from_residual-in_err-response.result _ (λ honest is. c.in_err-response.ensures.before honest is)
 
-pub returns-clause-reads : goal.returns-clause-reads
-returns-clause-reads g c =
-    let taken = c.in_ok-request.ensures.taken in
-    inr (record {
-      request = taken.bytes;
-      taken = taken.consumed;
-      one = taken.one;
-      reads = λ none honest is. c.answer_request.ensures.reads honest is
-          (is_no_message taken.bytes (request_ask c.in_ok-request.request) taken.asks none);
-    })
+pub returns-in_err-request-clause-before : goal.returns-in_err-request-clause-before
+returns-in_err-request-clause-before g c =
+    if_unserved c.from_residual.result _ (λ honest is. g.met.S.Registry.unasked c.args.registry.now)
 
-pub returns-in_err-response-clause-reads : goal.returns-in_err-response-clause-reads
-returns-in_err-response-clause-reads g c =
-    let taken = c.in_ok-request.ensures.taken in
-    inr (record {
-      request = taken.bytes;
-      taken = taken.consumed;
-      one = taken.one;
-      reads = λ none honest is. c.answer_request.ensures.reads honest is
-          (is_no_message taken.bytes (request_ask c.in_ok-request.request) taken.asks none);
-    })
-
-pub returns-in_err-request-clause-reads : goal.returns-in_err-request-clause-reads
-returns-in_err-request-clause-reads g c = inl (λ honest is. g.met.S.Registry.unasked c.args.registry.now)
-
-pub returns-in_err-nonce-clause-reads : goal.returns-in_err-nonce-clause-reads
-returns-in_err-nonce-clause-reads g c = inl (λ honest is. g.met.S.Registry.unasked c.args.registry.now)
+pub returns-in_err-nonce-clause-before : goal.returns-in_err-nonce-clause-before
+returns-in_err-nonce-clause-before g c =
+    if_unserved c.from_residual-in_err-nonce.result _ (λ honest is. g.met.S.Registry.unasked c.args.registry.now)

@@ -28,3 +28,6 @@ returns-in_ok-accept-in-Ok-clause-next c honest o l m =
     let kept : t.kept ≡ c.as_slice.result.now = sym (c.as_slice.ensures.value ∙ ap (λ (x : MemoryContents). x.kept) c.self.view_is) in
     let first : reply_kept t.kept a ≡ None = ap (λ (ks : List Kept). reply_kept ks a) kept ∙ sym c.kept_reply.ensures ∙ ap option_copied c.in_default.is in
     (accepted t c.accept.new.self o l a c.in-Ok.decision _ first refl (omega (arith, c.in-Ok.ensures.version)) c.in-Ok.ensures.judges c.in_ok-accept-in-Ok.ensures.ok m).1
+
+pub returns-in_ok-accept-in-Ok-clause-short : goal.returns-in_ok-accept-in-Ok-clause-short
+returns-in_ok-accept-in-Ok-clause-short c honest = rw c.in_ok-accept-in-Ok.ensures.reply c.in-Ok.ensures.short

@@ -6,6 +6,6 @@ pub returns : goal.returns
 returns g c =
     let q = c.take.ensures in
     let t = applied c.args.arrival (state g.S.Store c.args.self.now.conn) (state g.S.Store c.take.new.conn)
-    c.take.result c.told.result c.told.ensures q.ends q.cause q.before q.survives
+    c.take.result c.told.result c.told.ensures q.ends q.cause q.before q.short q.survives
     (g.met.S.Store.settled c.take.new.conn.store) in
     assumption t
