@@ -295,6 +295,7 @@ DAMAGES = {
     "runs that touch": "INSERT INTO run VALUES (7, 7), (8, 8)",
     "a department of no kind": "UPDATE department SET kind = 3 WHERE name = 'web'",
     "no certificate": "DELETE FROM cert",
+    "a reply of 100 bytes": "UPDATE request SET reply = printf('%.100c', 'a')",
 }
 
 
@@ -306,6 +307,13 @@ def test_damaged_tables_stay_as_they_are_unless_a_message_is_accepted(filled, da
     by_another = ISSUES[0].replace(b"callers/ana", b"callers/bob")
     given = said(filled, ISSUES[0], by_another, post("ana", "a", revoke_serial(7)), get("/v1/table"))
     assert before == sql(filled.db, ".dump"), given
+
+
+def test_a_stored_reply_longer_than_any_of_an_office_is_a_fault(filled):
+    sql(filled.db, "UPDATE request SET reply = printf('%.100c', 'a')")
+    assert ["fault"] == said(filled, ISSUES[0])
+    sql(filled.db, "UPDATE request SET reply = printf('%.99c', 'a')")
+    assert ["a" * 99] == said(filled, ISSUES[0])
 
 
 def test_without_its_row_it_is_no_office(filled):
