@@ -1050,6 +1050,8 @@ def test_a_station_goes_on(asked, programs, room):
     asked.guard.permit(department("web", principals="alice,bob", extensions="permit-pty"))
     assert [b"signed 1\n", b"signed 3\n", b"signed 2\n"] == [process.stdout.readline() for _ in range(3)]
     assert 200 == asked.get("/v1/certs/2").status
+    # Between its line and its note that nothing is under way it would rather say that a signature may have been sent.
+    time.sleep(1)
     said = ["station: not signed: 1, refused as NotPermitted: 2"]
     assert (0, [], said) == stopped(process)
 
