@@ -1,5 +1,5 @@
 -- Departments from rows.
-use Rattle.std.specs.Prelude.{ℕ, ◌==◌, List, [], ◌∷◌, if◌then◌else◌, Option, Some, None}
+use Rattle.std.specs.Prelude.{ℕ, ◌==◌, ◌≡◌, List, [], ◌∷◌, if◌then◌else◌, Option, Some, None, Result, Ok, Err}
 use Rattle.std.specs.List.{slice_split}
 use Rattle.std.specs.Option.{option_and_then}
 use Rattle.values.specs.declared.kind.Kind.{Kind}
@@ -7,6 +7,8 @@ use Rattle.message.specs.declared.department.Department.{Department}
 use Rattle.message.specs.Values.{is_department}
 use Rattle.store_sql.specs.declared.departments.DepartmentRow.{DepartmentRow}
 use Rattle.cert.specs.Reading.{kind_of}
+use Rattle.store.specs.declared.rows.department_rows.RowFault.{RowFault}
+use Rattle.store.specs.declared.rows.department_rows.RowFault.TheVariants.{Damaged, NoMemory}
 
 -- the texts between commas; none if there are no bytes
 abbrev pub parted : List ℕ → List (List ℕ)
@@ -31,3 +33,9 @@ if_lawful d = if is_department d then Some d else None
 -- the valid department of a row, if there is one
 abbrev pub department_of_row : DepartmentRow → Option Department
 department_of_row row = option_and_then (λ kind. if_lawful (parts_of row kind)) (kind_of row.kind)
+
+-- the valid department of a row is read, or memory is refused; a row without one is reported as damaged
+abbrev pub IsOfRow : DepartmentRow → Result Department RowFault → Type 0
+IsOfRow row (Ok d) = department_of_row row ≡ Some d
+IsOfRow row (Err NoMemory) = Unit {0}
+IsOfRow row (Err Damaged) = department_of_row row ≡ None

@@ -25,8 +25,10 @@ pub use crashes::{a_crash_leaves_the_history, what_is_open_is_stored};
 pub use krl::{CaPart, KrlHead, Run, Runs};
 pub use message::Department;
 pub use office::{
-    Arrival, Ca, Entry, Issued, Opening, OpeningFault, Outcome, Pending, Registry, Revoked,
-    Standing, StoreFault,
+    Arrival, Ca, Certificate, Issued, Opening, OpeningFault, Outcome, Pending, Registry,
+    Revocations, Revoked, StoreFault,
 };
 pub use register::Store;
+pub use rows::{RowFault, department_row, read_department_row};
+pub use store_sql::DepartmentRow;
 pub use values::{Kind, Refusal, is_name};

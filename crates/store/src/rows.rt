@@ -18,7 +18,7 @@ mod transaction;
 pub use cas::read_cas;
 pub use cert_rows::read_certificate;
 pub use certificate_rows::read_certificates;
-pub use department_rows::{department_row, read_department};
+pub use department_rows::{RowFault, department_row, read_department, read_department_row};
 pub use departments::read_departments;
 pub use key_ids::read_key_ids;
 pub use numbers::number;

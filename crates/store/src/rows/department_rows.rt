@@ -9,6 +9,7 @@ ghost use Rattle.cert.specs.Bodies.{kind_number};
 ghost use Rattle.lines.specs.Signers.{list_text};
 ghost use Rattle.store.specs.Rows.{department_row};
 ghost use Rattle.store.specs.Reading.{IsRead};
+ghost use Rattle.store.specs.Departments.{IsOfRow};
 ghost use Rattle.cert.specs.Reading.{kind_of};
 ghost use Rattle.store.specs.Departments.{department_of_row, if_lawful, parted, parts_of};
 
@@ -21,6 +22,15 @@ use std::alloc::Global;
 use store_sql::{DepartmentRow, Fault, Number};
 use text::{NoMemory, Text, Texts, both, cut};
 use values::{Kind, LONGEST_LIFE, is_name};
+
+/// Why a row of the table of departments wasn't read.
+#[derive(Clone, Copy, Debug, PartialEq, Eq)]
+pub enum RowFault {
+    /// It isn't the row of a valid department.
+    Damaged,
+    /// An allocation was refused.
+    NoMemory,
+}
 
 /// The texts joined by commas.
 fn joined(alloc: Global, texts: &[Text]) -> Result<Text, NoMemory>
@@ -187,4 +197,22 @@ pub fn read_department(alloc: Global, row: &DepartmentRow) -> Result<Department,
         → IsRead (Some d) result }
 {
     lawful_in(alloc, row)
+}
+
+/// The valid department of a row.
+///
+/// # Errors
+///
+/// `Damaged` if the row isn't that of a valid department, `NoMemory` if an allocation was refused.
+pub fn read_department_row(alloc: Global, row: &DepartmentRow) -> Result<Department, RowFault>
+    ensures exact { IsOfRow row.now result }
+
+    // The department is valid, and its row is this one.
+    ensures found { IfOk result (λ d. IsTrue (is_department d) × (row.now ≡ department_row d)) }
+{
+    match read_department(alloc, row) {
+        Ok(department) => Ok(department),
+        Err(Fault::NoMemory) => Err(RowFault::NoMemory),
+        Err(Fault::Damaged | Fault::Device) => Err(RowFault::Damaged),
+    }
 }
