@@ -8,8 +8,6 @@ use Rattle.office.specs.declared.opening.Opening.{Opening as Begun}
 use Rattle.office.specs.declared.opening.OpeningFault.{OpeningFault}
 use Rattle.office.specs.declared.store_fault.StoreFault.{StoreFault}
 use Rattle.office.specs.declared.store_fault.StoreFault.TheVariants as store
-use Rattle.server.specs.declared.connection_fault.ListenFault.{ListenFault}
-use Rattle.server.specs.declared.connection_fault.ListenFault.TheVariants as listening
 use Rattle.server.specs.declared.connection_fault.SelftestFault.{SelftestFault}
 use Rattle.server.specs.declared.connection_fault.SelftestFault.TheVariants as selftest
 use Rattle.exchanges.specs.declared.exchange_reader.ExchangesFault.{ExchangesFault}
@@ -60,11 +58,6 @@ of_publishing publish.Write = Write
 abbrev pub publish_result : Result (Unit {0}) PublishFault → Result (Unit {0}) JobFault
 publish_result (Ok done) = Ok done
 publish_result (Err fault) = Err (of_publishing fault)
-
--- for a listener that couldn't be made, or whose port couldn't be printed
-abbrev pub of_listening : ListenFault → JobFault
-of_listening listening.Socket = Socket
-of_listening listening.Write = Write
 
 -- for an office that didn't pass its own test
 abbrev pub of_selftest : SelftestFault → JobFault

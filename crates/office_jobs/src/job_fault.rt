@@ -7,7 +7,7 @@ use headline::PublishFault;
 use krl::KrlFault;
 use lines::LineFault;
 use office::{OpeningFault, StoreFault};
-use server::{ListenFault, SelftestFault};
+use server::SelftestFault;
 
 /// Why a job was not done. It is printed as its name (`specs/Names`).
 #[derive(Clone, Copy, Debug, PartialEq, Eq)]
@@ -153,20 +153,6 @@ impl From<KrlFault> for JobFault {
 
     fn from(fault: KrlFault) -> JobFault {
         JobFault::List(fault)
-    }
-}
-
-impl From<ListenFault> for JobFault {
-    ghost use Rattle.std.specs.Prelude.{◌≡◌};
-    ghost use Rattle.office_jobs.specs.Faults.{of_listening};
-
-    ghost from_gives = { λ fault e. e ≡ of_listening fault };
-
-    fn from(fault: ListenFault) -> JobFault {
-        match fault {
-            ListenFault::Socket => JobFault::Socket,
-            ListenFault::Write => JobFault::Write,
-        }
     }
 }
 

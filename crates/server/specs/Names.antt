@@ -5,8 +5,6 @@ use Rattle.web.specs.declared.serve_fault.ServeFault.{ServeFault}
 use Rattle.web.specs.declared.serve_fault.ServeFault.TheVariants as serve
 use Rattle.server.specs.declared.connection_fault.Fault.{Fault}
 use Rattle.server.specs.declared.connection_fault.Fault.TheVariants.{Socket, Clock, Serving}
-use Rattle.server.specs.declared.connection_fault.ListenFault.{ListenFault}
-use Rattle.server.specs.declared.connection_fault.ListenFault.TheVariants as listen
 use Rattle.server.specs.declared.connection_fault.SelftestFault.{SelftestFault}
 use Rattle.server.specs.declared.connection_fault.SelftestFault.TheVariants.{Unserved, Mismatch}
 
@@ -21,10 +19,6 @@ abbrev pub fault_name : Fault → List ℕ
 fault_name Socket = codes "Socket"
 fault_name Clock = codes "Clock"
 fault_name (Serving fault) = serve_fault_name fault
-
-abbrev pub listen_fault_name : ListenFault → List ℕ
-listen_fault_name listen.Socket = codes "Socket"
-listen_fault_name listen.Write = codes "Write"
 
 abbrev pub selftest_fault_name : SelftestFault → List ℕ
 selftest_fault_name (Unserved fault) = fault_name fault

@@ -1,7 +1,7 @@
 //! The faults of a server. Each is printed as its name.
 
 ghost use Rattle.std.specs.Prelude.{◌≡◌, Some};
-ghost use Rattle.server.specs.Names.{fault_name, listen_fault_name, selftest_fault_name};
+ghost use Rattle.server.specs.Names.{fault_name, selftest_fault_name};
 
 use std::fmt;
 use web::ServeFault;
@@ -36,35 +36,6 @@ impl Fault {
 
 impl fmt::Display for Fault {
     ghost output = { λ fault. Some (fault_name fault) };
-
-    fn fmt<W: fmt::Write>(&self, f: &mut fmt::Formatter<W>) -> fmt::Result {
-        f.write_str(self.name())
-    }
-}
-
-/// Why a server doesn't listen.
-#[derive(Clone, Copy, Debug, PartialEq, Eq)]
-pub enum ListenFault {
-    /// No listener could be made at the port.
-    Socket,
-    /// The port couldn't be printed.
-    Write,
-}
-
-impl ListenFault {
-    /// The fault's name.
-    pub fn name(self) -> &'static str
-        ensures { result.now ≡ listen_fault_name self }
-    {
-        match self {
-            ListenFault::Socket => "Socket",
-            ListenFault::Write => "Write",
-        }
-    }
-}
-
-impl fmt::Display for ListenFault {
-    ghost output = { λ fault. Some (listen_fault_name fault) };
 
     fn fmt<W: fmt::Write>(&self, f: &mut fmt::Formatter<W>) -> fmt::Result {
         f.write_str(self.name())

@@ -11,7 +11,6 @@ mod closing;
 mod connection;
 mod connection_fault;
 mod listener;
-mod listening;
 mod loopback;
 mod own_client;
 mod patience;
@@ -21,9 +20,8 @@ mod serve;
 mod timed;
 mod watch;
 
-pub use connection_fault::{Fault, ListenFault, SelftestFault};
+pub use connection_fault::{Fault, SelftestFault};
 pub use listener::{Connection, Listener};
-pub use listening::listen;
 pub use loopback::Loopback;
 pub use own_client::selftest;
 pub use patience::{CONNECTION_SECONDS, STEP_SECONDS};

@@ -7,13 +7,13 @@ ghost use Rattle.server.specs.Connections.{Extends};
 use crate::connection::serve_connection;
 use crate::connection_fault::{Fault, SelftestFault};
 use crate::listener::Listener;
-use crate::listening::bind;
 use crate::loopback::Loopback;
 use crate::patience::STEP_SECONDS;
 use http_requests::Routes;
 use office::Registry;
+use std::io;
 use std::io::Write;
-use std::net::{Net, TcpListener, TcpStream};
+use std::net::{Ipv4Addr, Net, SocketAddr, SocketAddrV4, TcpListener, TcpStream};
 use std::time::{Clock, Duration};
 use web::ServeFault;
 use wire::{FromRead, read_full};
@@ -28,11 +28,17 @@ SSHKRL\n\0\0\0\0\x01\0\0\0\0\0\0\0\0\0\0\0\0\0\0\0\0\0\0\0\0\0\0\0\0\0\0\0\0\0\0
 /// A GET draws a nonce and discards it.
 const NONCE: &[u8] = &[0x33; 32];
 
+// A listener on 127.0.0.1, at a port that the system chooses.
+fn bind<R: Net<Listener = TcpListener, Stream = TcpStream>>(rt: &R) -> io::Result<TcpListener> {
+    let address = SocketAddrV4::new(Ipv4Addr::LOCALHOST, 0);
+    TcpListener::bind(rt, SocketAddr::V4(address))
+}
+
 // Connects a client to the listener and sends the request.
 fn ask<R: Net<Listener = TcpListener, Stream = TcpStream>>(
     rt: &R,
     listener: &TcpListener,
-) -> std::io::Result<TcpStream> {
+) -> io::Result<TcpStream> {
     let mut client = TcpStream::connect(rt, listener.local_addr()?)?;
     client.set_read_timeout(Some(Duration::from_secs(STEP_SECONDS)))?;
     client.write_all(REQUEST)?;
@@ -78,7 +84,7 @@ pub fn selftest<
     ensures failures { FailuresPersist S.is_honest S.is_open store.old store.new }
     ensures served { S.is_honest store.new → Extends 1 (S.means store.old) (S.means store.new) }
 {
-    let Ok(listener) = bind(rt, 0) else {
+    let Ok(listener) = bind(rt) else {
         return Err(SelftestFault::Unserved(Fault::Socket));
     };
     let Ok(client) = ask(rt, &listener) else {
