@@ -14,8 +14,6 @@ mod ending;
 mod laws;
 mod open_fault;
 mod opening;
-#[cfg(test)]
-mod tests;
 
 pub use closing::{close_at, close_path, store_of};
 pub use ending::{EndFault, end_at};

@@ -5,9 +5,13 @@
 #![tactic(auto)]
 
 #[cfg(test)]
+mod of_endings;
+#[cfg(test)]
 mod of_failures;
 #[cfg(test)]
 mod of_jobs;
+#[cfg(test)]
+mod of_rows;
 #[cfg(test)]
 mod running;
 #[cfg(test)]

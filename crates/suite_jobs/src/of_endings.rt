@@ -1,6 +1,6 @@
-//! What only calls can show: that a connection closes cleanly if memory and the disk suffice.
+//! The end of a connection: it closes cleanly if memory and the disk suffice.
 
-use crate::{EndFault, end_at};
+use restart::{EndFault, end_at};
 use sqlite::{Connection, FileStore, Files, Options};
 use sqlite_disk::{Disk, Fuse, Memory};
 use std::alloc::Global;
