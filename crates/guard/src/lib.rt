@@ -20,8 +20,6 @@ mod refusal;
 mod register;
 mod retiring;
 mod scope;
-#[cfg(test)]
-mod tests;
 mod verdict;
 
 pub use answer_line::put_answer;

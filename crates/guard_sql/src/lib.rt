@@ -23,8 +23,6 @@ mod rows;
 mod serving;
 mod sql;
 mod store;
-#[cfg(test)]
-mod tests;
 mod transaction;
 
 pub use laws::a_serial_has_one_body;

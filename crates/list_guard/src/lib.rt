@@ -13,8 +13,6 @@ mod memory;
 mod refusal;
 mod register;
 mod statement;
-#[cfg(test)]
-mod tests;
 mod verdict;
 
 pub use judging::{Answer, judge_list};

@@ -22,8 +22,6 @@ mod register;
 mod serving;
 mod sql;
 mod store;
-#[cfg(test)]
-mod tests;
 mod transaction;
 
 pub use opening_fault::OpeningFault;

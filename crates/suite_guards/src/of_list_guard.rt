@@ -1,10 +1,10 @@
-//! Tests of what isn't proved: that calls answer if memory suffices.
+//! `list_guard`: what isn't proved, that calls answer if memory suffices.
 //!
 //! The lists have the format of `docs/FORMATS.md`, and their digests were computed by `sha256sum`.
 
 ghost use Rattle.std.specs.Prelude.{◌<◌};
 
-use crate::{Answer, MemoryListGuard, Refusal, judge_list, put_answer};
+use list_guard::{Answer, MemoryListGuard, Refusal, judge_list, put_answer};
 use std::alloc::Global;
 use text::Text;
 

@@ -1,7 +1,7 @@
-//! What only calls can show: that they succeed if memory and the disk suffice.
+//! `guard_sql`: what only calls can show, that they succeed if memory and the disk suffice.
 
-use crate::GuardStore;
 use guard::{Approved, Register, RegisterFault, Scope};
+use guard_sql::GuardStore;
 use sqlite::{Connection, MemStore};
 use std::alloc::Global;
 use text::Text;

@@ -1,7 +1,7 @@
-//! Tests of what isn't proved: that calls answer if memory and the disk suffice.
+//! `list_sql`: what isn't proved, that calls answer if memory and the disk suffice.
 
-use crate::ListStore;
 use list_guard::{ListRegister, RegisterFault};
+use list_sql::ListStore;
 use sqlite::{Connection, MemStore};
 use std::alloc::Global;
 use text::Text;

@@ -1,13 +1,13 @@
-//! What only calls can show: that they return a result if there is enough memory.
+//! `guard`: what only calls can show, that they return a result if there is enough memory.
 //!
 //! The unsigned certificate (body) has the form in `docs/FORMATS.md`: key bytes 0x22, nonce bytes 0x33, CA bytes 0x11;
 //! serial 1, a user, key id web/alice, principal alice, from 1000 to 2000.
 
-use crate::{
+use cert::CertFault;
+use guard::{
     Answer, BodyFault, MemoryGuard, Policy, PolicyFault, Refusal, Register, Scope, Verdict, View,
     Window, decide, fields_of, judge, put_answer,
 };
-use cert::CertFault;
 use std::alloc::Global;
 use text::Text;
 
