@@ -1,10 +1,9 @@
 //! The loop of the loopback server: connections in succession, one request on each.
 //!
-//! `listen` makes the system's listener, and `serve_on` serves a given number of connections of a `Listener`: the
-//! system's as a `Loopback`, or one in memory as a `ScriptedListener`. `selftest` listens and serves with itself as the
-//! client. The fault of a connection is printed, and the next one is served. A peer that sends nothing, or a little at
-//! a time, can't hold up the office for long: each read and each write waits at most ten seconds, and a connection
-//! takes at most a minute.
+//! `serve_on` serves a given number of connections of a `Listener`: the system's as a `Loopback`, or one in memory as a
+//! `ScriptedListener`. `selftest` listens and serves with itself as the client. The fault of a connection is printed,
+//! and the next one is served. A peer that sends nothing, or a little at a time, can't hold up the office for long: each
+//! read and each write waits at most ten seconds, and a connection takes at most a minute.
 #![tactic(auto)]
 
 mod closing;
