@@ -34,8 +34,8 @@ if_lawful d = if is_department d then Some d else None
 abbrev pub department_of_row : DepartmentRow → Option Department
 department_of_row row = option_and_then (λ kind. if_lawful (parts_of row kind)) (kind_of row.kind)
 
--- the valid department of a row is read, or memory is refused; a row without one is reported as damaged
-abbrev pub IsOfRow : DepartmentRow → Result Department RowFault → Type 0
-IsOfRow row (Ok d) = department_of_row row ≡ Some d
-IsOfRow row (Err NoMemory) = Unit {0}
-IsOfRow row (Err Damaged) = department_of_row row ≡ None
+-- this department is read, or memory is refused; if there is none, the row is reported as damaged
+abbrev pub IsReadOrDamaged : Option Department → Result Department RowFault → Type 0
+IsReadOrDamaged department (Ok d) = department ≡ Some d
+IsReadOrDamaged department (Err NoMemory) = Unit {0}
+IsReadOrDamaged department (Err Damaged) = department ≡ None

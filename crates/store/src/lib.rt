@@ -30,5 +30,6 @@ pub use office::{
 };
 pub use register::Store;
 pub use rows::{RowFault, department_row, read_department_row};
-pub use store_sql::DepartmentRow;
+pub use store_sql::{DepartmentRow, Number};
+pub use text::{NoMemory, Text};
 pub use values::{Kind, Refusal, is_name};

@@ -2,9 +2,7 @@
 
 use std::alloc::{Alloc, Global};
 use std::test::Fail;
-use store::{DepartmentRow, RowFault, department_row, read_department_row};
-use store_sql::Number;
-use text::Text;
+use store::{DepartmentRow, Number, RowFault, Text, department_row, read_department_row};
 
 // The row of a department, with this number for its kind.
 fn row_of_kind(alloc: Global, kind: u64) -> Result<DepartmentRow, Fail> {

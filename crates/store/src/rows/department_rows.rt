@@ -9,7 +9,7 @@ ghost use Rattle.cert.specs.Bodies.{kind_number};
 ghost use Rattle.lines.specs.Signers.{list_text};
 ghost use Rattle.store.specs.Rows.{department_row};
 ghost use Rattle.store.specs.Reading.{IsRead};
-ghost use Rattle.store.specs.Departments.{IsOfRow};
+ghost use Rattle.store.specs.Departments.{IsReadOrDamaged};
 ghost use Rattle.cert.specs.Reading.{kind_of};
 ghost use Rattle.store.specs.Departments.{department_of_row, if_lawful, parted, parts_of};
 
@@ -205,10 +205,14 @@ pub fn read_department(alloc: Global, row: &DepartmentRow) -> Result<Department,
 ///
 /// `Damaged` if the row isn't that of a valid department, `NoMemory` if an allocation was refused.
 pub fn read_department_row(alloc: Global, row: &DepartmentRow) -> Result<Department, RowFault>
-    ensures exact { IsOfRow row.now result }
+    ensures exact { IsReadOrDamaged (department_of_row row.now) result }
 
     // The department is valid, and its row is this one.
     ensures found { IfOk result (λ d. IsTrue (is_department d) × (row.now ≡ department_row d)) }
+
+    // The row of a valid department isn't damaged.
+    ensures again { (d : Department) → IsTrue (is_department d) → row.now ≡ department_row d
+        → IsReadOrDamaged (Some d) result }
 {
     match read_department(alloc, row) {
         Ok(department) => Ok(department),
