@@ -3,12 +3,11 @@ use Rattle.std.proofs.Common.{List, [], ◌∷◌, ◌++◌, None, inl, refl, sy
 use Rattle.std.proofs.Math.Logic.{∥∥₁_elim, ∥∥₁_map}
 use Rattle.sqlite_wal.specs.Recovery.{Image}
 use Rattle.restart.specs.Images.{Holds, Standing}
-use Rattle.restart.specs.Lives.{AreDue, Asked, End, Follow, IsRun, Life, LivesAreDue, Run, RunsGoOn}
+use Rattle.restart.specs.Lives.{AreDue, Asked, End, Follow, IsRun, Life, LivesAreDue, Run, RunsAreDue, RunsGoOn}
 use Rattle.restart.specs.Runs.{AreRuns, RunsOn}
 
 -- each run is as specified, from the status in the first files to the status in the last
-runs_due : (runs : List Run) (first last : Image) → Follow first runs last → (before : Standing) → Holds first before
-    → ∥ ((after : Standing) × AreDue before runs after × Holds last after) ∥₁
+pub runs_due : RunsAreDue
 runs_due [] first last same before holds =
     ∣ (before, refl, subst (λ (image : Image). Holds image before) (sym same) holds) ∣₁
 runs_due (run ∷ runs) first last follow before holds =

@@ -78,6 +78,13 @@ pub record Life (runs : List Run) (last : Image) : Type 0 where
 abbrev pub LivesAreDue : Type 0
 LivesAreDue = (runs : List Run) (last : Image) → Life runs last → ∥ ((after : Standing) × AreDue None runs after) ∥₁
 
+-- Runs on files that hold any status, whoever made these files, are as specified from it on. The files that the last of
+-- them left hold the status after them.
+abbrev pub RunsAreDue : Type 0
+RunsAreDue = (runs : List Run) (first last : Image) → Follow first runs last
+    → (before : Standing) → Holds first before
+    → ∥ ((after : Standing) × AreDue before runs after × Holds last after) ∥₁
+
 -- A run after any lifetime is as specified, too, and the lifetime goes on with it.
 abbrev pub GoesOn : Run → Type 0
 GoesOn run = (runs : List Run) → Life runs run.found

@@ -2,7 +2,7 @@
 
 ghost use Rattle.sqlite.specs.Held.{state};
 ghost use Rattle.restart.specs.Adding.{ArrivalsStay};
-ghost use Rattle.restart.specs.Lives.{LivesAreDue, RunsGoOn};
+ghost use Rattle.restart.specs.Lives.{LivesAreDue, RunsAreDue, RunsGoOn};
 ghost use Rattle.restart.specs.Runs.{ClosedRuns, CutRuns, FoundIsTold, RunKeepsOffice};
 ghost use Rattle.restart.specs.Schemas.{OneSchema};
 
@@ -50,8 +50,10 @@ pub fn a_cut_run_is_a_run<D: Disk + Drop>(store: &FileStore<D>)
 }
 
 /// Runs of the program are as specified if the first found no file or an empty one, and each later one the files that
-/// the one before had left. So is a run after them.
+/// the one before had left. So are runs of which the first found files that hold an office, for example restored ones,
+/// and so is a run after a life.
 pub fn lives_are_due()
     ensures due { LivesAreDue }
+    ensures held { RunsAreDue }
     ensures goes_on { RunsGoOn }
 {}
