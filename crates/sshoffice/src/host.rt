@@ -51,6 +51,30 @@ fn open_files<S: Start>(
     }
 }
 
+/// Opens the database at a path, if its files weren't opened before.
+fn open_once<S: Start>(
+    rt: &HostRuntime,
+    files: &mut FilesAt<S>,
+    path: &str,
+) -> Result<FileConnection<S>, Error>
+    ensures { OpensOnce (image_at S.Start) files.old result files.new }
+{
+    match replace(files, DatabaseFiles::Connected) {
+        DatabaseFiles::Unopened(start) => match open_files(rt, path, start) {
+            Ok(opened) => Ok(opened),
+            Err(fault) => {
+                let error = fault.error();
+                *files = DatabaseFiles::Failed(fault);
+                Err(error)
+            }
+        },
+        former => {
+            *files = former;
+            Err(Error::SqliteFailure(ErrorCode::CannotOpen))
+        }
+    }
+}
+
 /// Whether SQLite takes this for something other than a path and refuses to open it. Then no file is made.
 fn is_no_path(path: &str) -> bool {
     path == ":memory:" || path.starts_with("file:")
@@ -139,20 +163,7 @@ impl<'a, S: Start> World for Host<'a, S> {
     }
 
     fn open_database(&mut self, path: &str) -> Result<FileConnection<S>, Error> {
-        match replace(&mut self.files, DatabaseFiles::Connected) {
-            DatabaseFiles::Unopened(start) => match open_files(self.rt, path, start) {
-                Ok(opened) => Ok(opened),
-                Err(fault) => {
-                    let error = fault.error();
-                    self.files = DatabaseFiles::Failed(fault);
-                    Err(error)
-                }
-            },
-            files => {
-                self.files = files;
-                Err(Error::SqliteFailure(ErrorCode::CannotOpen))
-            }
-        }
+        open_once(self.rt, &mut self.files, path)
     }
 
     fn close_database(&mut self, conn: FileConnection<S>) -> Result<(), EndFault> {
