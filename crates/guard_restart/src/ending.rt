@@ -1,4 +1,4 @@
-//! A connection to files, ended: closed, or abandoned if a failed disk has shut it.
+//! A connection to files, ended: closed, or abandoned if a failed disk has shut it or memory is refused.
 
 ghost use Rattle.restart.specs.Ending.{AreEnded};
 ghost use Rattle.guard_restart.specs.Runs.{EndsWell};

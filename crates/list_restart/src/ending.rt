@@ -1,4 +1,4 @@
-//! Ending a connection to files: it is closed, or abandoned if a failed disk has shut it.
+//! Ending a connection to files: it is closed, or abandoned if a failed disk has shut it or memory is refused.
 
 ghost use Rattle.restart.specs.Ending.{AreEnded};
 ghost use Rattle.list_restart.specs.Runs.{EndsWell};

@@ -17,7 +17,7 @@ pub record Asked : Type 0 where
   pub exchanges : List Exchange
   pub given : List Given
 
--- It closed its files cleanly, or it was interrupted by a crash or by a failure of the disk.
+-- It closed its files cleanly, or it was cut off: by a crash, by a failed disk, or since memory was refused at its end.
 pub data End : Type 0 where
   closed : End
   cut : End

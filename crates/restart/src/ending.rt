@@ -1,4 +1,4 @@
-//! Ending a connection to files: it is closed or, if a failed disk has shut it, abandoned.
+//! Ending a connection to files: it is closed or, if a failed disk has shut it or memory is refused, abandoned.
 
 ghost use Rattle.std.specs.Prelude.{◌≡◌, None, Some};
 ghost use Rattle.sqlite_wal.specs.Reads.{AreClean};
