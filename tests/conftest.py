@@ -46,8 +46,9 @@ def pytest_addoption(parser):
     group.addoption("--waiting-seconds", type=int, default=5, help="for how many seconds they wait (5)")
     group.addoption("--heads", type=int, default=100_000, help="how many changed heads test_heads compares (100000)")
     group.addoption("--counts", action="store_true", help="end with the lines of counts that ./check reads")
-    group.addoption("--failures", metavar="FILE", type=pathlib.Path,
-                    help="a file for the names of the tests that failed, as JSON")
+    group.addoption("--outcomes", metavar="FILE", type=pathlib.Path,
+                    help="a file for the names of the tests that passed, and of those that failed but the ones marked "
+                         "`once`, as JSON")
 
 
 @pytest.hookimpl(tryfirst=True)
@@ -65,19 +66,24 @@ def pytest_report_header(config):
 
 
 def pytest_unconfigure(config):
-    """Prints how many tests passed and failed. One that was skipped has failed, unless this machine can't run it."""
+    """Prints how many tests passed, failed and were left out, since this machine can't run them. Any other skip is a
+    failure."""
     reporter = config.pluginmanager.get_plugin("terminalreporter")
     if not config.getoption("--counts") or reporter is None or hasattr(config, "workerinput"):
         return
     passed = reporter.stats.get("passed", [])
-    skipped = [it for it in reporter.stats.get("skipped", []) if "left out: " not in str(it.longrepr)]
+    left_out = [it for it in reporter.stats.get("skipped", []) if "left out: " in str(it.longrepr)]
+    skipped = [it for it in reporter.stats.get("skipped", []) if it not in left_out]
     reports = [it for how in ("failed", "error") for it in reporter.stats.get(how, [])]
     failed = len(reports) + len(skipped)
-    if config.getoption("--failures"):
-        # Side by side, a name ends with that of its group.
-        names = [re.sub(r"@[^@\]]+$", "", it.nodeid) for it in [*reports, *skipped]]
-        config.getoption("--failures").write_text(json.dumps(names))
+    if config.getoption("--outcomes"):
+        # A file that can't be read has no keywords. Side by side, a name ends with that of its group.
+        again = [it for it in [*reports, *skipped] if "once" not in getattr(it, "keywords", ())]
+        parts = {"failed": again, "passed": passed}
+        names = {it: [re.sub(r"@[^@\]]+$", "", report.nodeid) for report in parts[it]] for it in parts}
+        config.getoption("--outcomes").write_text(json.dumps(names))
     print(f"{sum('rows' in it.keywords for it in passed)} worked rows")
+    print(f"{len(left_out)} left out")
     print(f"{len(passed)} passed, {failed} failed", flush=True)
 
 

@@ -213,6 +213,7 @@ def test_a_kill_at_a_line_leaves_the_old_or_the_new(folder, room, words):
 
 
 @pytest.mark.slow
+@pytest.mark.once
 @pytest.mark.timeout(1500)
 def test_a_kill_at_any_moment_loses_nothing(folder):
     """The program is killed, alone or with the openssl that it has begun."""

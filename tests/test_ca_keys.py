@@ -332,6 +332,7 @@ def test_many_at_once(fetch, web, names, room):
     assert ["keys"] == shown()
 
 
+@pytest.mark.once
 def test_a_kill_at_any_moment_leaves_the_old_or_the_new(web, names, room):
     web.answer = response(body(A, B))
     words = [EXAMPLES / "fetch-ca-keys", "--fingerprint", names[A], "--fingerprint", names[B], web.url, "keys"]

@@ -1,5 +1,5 @@
-"""Runs the tests of a folder as `./check` does: one that fails beside others and then passes alone is named as unsteady,
-and one that fails again fails the check."""
+"""Runs the tests of a folder as `./check` does: one that fails beside others and then passes alone is named as
+unsteady, and one that fails again fails the check."""
 import importlib.machinery
 import importlib.util
 import shutil
@@ -39,6 +39,52 @@ def test_passes_alone():
 """
 WRONG = """
 def test_fails():
+    assert False
+"""
+# Tests that fail as often as they choose at random by the number of the first time.
+OF_A_NUMBER = """
+import pathlib
+
+
+def test_has_another_number(pytestconfig):
+    first = pathlib.Path(f"{__file__}.first")
+    if not first.exists():
+        first.write_text(pytestconfig.option.hypothesis_seed)
+    assert first.read_text() != pytestconfig.option.hypothesis_seed
+"""
+LEFT_OUT_LATER = """
+import pathlib
+
+import pytest
+
+
+def test_is_left_out_later():
+    ran = pathlib.Path(f"{__file__}.ran")
+    if ran.exists():
+        pytest.skip("left out: for a reason")
+    ran.touch()
+    assert False
+"""
+LEFT_OUT = """
+import pytest
+
+
+@pytest.mark.parametrize("place", range(3))
+def test_is_left_out(place):
+    pytest.skip("left out: for a reason")
+"""
+# A file that workers can't read.
+UNREAD = """
+import os
+
+assert "PYTEST_XDIST_WORKER" not in os.environ
+
+
+def test_passes_later():
+    pass
+
+
+def test_fails_later():
     assert False
 """
 
@@ -84,6 +130,41 @@ def test_what_fails_again_fails_the_check(check):
     done = check(STEADY, UNSTEADY, WRONG)
     assert (4, 1) == (done.passed, done.failed)
     assert 2 == len(done.unsteady)
+
+
+def test_what_fails_by_its_random_numbers_fails_again(check):
+    done = check(STEADY, OF_A_NUMBER)
+    assert (2, 1, []) == (done.passed, done.failed, done.unsteady)
+
+
+def test_what_looks_for_a_loss_is_not_tried_again(check):
+    done = check(STEADY, UNSTEADY.replace("@pytest.mark.xdist", "@pytest.mark.once\n@pytest.mark.xdist"))
+    assert (2, 2, []) == (done.passed, done.failed, done.unsteady)
+
+
+def test_what_is_left_out_the_second_time_has_failed(check):
+    done = check(STEADY, LEFT_OUT_LATER)
+    assert (2, 1, []) == (done.passed, done.failed, done.unsteady)
+
+
+def test_what_is_left_out_is_counted(check):
+    done = check(STEADY, LEFT_OUT)
+    assert (2, 0, 3) == (done.passed, done.failed, done.left_out)
+
+
+def test_a_file_that_can_be_read_the_second_time_is_counted_by_its_tests(check):
+    done = check(STEADY, UNREAD)
+    assert (3, 1, []) == (done.passed, done.failed, done.unsteady)
+
+
+@pytest.mark.parametrize("line, status, failed", [
+    ("3 passed, 0 failed", 0, 0), ("3 passed, 1 failed", 1, 1), ("3 passed, 0 failed", 1, 1),
+    ("3 passed, 1 failed", 2, 2), ("3 passed, 0 failed", 3, 1), ("nothing was counted", 0, 1)])
+def test_a_part_that_does_not_come_to_its_end_fails(tmp_path, line, status, failed):
+    check = module().Check(str(tmp_path))
+    check.start("tests", ["sh", "-c", f"echo '{line}'; exit {status}"])
+    check.wait("tests")
+    assert failed == check.failed and check.well == {"tests": failed == 0}
 
 
 def test_failures_of_many_files_are_not_tried_again(check):

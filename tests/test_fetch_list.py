@@ -669,6 +669,7 @@ def test_a_lock_that_root_has_left_does_not_keep_others_from_it(web, signer):
 
 
 @pytest.mark.slow
+@pytest.mark.once
 def test_a_kill_at_any_moment_leaves_the_old_or_the_new(either, web, room):
     """Neither is lost, and each statement that is found beside it is of one of them."""
     old = either.of(LIST)

@@ -16,7 +16,7 @@ import pytest
 from asking import answers, department, issue, post, write_exchanges
 from running import sql
 
-pytestmark = pytest.mark.slow
+pytestmark = [pytest.mark.slow, pytest.mark.once]
 
 ROUNDS = 100
 

@@ -52,7 +52,8 @@ def ranged(lo, hi):
 
 KEY_ID = b"\x23" + string(string(b"web/alice"))
 
-# A specification, a version and a date, the list and its length.
+# A specification, a version and a date, the list and its length: 44 bytes for its head, and for each section 64, its
+# serials (21 in a list of 129 bytes, 37 in one of 145, 50 in one of 158), and 18 for the key id.
 MADE = [
     ("", 0, 0, header(0, 0), 44),
     (ONES, 0, 0, header(0, 0), 44),
@@ -106,6 +107,10 @@ GATHERED = [
 ]
 
 
+# How many serials are added and how far apart, around the count; and how many runs they make, and how many are new.
+ADDED = [((6, 1), (6, 6)), ((6, 5), (6, 6)), ((4, 2), (2, 2)), ((6, 4), (3, 3)), ((5, 0), (1, 1)), ((0, 3), (0, 0))]
+
+
 def specified(krl_tool, specification, version, date):
     """Status, output and errors of krl_tool, which makes a list of a specification."""
     pathlib.Path("specification").write_text(specification)
@@ -142,6 +147,14 @@ def test_a_list_is_asked(krl_tool, room, ca, serial, wanted):
 @pytest.mark.parametrize(("given", "wanted"), GATHERED)
 def test_serials_are_gathered_into_ranges(krl_tool, given, wanted):
     assert (0, wanted, b"") == said([krl_tool, "gather", *given])
+
+
+@pytest.mark.rows
+@pytest.mark.parametrize(("given", "wanted"), ADDED)
+def test_a_serial_that_a_set_has_is_not_new(krl_tool, given, wanted):
+    """No serial is next to another one, so each new one is a run."""
+    status, out, _ = said([krl_tool, "add", *given])
+    assert (0, b"%d runs of %d serials, %d of them new\n" % (wanted[0], given[0], wanted[1])) == (status, out)
 
 
 # ---- lists that the program reads

@@ -285,6 +285,7 @@ def test_a_list_whose_line_cannot_be_printed_is_kept(lists, room):
 
 
 @pytest.mark.slow
+@pytest.mark.once
 def test_a_call_that_is_killed_leaves_the_one_list_or_the_other(lists, room):
     """Each of these calls is killed at some moment of its run. A list whose line was printed is kept; else the list is
     kept that was approved before, or the one in hand. Every other file is as earlier programs wrote it."""

@@ -76,6 +76,8 @@ NETWORKS = (["10.0.0.0/8", "0.0.0.0/0", "255.255.255.255/32", "192.168.2.0/23", 
              "256.0.0.0/8", "010.0.0.0/8", "10.0.0.0/08", "10.0.0/8", "10.0.0.0.0/8", "10.0.0.0", "10.0.0.0/",
              "10.0.0.0/8/8", "::/0", "", "10.0.0.0/8,", "10.0.0.0/8 ,192.168.2.0/23",
              ",".join(f"{n}.0.0.0/8" for n in range(1, 10))])
+# Those that ssh-keygen takes all the same: leading zeros, three numbers, no size, IPv6, and more than eight of them.
+OF_SSH_KEYGEN = {"010.0.0.0/8", "10.0.0.0/08", "10.0.0/8", "10.0.0.0", "::/0", NETWORKS[1][-1]}
 
 UNKNOWN = ["permit-x11-forwarding", "permit-pty@example.org", "permit-x"]
 
@@ -251,6 +253,10 @@ def test_a_bad_line_is_that_of_the_formats(bad_lines, what, place):
     assert PRINTED[place][2] == bad_lines[len(POSTED) + place]
 
 
+# A network of IPv4 with four numbers and its size, as decimal numbers without leading zeros.
+CANONICAL = re.compile(r"(0|[1-9]\d*)(\.(0|[1-9]\d*)){3}/(0|[1-9]\d*)")
+
+
 def by_python(network):
     """Whether Python takes it for a network of IPv4, with its size, without leading zeros in its numbers."""
     try:
@@ -269,12 +275,12 @@ def keys(tmp_path_factory):
 
 @pytest.mark.parametrize("networks", NETWORKS[0] + NETWORKS[1], ids=repr)
 def test_python_and_ssh_keygen_agree_on_networks(keys, networks):
-    """ssh-keygen takes more: a network without its size, of IPv6, and more than eight of them."""
     is_ours = networks in NETWORKS[0]
     assert is_ours == (len(networks.split(",")) <= 8 and all(map(by_python, networks.split(","))))
+    words = ["-I", "x", "-O", f"source-address={networks}", keys / "user.pub"]
+    made = run(["ssh-keygen", "-q", "-s", keys / "ca", *words])
+    assert (is_ours or networks in OF_SSH_KEYGEN) == (made.returncode == 0), made.stderr
     if is_ours:
-        words = ["-I", "x", "-O", f"source-address={networks}", keys / "user.pub"]
-        run(["ssh-keygen", "-q", "-s", keys / "ca", *words], check=True)
         shown_by_keygen = run(["ssh-keygen", "-L", "-f", keys / "user-cert.pub"], check=True).stdout.decode()
         assert f"source-address {networks}\n" in shown_by_keygen
 
@@ -291,7 +297,8 @@ def some_networks(seed, count):
 
 
 def test_python_the_office_and_ssh_keygen_agree_on_other_networks(program, keys, room, request):
-    """What the office takes, Python and ssh-keygen take, and what ssh-keygen refuses, the office refuses."""
+    """What the office takes, Python and ssh-keygen take, and what one of them refuses, the office refuses; and of those
+    that are written as the formats write them ssh-keygen takes no more."""
     networks = [*some_networks(request.config.getoption("hypothesis_seed"), 200)]
     given = [BAD != it.body for it in applied(program, [exchange(post("root", f"n{place}", text(
         [*ISSUE[:6], f"option source-address {it}", ISSUE[6]])), 1000, 0x33) for place, it in enumerate(networks)])]
@@ -300,4 +307,5 @@ def test_python_the_office_and_ssh_keygen_agree_on_other_networks(program, keys,
     for network, is_taken in zip(networks, given):
         words = ["-I", "x", "-O", f"source-address={network}", keys / "user.pub"]
         made = run(["ssh-keygen", "-q", "-s", keys / "ca", *words])
-        assert made.returncode == 0 or not is_taken, network
+        assert is_taken <= (made.returncode == 0), network
+        assert is_taken or made.returncode or not CANONICAL.fullmatch(network), network

@@ -799,6 +799,7 @@ def test_a_full_disk_keeps_the_old_file(make_site, make_front, room):
 
 
 @pytest.mark.slow
+@pytest.mark.once
 def test_a_station_that_is_killed_leaves_a_whole_file(site, programs):
     """At any moment of publishing lists of a megabyte: what the front gives is always a list with its statement."""
     begun = time.monotonic()

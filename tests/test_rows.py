@@ -17,6 +17,8 @@ pytestmark = pytest.mark.rows
 
 NAMES = sorted(path.stem for path in ROWS.glob("*.exchange"))
 DEPARTMENT = ROWS / "the-department-of-the-trial-office.exchange"
+# The pages that a command prints as well.
+PAGES = ("krl", "signers", "table")
 
 
 class Row:
@@ -45,7 +47,7 @@ def printed(program, *words):
 
 
 @pytest.mark.parametrize("name", [name for name in NAMES if not Row(name).opening])
-def test_in_memory(name, program):
+def test_a_row_in_memory(name, program):
     assert Row(name).expected == printed(program, "apply", ROWS / f"{name}.exchange")
 
 
@@ -61,20 +63,20 @@ def filed(request, program, room):
     return row, office, printed(program, "apply", "--db", office.db, ROWS / f"{name}.exchange")
 
 
-def test_in_a_file(filed):
+def test_a_row_in_a_file(filed):
     row, _, came = filed
     assert row.expected == came
 
 
-def test_reports_as_commands(filed):
-    """The commands print what the row's last requests for these pages were given."""
+@pytest.mark.parametrize(("filed", "page"), [(name, page) for name in NAMES for page in PAGES if get(
+    f"/v1/{page}") in Row(name).last_answers()], indirect=["filed"])
+def test_a_command_prints_what_a_page_shows(filed, page):
+    """It prints what the row's last request for the page was given."""
     row, office, _ = filed
-    last = {report: row.last_answers().get(get(f"/v1/{report}")) for report in ("krl", "signers", "table")}
-    for report, answer in last.items():
-        assert answer is None or answer.body == office.must(report, "--db", office.db), report
+    assert row.last_answers()[get(f"/v1/{page}")].body == office.must(page, "--db", office.db)
 
 
-def test_again(filed):
+def test_a_row_that_comes_again(filed):
     row, office, _ = filed
     tables = sql(office.db, ".dump")
     file = write_exchanges("again", [exchange(one.request, one.moment ^ 1, 0xee) for one in row.exchanges])

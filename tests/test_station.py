@@ -1122,6 +1122,7 @@ def children(pid):
 
 
 @pytest.mark.slow
+@pytest.mark.once
 def test_a_station_that_is_killed_signs_all_the_same(asked, programs):
     """Station and guard are killed together, at any moment of a round. A certificate that was approved and not
     delivered is signed in a later round."""
@@ -1435,6 +1436,7 @@ ROUNDS = 200
 
 
 @pytest.mark.slow
+@pytest.mark.once
 def test_a_guard_that_is_killed_approves_one_body_for_a_serial(alone, room):
     """Each of these commands judges two bodies of one serial, and is killed at some moment of its run, every other one
     after its first line. A line that was printed holds for ever."""

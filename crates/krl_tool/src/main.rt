@@ -10,8 +10,9 @@
 //! `list` writes the list of a specification to standard output. `check` prints whether a list revokes the certificate
 //! with this serial and key id under the CA of a public key, or why the list is refused. `compare` prints for each list
 //! but the first whether it keeps everything that the one before it revokes. `time` writes a list of RUNS runs and
-//! reads it back, and `add` adds SERIALS serials to a set; both print the time taken to standard error. `gather`
-//! prints the runs of the given serials. Files and the clock are the system's, and nothing is proved about them.
+//! reads it back. `add` adds SERIALS serials to a set and prints its runs, and how many of the serials were new. Both
+//! print the time taken to standard error. `gather` prints the runs of the given serials. Files and the clock are the
+//! system's, and nothing is proved about them.
 #![tactic(auto)]
 
 mod answer;

@@ -54,7 +54,7 @@ pub(crate) fn time<R: Clock + Print + Eprint + AllocGlobal>(rt: &R, count: u32) 
 }
 
 /// Adds `count` serials one by one to an empty set, at places that are `stride` apart, wrapping around. Prints how many
-/// runs they make, and to standard error how long it took.
+/// runs they make and how many of them the set didn't have, and to standard error how long it took.
 pub(crate) fn add<R: Clock + Print + Eprint + AllocGlobal>(
     rt: &R,
     count: u32,
@@ -64,16 +64,20 @@ pub(crate) fn add<R: Clock + Print + Eprint + AllocGlobal>(
         bail!("out of memory");
     };
     let mut place: u32 = 0;
+    let mut new: u32 = 0;
     let start = Instant::now(rt)?;
     for _ in 0..count {
         let serial = STEP * u64::from(place) + 1;
-        if runs.add_range(rt.alloc(), serial, serial).is_err() {
+        let Ok(has_grown) = runs.add_range(rt.alloc(), serial, serial) else {
             bail!("out of memory");
+        };
+        if has_grown {
+            new = new.wrapping_add(1);
         }
         place = place.wrapping_add(stride) % count.max(1);
     }
     let added = start.elapsed(rt)?;
-    println!(rt; "{} runs of {count} serials", runs.runs().len())?;
+    println!(rt; "{} runs of {count} serials, {new} of them new", runs.runs().len())?;
     eprintln!(rt; "added in {} us", added.as_micros())?;
     Ok(())
 }
