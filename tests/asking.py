@@ -14,8 +14,6 @@ EXTENSIONS = ("no-touch-required", "permit-X11-forwarding", "permit-agent-forwar
               "permit-pty", "permit-user-rc")
 # What a department permits that permits everything.
 EVERYTHING = {"options": OPTIONS, "extensions": EXTENSIONS, "maxlife": LATEST}
-# The digest of the body that `sshoffice apply` gives the first certificate of the worked rows.
-DIGEST = "82e0c34fe67da3fc3dc1be6682073994ec021449271b641cdd36180e95572e79"
 
 
 # ---- keys and signatures
@@ -64,6 +62,10 @@ def body(serial=1, *, ca, key_id="web/alice", principals=("alice",), after=None,
 
 def digest_of(text):
     return hashlib.sha256(text).hexdigest()
+
+
+# The digest of the first certificate's body of the worked rows.
+DIGEST = digest_of(body(1, ca=key_blob(0x11), after=1000, before=2000))
 
 
 def blob_of(line):

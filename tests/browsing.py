@@ -29,7 +29,8 @@ def new_browser(folder, driver="/usr/bin/chromedriver"):
 
 # Chromium reads its policies in /etc, so it gets an /etc/chromium of its own.
 DRIVER = """#!/bin/sh
-exec unshare --map-root-user --mount sh -c 'mount -t tmpfs none /etc/chromium && mkdir -p /etc/chromium/policies/managed &&
+exec unshare --map-root-user --mount sh -c 'mount -t tmpfs none /etc/chromium &&
+  mkdir -p /etc/chromium/policies/managed &&
   cp "$0" /etc/chromium/policies/managed/front.json && exec /usr/bin/chromedriver "$@"' "{policy}" "$@"
 """
 

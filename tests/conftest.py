@@ -41,6 +41,7 @@ def pytest_addoption(parser):
                     help="how many sets of machines have these faults side by side, each with 6 GB of memory (1)")
     group.addoption("--judgements", type=int, default=100_000,
                     help="how many random bodies test_guard has judged (100000)")
+    group.addoption("--lists", type=int, default=600, help="how many random lists test_list_guard has judged (600)")
     group.addoption("--pieces", type=int, default=1000, help="how many random requests test_pieces sends (1000)")
     group.addoption("--waiting", type=int, default=50, help="how many messages wait for an office in test_way (50)")
     group.addoption("--waiting-seconds", type=int, default=5, help="for how many seconds they wait (5)")

@@ -2,8 +2,8 @@
 """A list guard of a hundred lines of Python, written from docs/FORMATS.md alone: which list is the office's next one.
 
 A list is read field by field, and what it revokes is a plain set of pairs: of a CA and a serial, and of a CA and a key
-id. As a program it has the words of `sshstation`, and keeps the list that it approved last in an SQLite file. So it says
-what is due to a program that it shares no line with.
+id. As a program it has the words of `sshstation`, and keeps the list that it approved last in an SQLite file. So it
+says what is due to a program that it shares no line with.
 
     tests/plain_lists.py lists --init --db PATH
     tests/plain_lists.py list --db PATH --ca PATH .. [--begin] LIST
@@ -148,8 +148,8 @@ def read_list(content):
 
 
 def refusal(content, cas, begins, last):
-    """The name of the first refusal that applies, or none: of a list, the keys that it may speak of, whether a first list
-    is taken, and the bytes of the list that was approved last, if one was."""
+    """The name of the first refusal that applies, or none: of a list, the keys that it may speak of, whether a first
+    list is taken, and the bytes of the list that was approved last, if one was."""
     try:
         new = read_list(content)
     except NoList:

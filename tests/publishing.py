@@ -4,6 +4,7 @@ import hashlib
 import pathlib
 import time
 
+import lists
 from asking import string
 from running import run
 
@@ -18,28 +19,24 @@ def key_line(blob, comment="a CA"):
 
 
 def section(ca, serials=(), key_ids=(), ranges=()):
-    """A section of a list by PROTOCOL.krl: of serials, of ranges of them, and of key ids."""
-    parts = b"\x20" + string(b"".join(it.to_bytes(8, "big") for it in serials)) if serials else b""
-    for first, last in ranges:
-        parts += b"\x21" + string(first.to_bytes(8, "big") + last.to_bytes(8, "big"))
-    if key_ids:
-        parts += b"\x23" + string(b"".join(string(it.encode()) for it in key_ids))
-    return b"\1" + string(string(ca) + string(b"") + parts)
+    """A section of a list: of serials, of ranges of them, and of key ids."""
+    parts = [lists.single(*serials)] if serials else []
+    parts += [lists.ranged(*it) for it in ranges]
+    parts += [lists.key_ids(*(it.encode() for it in key_ids))] if key_ids else []
+    return lists.section(None, *parts, blob=ca)
 
 
 def krl(version, revoked=(), ca=CA, *, key_ids=(), ranges=(), more=b"", date=1000):
     """A list of this version, with these serials, key ids and ranges under a CA, and more sections behind."""
-    head = b"SSHKRL\n\0" + b"".join(it.to_bytes(length, "big") for it, length in (
-        (1, 4), (version, 8), (date, 8), (0, 8))) + string(b"") + string(b"")
     some = section(ca, revoked, key_ids, ranges) if [*revoked, *key_ids, *ranges] else b""
-    return head + some + more
+    return lists.header(version, date) + some + more
 
 
 def bitmaps(version, ca=CA, count=1000):
     """A list of 2 MB for which ssh-keygen needs 520 MB: serials that are no neighbours, 8192 in each bitmap."""
     parts = b"".join(b"\x22" + string((1 + 16384 * it).to_bytes(8, "big") + string(b"\0" + 2047 * b"\xaa" + b"\xab"))
                      for it in range(count))
-    return krl(version, more=b"\1" + string(string(ca) + string(b"") + parts))
+    return krl(version, more=lists.section(None, parts, blob=ca))
 
 
 LIST, NEWER = krl(3, [1, 2, 9]), krl(4, [1, 2, 9, 11])

@@ -16,6 +16,11 @@ WIDE = department(principals="alice,bob,lost,*@example.org", options=EVERY_OPTIO
                   maxlife=LATEST)
 
 
+def init(db, ca, *, first=1, last=LAST_SERIAL):
+    """The words that make a guard in a file, of a CA whose public line is in another."""
+    return ["init", "--db", db, "--ca", ca, "--first", first, "--last", last]
+
+
 class Guard:
     """A guard's file, made by `init`. `ca` is the file with the CA's public line, `policy` the file of its policy."""
 
@@ -23,7 +28,7 @@ class Guard:
         self.program, self.db, self.ca = program, pathlib.Path(db).absolute(), ca
         self.policy = self.db.with_suffix(".policy")
         self.permit(policy)
-        self.opened = self.must("init", "--db", self.db, "--ca", ca, "--first", first, "--last", last)
+        self.opened = self.must(*init(self.db, ca, first=first, last=last))
 
     def permit(self, policy):
         """Puts another policy in the place of the file's."""

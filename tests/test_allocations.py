@@ -1,9 +1,9 @@
 """Refuses each allocation of the programs in turn.
 
-sshoffice and trial apply exchanges: an issue, its delivery, its repeat with another nonce, its revocation, the list, and
-another issue. With an allocation refused, either it says NoMemory and has printed nothing, or some exchanges are given
-a fault and the others are given what they are given if those are left out, or all is as without a refusal. sshoffice
-opens the file of an office too: with an allocation refused it says NoMemory, or all is as without a refusal.
+sshoffice and trial apply exchanges: an issue, its delivery, its repeat with another nonce, its revocation, the list,
+and another issue. With an allocation refused, either it says NoMemory and has printed nothing, or some exchanges are
+given a fault and the others are given what they are given if those are left out, or all is as without a refusal.
+sshoffice opens the file of an office too: with an allocation refused it says NoMemory, or all is as without a refusal.
 
 krl_tool makes a list of a specification, adds serials to a set, and gathers serials into their runs. With an allocation
 refused, either it fails and has printed nothing, or all is as without a refusal. The gathering itself takes memory too:
@@ -113,8 +113,8 @@ def test_serials_are_gathered(refuse, krl_tool):
 # ---- what a message reads
 
 def with_runs(db, certificates, runs):
-    """Puts into an office's file, which has one certificate, so many in all, and so many runs of one revoked serial each,
-    every second serial from 1 on."""
+    """Puts into an office's file, which has one certificate, so many in all, and so many runs of one revoked serial
+    each, every second serial from 1 on."""
     connection = sqlite3.connect(db)
     name, key_id, body = connection.execute("SELECT department, keyid, body FROM cert").fetchone()
     place = body.index((1).to_bytes(8, "big"))
@@ -129,8 +129,8 @@ def with_runs(db, certificates, runs):
 
 @pytest.mark.slow
 def test_a_message_reads_one_run_alone(program, room):
-    """What is revoked is kept as runs. A revocation at their end and one beside a run look for the last run at a serial:
-    they allocate no more over 100,000 runs than over 100, but for the opening of the file."""
+    """What is revoked is kept as runs. A revocation at their end and one beside a run look for the last run at a
+    serial: they allocate no more over 100,000 runs than over 100, but for the opening of the file."""
     most = 100_000
     counted = {"LD_PRELOAD": str(preloaded("refuse_allocation.c", room)), "COUNTED": str(room / "counted")}
     offices = {}
@@ -199,14 +199,15 @@ class Refusing:
 
 
 @pytest.mark.slow
-def test_a_server_goes_on(program, room):
-    """Each fourth allocation of a server that listens is refused. Either it ends before it has answered anything; or
-    the connection that meets the refusal ends without a response and has its fault, and the others are given what is
-    due."""
+def test_a_server_goes_on(program, room, request):
+    """Each fourth allocation of a server that listens is refused, from another one on in each run. Either it ends
+    before it has answered anything; or the connection that meets the refusal ends without a response and has its fault,
+    and the others are given what is due."""
     server = Refusing(program, room)
     _, due, end, _ = server.ask(0)
     assert ((0, b""), [200, 200, 200], due[0]) == (end, [it.status for it in due], due[1])
-    number, was_refused, faults = server.first_after_listening(), True, 0
+    number = server.first_after_listening() + int(request.config.option.hypothesis_seed) % 4
+    was_refused, faults = True, 0
     while was_refused:
         _, given, end, was_refused = server.ask(number)
         if end == (1, b"sshoffice: NoMemory\n"):

@@ -5,9 +5,11 @@ import subprocess
 
 import pytest
 
-from asking import CA, OTHER_CA
+import running
+from asking import CA, LAST_SERIAL, OTHER_CA
+from lists import header
 from running import ROWS, rows, run, said
-from test_krl import RANGE, header, longer
+from test_krl import RANGE, longer
 
 pytestmark = pytest.mark.rows
 
@@ -83,8 +85,8 @@ def files(tmp_path_factory, program):
     return folder
 
 
-def init(db, ca="ca.pub", root="root", station="station", first=1, last=9223372036854775806):
-    return f"init --db {db} --ca {ca} --root {root} --station {station} --first {first} --last {last}"
+def init(db, ca="ca.pub", *, last=LAST_SERIAL, **how):
+    return " ".join(map(str, running.init(db, ca, last=last, **how)))
 
 
 # Words, and the fault in which they end.

@@ -14,6 +14,7 @@ import tempfile
 
 import pytest
 
+import running
 from asking import CA, department, post, write_exchanges
 from running import left_out, preloaded, run
 
@@ -36,9 +37,8 @@ def filled(words, db):
     return [word.format(db) for word in words.split()]
 
 
-def init(db, ca="ca.pub", root="root", station="station", first=1, last=9):
-    return ["init", "--db", str(db), "--ca", ca, "--root", root, "--station", station, "--first", str(first),
-            "--last", str(last)]
+def init(db, ca="ca.pub", *, last=9, **how):
+    return [*map(str, running.init(db, ca, last=last, **how))]
 
 
 def lay(folder):
@@ -256,8 +256,8 @@ def test_a_link_to_an_empty_file_is_followed(program, laid):
 
 
 def test_a_new_file_has_no_sums_of_its_pages(program, laid):
-    """Its header has SQLite's name, pages of 4096 bytes, and none of these reserved for anything else. SQLite's "Database
-    File Format" has the places."""
+    """Its header has SQLite's name, pages of 4096 bytes, and none of these reserved for anything else. SQLite's
+    "Database File Format" has the places."""
     assert (0, READY, b"") == outcome(run([program, *init("office.db")]))
     header = pathlib.Path("office.db").read_bytes()[:100]
     assert (b"SQLite format 3\0", 4096, 0) == (header[:16], int.from_bytes(header[16:18], "big"), header[20])

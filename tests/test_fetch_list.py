@@ -14,6 +14,7 @@ import time
 import pytest
 
 from fetching import Web, response, script, shown, small_disk
+from lists import runs_of
 from publishing import (CA, HIGHEST, LIST, NEWER, OTHER_CA, Signer, bitmaps, is_signed, key_line, krl, section,
                         statement)
 from running import EXAMPLES, free_port, run
@@ -535,19 +536,14 @@ def a_plain_list(source):
 
 
 def as_an_office_writes(version, serials, key_ids):
-    runs = []
-    for it in sorted(serials):
-        if runs and it == runs[-1][-1] + 1:
-            runs[-1].append(it)
-        else:
-            runs.append([it])
-    short = [it for run_ in runs if len(run_) < 3 for it in run_]
-    return krl(version, short, ranges=[(it[0], it[-1]) for it in runs if len(it) > 2], key_ids=sorted(key_ids))
+    runs = runs_of(serials)
+    listed = [it for low, high in runs if high - low < 2 for it in range(low, high + 1)]
+    return krl(version, listed, ranges=[it for it in runs if it[1] - it[0] >= 2], key_ids=sorted(key_ids))
 
 
 @pytest.mark.slow
-def test_random_lists_beside_plain_sets(believe, room):
-    source = random.Random(47)
+def test_random_lists_beside_plain_sets(believe, room, request):
+    source = random.Random(request.config.option.hypothesis_seed)
     for number in range(60):
         (old, old_ids), (new, new_ids) = a_plain_list(source), a_plain_list(source)
         if number % 2:

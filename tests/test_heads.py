@@ -1,8 +1,8 @@
 """After which byte of a request's head it is told whether a head comes.
 
-`heads_tool` tells it by the places of the bytes, as a server does, and by parsing all bytes after each one. Of heads that
-are changed at random places both have to tell the same. `--heads N` takes more of them than the 100,000 of the check,
-or fewer, and `--hypothesis-seed` the same ones as before.
+`heads_tool` tells it by the places of the bytes, as a server does, and by parsing all bytes after each one. Of heads
+that are changed at random places both have to tell the same. `--heads N` takes more of them than the 100,000 of the
+check, or fewer, and `--hypothesis-seed` the same ones as before.
 """
 import collections
 import random

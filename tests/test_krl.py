@@ -10,7 +10,8 @@ import sqlite3
 
 import pytest
 
-from asking import key_blob, key_line, string
+from asking import key_line, string
+from lists import header, key_ids, ranged, section, single
 from running import new_key, run, said
 
 FIRST, OTHER = key_line(0x11), key_line(0x12)
@@ -28,29 +29,7 @@ def serials(*words):
     return "".join(f"serial: {word}\n" for word in words)
 
 
-# The fields of a list, by PROTOCOL.krl.
-
-def header(version, date):
-    return bytes.fromhex(f"5353484b524c0a00 00000001 {version:016x} {date:016x} 0000000000000000 00000000 00000000")
-
-
-def section(key_byte, *parts):
-    return b"\1" + string(string(key_blob(key_byte)) + string(b"") + b"".join(parts))
-
-
-def numbers(*values):
-    return b"".join(it.to_bytes(8, "big") for it in values)
-
-
-def single(*values):
-    return b"\x20" + string(numbers(*values))
-
-
-def ranged(lo, hi):
-    return b"\x21" + string(numbers(lo, hi))
-
-
-KEY_ID = b"\x23" + string(string(b"web/alice"))
+KEY_ID = key_ids(b"web/alice")
 
 # A specification, a version and a date, the list and its length: 44 bytes for its head, and for each section 64, its
 # serials (21 in a list of 129 bytes, 37 in one of 145, 50 in one of 158), and 18 for the key id.

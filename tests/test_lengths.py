@@ -12,9 +12,9 @@ import pytest
 
 from asking import (CA, KEY, LATEST, answers, department, exchange, get, issue, key_blob, post, renew, revoke_keyid,
                     revoke_range, string, write_exchanges)
+from lists import header, numbers, ranged, section
 from plain_office import PlainOffice
 from running import run
-from test_krl import header, numbers, ranged, section
 from test_registers import DEPARTMENT
 
 MOST_EXCHANGES, MOST_BODY, MOST_HEAD = 10_000, 16_384, 8_192

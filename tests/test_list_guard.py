@@ -1,7 +1,7 @@
 """`sshstation lists` and `list`: which list is approved after which, in a file that outlasts each call.
 
-The lists are those of test_lists, made field by field. What is due is said by plain_lists, a list guard of plain sets in
-Python. Each call is a process of its own, so a history of calls is one of restarts too.
+The lists are made field by field. What is due is said by plain_lists, a list guard of plain sets
+in Python. Each call is a process of its own, so a history of calls is one of restarts too.
 """
 import contextlib
 import hashlib
@@ -17,8 +17,9 @@ import pytest
 
 import plain_lists
 from asking import key_line
+from lists import header, key_ids, published, ranged, section, single
 from running import run
-from test_lists import ALICE, BOB, LAST, grown, header, key_ids, published, ranged, section, single
+from test_lists import ALICE, BOB, LAST, grown
 
 ONE = ((0x11, {1, 2, 5}),)
 MORE = ((0x11, {1, 2, 5, 9}),)
@@ -88,8 +89,8 @@ AFTER_ONE = [
     ("a serial more", published(MORE, {ALICE}, 6), 6),
     ("a CA more", published((*ONE, (0x12, {7})), {ALICE}, 6), 6),
     ("a CA more, and as many versions as that is", published((*ONE, (0x12, {7})), {ALICE}, 8), 8),
-    ("2^63 serials, and as many versions as that is", header(2 ** 63 + 2) + section(0x11, ranged(1, 2 ** 63), key_ids(ALICE)),
-     2 ** 63 + 2),
+    ("2^63 serials, and as many versions as that is",
+     header(2 ** 63 + 2) + section(0x11, ranged(1, 2 ** 63), key_ids(ALICE)), 2 ** 63 + 2),
     ("every serial, and the greatest version", header(LAST) + section(0x11, ranged(0, LAST), key_ids(ALICE)), LAST),
     ("no list", b"list", "NotAList"),
     ("nothing", b"", "NotAList"),
@@ -322,7 +323,8 @@ def test_random_histories_beside_plain_sets(lists, room, request):
     keys = [bytes([it]) * 32 for it in CAS]
     counts, kept, version = {}, None, 1
     revoked, ids = [], set()
-    for _ in range(int(os.environ.get("HISTORY", "600"))):
+    count = request.config.getoption("--lists")
+    for _ in range(count):
         begins = chance.randrange(4) == 0
         revoked_next, ids_next = ([], set()) if chance.randrange(60) == 0 else grown(chance, revoked, ids)
         version_next = version + chance.choice((-1, 0, 0, 1, 1, 1, 1, 2, 1000))
@@ -344,4 +346,4 @@ def test_random_histories_beside_plain_sets(lists, room, request):
         name = "approved" if isinstance(answer, int) else answer
         counts[name] = counts.get(name, 0) + 1
     wanted = {"approved", "NotAList", "OtherCa", "OlderVersion", "OtherBytes", "Forgets", "VersionJumps"}
-    assert wanted <= {*counts}, counts
+    assert wanted <= {*counts} or count < 600, counts

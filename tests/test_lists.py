@@ -1,7 +1,7 @@
 """Published lists: which bytes are one, and whether a list keeps all that the one before it revokes.
 
-`krl_tool compare` answers. The lists are made here, field by field by PROTOCOL.krl, and what they revoke is compared
-here as plain sets of pairs: of a CA and a serial, and of a CA and a key id. Other lists are those of ssh-keygen.
+`krl_tool compare` answers. The lists are made field by field, and what they revoke is compared here as plain sets of
+pairs: of a CA and a serial, and of a CA and a key id. Other lists are those of ssh-keygen.
 """
 import itertools
 import random
@@ -9,60 +9,11 @@ import tempfile
 
 import pytest
 
-from asking import key_blob, key_line, string
+from asking import key_line, string
+from lists import header, key_ids, published, ranged, section, single
 from running import run
 
 LAST = 2 ** 64 - 1
-
-
-# ---- the fields of a list
-
-def header(version=1, date=3000, flags=0, reserved=b"", comment=b"", form=1):
-    numbers = b"SSHKRL\n\0" + form.to_bytes(4, "big") + b"".join(it.to_bytes(8, "big") for it in (version, date, flags))
-    return numbers + string(reserved) + string(comment)
-
-
-def section(key_byte, *parts, reserved=b"", kind=1, blob=None):
-    data = string(key_blob(key_byte) if blob is None else blob) + string(reserved) + b"".join(parts)
-    return bytes([kind]) + string(data)
-
-
-def single(*serials):
-    return b"\x20" + string(b"".join(it.to_bytes(8, "big") for it in serials))
-
-
-def ranged(lo, hi):
-    return b"\x21" + string(lo.to_bytes(8, "big") + hi.to_bytes(8, "big"))
-
-
-def key_ids(*ids):
-    return b"\x23" + string(b"".join(string(it) for it in ids))
-
-
-def runs_of(serials):
-    """The runs of a set of serials, as pairs of the first and the last."""
-    runs = []
-    for serial in sorted(serials):
-        if runs and runs[-1][1] == serial - 1:
-            runs[-1][1] = serial
-        else:
-            runs.append([serial, serial])
-    return runs
-
-
-def published(revoked, ids, version=1):
-    """The list of the serials of each CA, and of key ids, as the office writes it."""
-    text = header(version)
-    for key_byte, serials in revoked:
-        if not serials and not ids:
-            continue
-        runs = runs_of(serials)
-        listed = [it for lo, hi in runs if hi - lo < 2 for it in range(lo, hi + 1)]
-        parts = [single(*listed)] if listed else []
-        parts += [ranged(lo, hi) for lo, hi in runs if hi - lo >= 2]
-        parts += [key_ids(*sorted(ids))] if ids else []
-        text += section(key_byte, *parts)
-    return text
 
 
 def compared(krl_tool, room, lists):

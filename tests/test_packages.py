@@ -21,8 +21,8 @@ import pytest
 
 import boxes
 import pages
+from lists import published
 from running import TOP, left_out, loaded, run
-from test_lists import published
 
 PAGE = TOP / "docs/INSTALLING.md"
 NAMES = ["vethlumi-office", "vethlumi-front", "vethlumi-station", "vethlumi-client"]
@@ -1950,7 +1950,8 @@ def test_an_upgrade_keeps_all_and_a_purge_keeps_databases_and_keys(base, package
         solo.run(request.format("after"), timeout=120)
         # A timer may have started one of them while the office was restarted.
         solo.run("systemctl restart office-list office-ca-keys vethlumi-host vethlumi-figures")
-        assert "" == solo.says("systemctl list-units --failed --no-legend --plain 'office*' 'vethlumi*' 'nginx*' 'ssh*'")
+        units = "'office*' 'vethlumi*' 'nginx*' 'ssh*'"
+        assert "" == solo.says(f"systemctl list-units --failed --no-legend --plain {units}")
         purge(solo)
 
 

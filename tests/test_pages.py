@@ -34,7 +34,8 @@ TEXTS = {page: (TOP / page).read_text() for page in PAGES}
 CRATES = re.findall(r"^(\w+):", (TOP / "crates.txt").read_text(), re.M)
 # What stands behind `sh` where a block is for one of several machines, or for some of them: tests/test_boxes.py and
 # tests/test_three_machines.py type it there.
-MACHINES = ("admin", "office", "station", "server", "client", "spare", "server client", "one", "two", "three", "one two", "one two three")
+MACHINES = ("admin", "office", "station", "server", "client", "spare", "server client", "one", "two", "three",
+            "one two", "one two three")
 KINDS = ("sh", "console", "text", *(f"sh {it}" for it in MACHINES))
 
 # What isn't run here: a line, or the first line of a block that is left out whole. With why, what else shows it, and a
@@ -70,7 +71,8 @@ ELSEWHERE = {
         Elsewhere("it wants the units in service", "tests/test_boxes.py", "office-restore"),
     "office-volume copy /root/today":
         Elsewhere("it wants three machines", "tests/test_three_machines.py", "office-volume copy today"),
-    "systemctl stop office": Elsewhere("it wants three machines", "tests/test_three_machines.py", "office-restore today"),
+    "systemctl stop office":
+        Elsewhere("it wants three machines", "tests/test_three_machines.py", "office-restore today"),
     "cat /etc/vethlumi/alert": Elsewhere("it wants the units in service", "tests/test_boxes.py", "etc/vethlumi/alert"),
 }
 # Pages of which another test runs the blocks of a shell. What README shows of them is that test's as well.

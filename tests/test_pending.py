@@ -28,8 +28,9 @@ def message(chance, office):
     return chance.choice(
         [("ana", issue(f"web/{chance.randrange(1, 30)}", **asked))] * 6
         + [("station", deliver(serial, digest, chance.choice([0x44, 0x45])))] * 4
-        + [("root", renew(serial, **asked)), ("root", revoke_serial(serial)), ("root", revoke_range(serial, serial + 1)),
-           ("root", revoke_keyid(f"web/{chance.randrange(1, 300)}")), ("zoe", issue("web/1", **asked))])
+        + [("root", renew(serial, **asked)), ("root", revoke_serial(serial)),
+           ("root", revoke_range(serial, serial + 1)), ("root", revoke_keyid(f"web/{chance.randrange(1, 300)}")),
+           ("zoe", issue("web/1", **asked))])
 
 
 def test_pending_between_messages(make_office, room):
@@ -58,22 +59,23 @@ def test_pending_between_messages(make_office, room):
 def test_pending_over_a_restart_and_many_at_once(make_office):
     """More than one batch of certificates is issued between two asks, and a new server knows what waits too."""
     office = make_office(last=10_000)
-    first = [post("root", "web", department()), *(post("ana", f"i{number}", issue(f"web/{number}")) for number in range(2500))]
+    first = [post("root", "web", department()),
+             *(post("ana", f"i{number}", issue(f"web/{number}")) for number in range(2500))]
     given = office.apply(first)
     digests = [it.text.split()[3] for it in given[1:]]
     due = "".join(f"{serial} {digest}\n" for serial, digest in enumerate(digests, 1))
     with office.serving() as server:
-        assert server.get("/v1/pending").text == due
+        assert due == server.get("/v1/pending").text
         more = [server.post("ana", f"j{number}", issue(f"web/j{number}")).text.split()[3] for number in range(3)]
         due += "".join(f"{serial} {digest}\n" for serial, digest in enumerate(more, 2501))
-        assert server.get("/v1/pending").text == due
+        assert due == server.get("/v1/pending").text
     with office.serving() as server:
         server.post("station", "d1", deliver(1, digests[0]))
         server.post("root", "r", revoke_range(2, 2500))
         due = "".join(f"{serial} {digest}\n" for serial, digest in enumerate(more, 2501))
-        assert server.get("/v1/pending").text == due
+        assert due == server.get("/v1/pending").text
         server.post("root", "k", revoke_keyid("web/j1"))
-        assert server.get("/v1/pending").text == due.replace(f"2502 {more[1]}\n", "")
+        assert due == server.get("/v1/pending").text.replace(f"2502 {more[1]}\n", "")
 
 
 def fill(db, count):

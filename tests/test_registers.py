@@ -10,9 +10,11 @@ in Python has.
 
 `--steps 20000` asks more than the thousand exchanges of the check, and `--hypothesis-seed` the same ones as before.
 """
+import collections
 import contextlib
 import itertools
 import pathlib
+import re
 import sqlite3
 
 import pytest
@@ -22,7 +24,7 @@ from hypothesis.stateful import RuleBasedStateMachine, initialize, precondition,
 
 from asking import (CA, LAST_SERIAL, LATEST, deliver, department, exchange, get, issue, key_blob, key_line, post, renew,
                     revoke_keyid, revoke_range, revoke_serial, rollover)
-from plain_office import PlainOffice
+from plain_office import REFUSALS, PlainOffice
 from running import ROWS, Office, applied, worked
 
 # A history has so many steps at most, and twenty or more by the mean.
@@ -89,10 +91,19 @@ def rows_of(db):
                 for table, columns in COLUMNS.items() for key in [KEYS_OF.get(table, "1")]}
 
 
+# What answers to messages begin with: what was done, or the number of a refusal.
+DONE = re.compile(rb"\r\n\r\n(department|issued|signed|revoked|rollover|refused \d+)[ \n]")
+KINDS = {"department", "issued", "signed", "revoked", "rollover", *(f"refused {it}" for it in REFUSALS)}
+# Those of which a thousand steps have a few, and by chance none.
+RARE = {f"refused {it}" for it in (13, 16, 19, 20, 24)}
+
+
 class Registers(RuleBasedStateMachine):
     """A history of exchanges, which the office in Python answers at once, and the program at the end."""
     program = failed = None
     count = itertools.count()
+    # How many exchanges there were, and how often each kind of answer.
+    asked, kinds = 0, collections.Counter()
 
     @initialize(last=some.sampled_from([LAST_SERIAL, LAST_SERIAL, 5, 12]), piece=some.sampled_from([1000, 17]),
                 count=some.sampled_from([0, 3, 4]), cas=some.sampled_from([0, 0, 7]))
@@ -113,6 +124,8 @@ class Registers(RuleBasedStateMachine):
         one = exchange(request, moment, nonce)
         self.exchanges.append(one)
         self.given.append(self.office.answer(*one))
+        type(self).asked += 1
+        self.kinds.update(it.decode() for it in DONE.findall(self.given[-1]))
 
     def send(self, to, message):
         caller, key, moment, nonce = to
@@ -246,9 +259,13 @@ def test_registers_answer_alike(request, program, room):
     class Machine(Registers):
         pass
 
-    Machine.program = program
+    Machine.program, Machine.kinds = program, collections.Counter()
     steps = request.config.getoption("--steps")
     run_state_machine_as_test(Machine, settings=settings(
         max_examples=max(1, steps // MEAN_STEPS), stateful_step_count=MOST_STEPS, deadline=None,
         database=None, suppress_health_check=HealthCheck.all(), print_blob=False,
         phases=(Phase.generate, Phase.shrink)))
+    print(f"figure: {Machine.asked} exchanges, {sum(Machine.kinds.values())} answers to messages")
+    assert steps <= Machine.asked
+    lacking = KINDS - {*Machine.kinds} - (RARE if steps < 20_000 else set())
+    assert not lacking or steps < 1000, "each kind of answer was due"

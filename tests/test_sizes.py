@@ -37,7 +37,7 @@ def test_a_list_of_any_size_is_given(make_office, room):
         with office.serving(connections=1) as served:
             given = served.get("/v1/krl")
         assert 200 == given.status
-        assert given.body == office.krl()
+        assert office.krl() == given.body
         (room / "list").write_bytes(given.body)
         listed = re.findall(r"^id: (\S+)$", run(["ssh-keygen", "-Qlf", "list"], check=True).stdout.decode(), re.M)
         assert sorted(key_id(number) for number in range(count)) == sorted(listed)

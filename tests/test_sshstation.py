@@ -5,7 +5,6 @@ Digests are those of hashlib, the fingerprint is that of FORMATS, and the texts 
 """
 import contextlib
 import errno
-import hashlib
 import itertools
 import os
 import sqlite3
@@ -15,11 +14,16 @@ import time
 
 import pytest
 
-from asking import CA, CERTIFICATE_NAME, LAST_SERIAL, LATEST, department, key_blob, string
+import asking
+import running
+from asking import CA, LAST_SERIAL, LATEST, department, digest_of, key_blob
 from running import preloaded, run
+from stations import init
 
 pytestmark = pytest.mark.rows
 
+# The words that make the guard of most of these tests.
+INIT = init("guard.db", "ca.pub", last=100)
 FINGERPRINT = "SHA256:SQfC+vTbLURn9cTkVxIS8fGQ3FKNAJWeB0o139+gV4M"
 MOST = 2 ** 64 - 1
 
@@ -108,27 +112,13 @@ takes a revocation back. Approving the first KRL requires --begin.
 """
 
 
-def number(value, size=8):
-    return value.to_bytes(size, "big")
-
-
-def body(serial=1, *, keyid="web/alice", principals=("alice",), after=None, before=None, nonce=0x33, ca=0x11, kind=1):
-    """The body of PROTOCOL.certkeys, for the key of bytes 0x22; from a minute ago for an hour, if nothing is said."""
-    now = int(time.time())
-    after = now - 60 if after is None else after
-    before = now + 3600 if before is None else before
-    return b"".join([
-        string(CERTIFICATE_NAME), string(bytes([nonce]) * 32), string(b"\x22" * 32), number(serial), number(kind, 4),
-        string(keyid.encode()), string(b"".join(string(it.encode()) for it in principals)), number(after),
-        number(before), string(b""), string(b""), string(b""), string(key_blob(ca))])
-
-
-def digest(data):
-    return hashlib.sha256(data).hexdigest()
+def body(serial=1, *, keyid="web/alice", nonce=0x33, ca=0x11, **of):
+    """A certificate's body for the key of bytes 0x22; from a minute ago for an hour, if nothing is said."""
+    return asking.body(serial, ca=key_blob(ca), key_id=keyid, nonce=bytes([nonce]) * 32, **of)
 
 
 def sign(serial, data):
-    return f"sign {serial} {digest(data)}\n"
+    return f"sign {serial} {digest_of(data)}\n"
 
 
 class Guard:
@@ -156,7 +146,7 @@ def guard(sshstation, room):
     (room / "policy").write_text(department())
     made = Guard(sshstation)
     wanted = (0, f"guard ready 1 100\nca {FINGERPRINT}\n", "")
-    assert wanted == made.run("init", "--db", "guard.db", "--ca", "ca.pub", "--first", 1, "--last", 100)
+    assert wanted == made.run(*INIT)
     return made
 
 
@@ -224,7 +214,7 @@ def test_init_makes_a_file_for_its_owner_alone(guard, room):
 
 def test_a_second_init_changes_nothing(guard, room):
     before = (room / "guard.db").read_bytes()
-    again = guard.run("init", "--db", "guard.db", "--ca", "ca.pub", "--first", 1, "--last", 100)
+    again = guard.run(*INIT)
     assert (1, "", "sshstation: AlreadyAGuard\n") == again
     assert before == (room / "guard.db").read_bytes()
 
@@ -234,7 +224,7 @@ def test_a_file_that_is_there_keeps_its_mode(guard, room, mode):
     assert (0, "lists ready\n", "") == guard.run("lists", "--init", "--db", "lists.db")
     for name in ("guard.db", "lists.db"):
         (room / name).chmod(mode)
-        assert 1 == guard.run("init", "--db", name, "--ca", "ca.pub", "--first", 1, "--last", 100)[0]
+        assert 1 == guard.run(*init(name, "ca.pub", last=100))[0]
         assert mode == stat.S_IMODE((room / name).stat().st_mode), name
         assert 1 == guard.run("lists", "--init", "--db", name)[0]
         assert mode == stat.S_IMODE((room / name).stat().st_mode), name
@@ -251,15 +241,14 @@ def test_no_guard_is_made_beside_other_tables(sshstation, room, tables, fault):
     with contextlib.closing(sqlite3.connect("guard.db")) as made, made:
         made.executescript(tables)
     before = (room / "guard.db").read_bytes()
-    words = ["init", "--db", "guard.db", "--ca", "ca.pub", "--first", 1, "--last", 100]
-    assert (1, "", f"sshstation: {fault}\n") == Guard(sshstation).run(*words)
+    assert (1, "", f"sshstation: {fault}\n") == Guard(sshstation).run(*INIT)
     assert before == (room / "guard.db").read_bytes()
 
 
 def test_each_guard_has_a_file_of_its_own(guard, room):
     assert (0, "lists ready\n", "") == guard.run("lists", "--init", "--db", "lists.db")
     guards, lists = (room / "guard.db").read_bytes(), (room / "lists.db").read_bytes()
-    again = guard.run("init", "--db", "lists.db", "--ca", "ca.pub", "--first", 1, "--last", 100)
+    again = guard.run(*init("lists.db", "ca.pub", last=100))
     assert (1, "", "sshstation: NotAGuard\n") == again
     assert (1, "", "sshstation: NotAGuard\n") == guard.run("lists", "--init", "--db", "guard.db")
     assert (guards, lists) == ((room / "guard.db").read_bytes(), (room / "lists.db").read_bytes())
@@ -272,15 +261,14 @@ def test_a_guard_is_made_in_a_file_without_tables(sshstation, room, content):
     if content != "nothing":
         with contextlib.closing(sqlite3.connect("guard.db")) as made, made:
             made.executescript("CREATE TABLE note (id INTEGER); DROP TABLE note" if "dropped" in content else "VACUUM")
-    words = ["init", "--db", "guard.db", "--ca", "ca.pub", "--first", 1, "--last", 100]
-    assert 0 == Guard(sshstation).run(*words)[0]
+    assert 0 == Guard(sshstation).run(*INIT)[0]
     assert (0, "", "") == Guard(sshstation).run("bodies", "--db", "guard.db")
 
 
 @pytest.mark.parametrize("first, last", [(0, 1), (2, 1), (1, LAST_SERIAL + 1), (0, 0), (MOST, MOST), (1, MOST)])
 def test_init_wants_serials_in_order(sshstation, room, first, last):
     (room / "ca.pub").write_text(CA)
-    words = ["init", "--db", "guard.db", "--ca", "ca.pub", "--first", first, "--last", last]
+    words = init("guard.db", "ca.pub", first=first, last=last)
     assert (1, "", "sshstation: BadSerials\n") == Guard(sshstation).run(*words)
     assert ["ca.pub"] == os.listdir(room)
 
@@ -292,15 +280,14 @@ def test_init_takes_all_serials_of_an_office(sshstation, room, first, last):
     (room / "policy").write_text(department())
     data = [body(first), body(last)]
     put(room, a=data[0], b=data[1])
-    guard, words = Guard(sshstation), ["init", "--db", "guard.db", "--ca", "ca.pub", "--first", first, "--last", last]
+    guard, words = Guard(sshstation), init("guard.db", "ca.pub", first=first, last=last)
     assert (0, f"guard ready {first} {last}\nca {FINGERPRINT}\n", "") == guard.run(*words)
     assert (0, sign(first, data[0]) + sign(last, data[1]), "") == guard.judge("a", "b")
 
 
 def test_init_takes_a_key_with_the_longest_comment(sshstation, room):
     (room / "ca.pub").write_text(f"{CA} {'a' * 1024}\n")
-    words = ["init", "--db", "guard.db", "--ca", "ca.pub", "--first", 1, "--last", 100]
-    assert (0, f"guard ready 1 100\nca {FINGERPRINT}\n", "") == Guard(sshstation).run(*words)
+    assert (0, f"guard ready 1 100\nca {FINGERPRINT}\n", "") == Guard(sshstation).run(*INIT)
 
 
 @pytest.mark.parametrize("text, fault", [
@@ -311,7 +298,7 @@ def test_init_takes_a_key_with_the_longest_comment(sshstation, room):
 def test_init_wants_a_key_line_before_all_else(sshstation, room, text, fault):
     if text is not None:
         (room / "ca.pub").write_text(text)
-    words = ["init", "--db", "guard.db", "--ca", "ca.pub", "--first", 2, "--last", 1]
+    words = init("guard.db", "ca.pub", first=2, last=1)
     assert (1, "", f"sshstation: {fault}\n") == Guard(sshstation).run(*words)
     assert not (room / "guard.db").exists()
 
@@ -319,7 +306,7 @@ def test_init_wants_a_key_line_before_all_else(sshstation, room, text, fault):
 @pytest.mark.parametrize("path", [":memory:", "file:guard.db", "no/such/folder/guard.db"])
 def test_init_makes_files_at_paths_alone(sshstation, room, path):
     (room / "ca.pub").write_text(CA)
-    words = ["init", "--db", path, "--ca", "ca.pub", "--first", 1, "--last", 1]
+    words = init(path, "ca.pub", last=1)
     assert (1, "", "sshstation: Device\n") == Guard(sshstation).run(*words)
     assert ["ca.pub"] == os.listdir(room)
 
@@ -334,7 +321,7 @@ def test_bodies_are_answered_in_their_order(guard, room):
     status, out, err = guard.judge(*"abcdefgh")
     wanted = [line.split()[:2] for line in lines]
     assert (0, wanted, "") == (status, [line.split()[:2] for line in out.splitlines()], err)
-    assert [["1", digest((room / "a").read_bytes())], ["3", digest((room / "d").read_bytes())]] == [
+    assert [["1", digest_of((room / "a").read_bytes())], ["3", digest_of((room / "d").read_bytes())]] == [
         row[:2] for row in guard.bodies()]
 
 
@@ -359,7 +346,7 @@ def test_a_body_that_is_not_there_ends_the_call_and_what_was_printed_stands(guar
     put(room, a=body(1), b=body(2))
     kept = (room / "a").read_bytes()
     assert (1, sign(1, kept), "sshstation: File\n") == guard.judge("a", "none", "b")
-    assert [["1", digest(kept)]] == [row[:2] for row in guard.bodies()]
+    assert [["1", digest_of(kept)]] == [row[:2] for row in guard.bodies()]
 
 
 @pytest.mark.parametrize("policy, fault", [
@@ -472,7 +459,7 @@ def test_a_dash_beside_other_files_is_a_file(guard, room):
     ["judge", "--db", "guard.db", "--policy", "policy", "a", "-"], ["bodies", "--db", "guard.db"],
     ["judge", "--db", "guard.db", "--policy", "policy", "none"], ["body", "--db", "guard.db", 1], ["policy", "policy"],
     ["retire", "--db", "guard.db", "--last", 50], ["lists", "--init", "--db", "lists.db"],
-    ["init", "--db", "new.db", "--ca", "ca.pub", "--first", 1, "--last", 100], ["judge"], ["--help"],
+    init("new.db", "ca.pub", last=100), ["judge"], ["--help"],
 ])
 def test_the_input_is_left_unread_unless_it_is_asked_for(guard, room, words):
     put(room, **{"a": body(1), "-": body(2), "paths": b"b\nc\n"})
@@ -501,7 +488,7 @@ def test_bodies_are_listed_by_their_serials(guard, room):
         put(room, body=it)
         assert sign(serial, it) == guard.judge("body")[1]
     rows = guard.bodies()
-    assert [[str(serial), digest(data[serial]), "web/alice"] for serial in sorted(data)] == [
+    assert [[str(serial), digest_of(data[serial]), "web/alice"] for serial in sorted(data)] == [
         [serial, its, keyid] for serial, its, _, keyid in rows]
     assert all(since <= int(moment) <= time.time() for _, _, moment, _ in rows)
 
@@ -558,8 +545,7 @@ def test_a_row_whose_body_is_no_certificate_of_its_serial_is_named(guard, room, 
 
 
 def test_an_office_is_no_guard(guard, program, room):
-    made = run([program, "init", "--db", "office.db", "--ca", "ca.pub", "--root", "root", "--station", "station",
-                "--first", 1, "--last", 9])
+    made = run([program, *running.init("office.db", "ca.pub", last=9)])
     assert 0 == made.returncode
     assert (1, "", "sshstation: NotAGuard\n") == guard.run("bodies", "--db", "office.db")
 
@@ -585,7 +571,8 @@ def test_a_body_may_come_from_a_pipe(guard, room):
 # ---- a disk that fails
 
 @pytest.mark.slow
-@pytest.mark.parametrize("words", [["judge", "--policy", "policy", "a"], ["retire", "--last", "50"]], ids=lambda it: it[0])
+@pytest.mark.parametrize("words", [["judge", "--policy", "policy", "a"], ["retire", "--last", "50"]],
+                         ids=lambda it: it[0])
 def test_a_disk_that_fails_is_named(guard, room, words):
     """It fails at each call on the file in turn, and from then on. What was printed before the fault holds."""
     data = body(3)

@@ -79,15 +79,17 @@ def statement(tmp_path):
 
 def test_a_definition_comes_after_all_that_cite_it(statement):
     printed = statement("high::add").stdout
-    heads = ["pub fn add", "pub record IsSum", "abbrev pub sum", "abbrev pub size", "pub data Shape", "pub struct Point"]
+    heads = ["pub fn add", "pub record IsSum", "abbrev pub sum", "abbrev pub size", "pub data Shape",
+             "pub struct Point"]
     places = [printed.find(it) for it in heads]
     assert -1 not in places and sorted(places) == places
 
 
 def test_texts_come_whole_with_their_comments(statement):
     printed = statement("high::add").stdout
-    for part in ("/// Adds two sizes.", "    // It is the sum.\n    ensures sum", "-- the sizes of both\npub record IsSum",
-                 "  -- no third is counted\n  pub all", "-- a circle or a point", "/// A place.\npub struct Point {\n",
+    for part in ("/// Adds two sizes.", "    // It is the sum.\n    ensures sum",
+                 "-- the sizes of both\npub record IsSum", "  -- no third is counted\n  pub all",
+                 "-- a circle or a point", "/// A place.\npub struct Point {\n",
                  "    /// To the right.\n    pub x: u64,\n}"):
         assert part in printed
     assert "derive" not in printed and "a + b\n}" not in printed, "neither attributes nor bodies"

@@ -2,10 +2,10 @@
 has changed."""
 import pytest
 
-from asking import (CA, LAST_SERIAL, OTHER_CA, deliver, department, digest_of, exchange, get, issue, key_blob, key_line, post,
-                    renew, revoke_keyid, revoke_range, revoke_serial, rollover)
+from asking import (CA, LAST_SERIAL, OTHER_CA, deliver, department, digest_of, exchange, get, issue, key_blob, key_line,
+                    post, renew, revoke_keyid, revoke_range, revoke_serial, rollover)
+from lists import header, section, single
 from running import init, sql
-from test_krl import header, section, single
 
 pytestmark = pytest.mark.rows
 

@@ -36,8 +36,9 @@ from running import TOP, left_out, until
 pytestmark = [pytest.mark.boxes, pytest.mark.root, pytest.mark.slow, pytest.mark.alone, pytest.mark.volume]
 VOLUME = ["one", "two", "three"]
 MACHINES = [*VOLUME, "admin", "station"]
-# Sets of machines may have their faults side by side, since a round mostly waits. Each takes so much memory. Linux gives
-# root 128 instances of inotify, of which a box takes seven: so at most two sets are made at once, with five boxes each.
+# Sets of machines may have their faults side by side, since a round mostly waits. Each takes so much memory. Linux
+# gives root 128 instances of inotify, of which a box takes seven: so at most two sets are made at once, with five boxes
+# each.
 # Later each has three.
 MEMORY_OF_SITE, AT_ONCE = 6_000_000_000, 2
 DOOR = "unix:/run/office-door.sock"
@@ -616,8 +617,8 @@ class Rounds:
 def test_faults_at_random(sites, request):
     """So many faults, or as many as begin within `--minutes`: at least one of each kind, if more are asked for."""
     rounds, minutes, patience = (request.config.getoption(it) for it in ("--rounds", "--minutes", "--patience"))
-    seed = random.randrange(2 ** 32)
-    print(f"seed {seed}")
+    seed = request.config.option.hypothesis_seed
+    print(f"--hypothesis-seed={seed}")
     names = drawn(random.Random(seed), rounds)
     done = Rounds(names, minutes, patience)
     with ThreadPoolExecutor(len(sites)) as pool:
@@ -939,8 +940,8 @@ def test_a_machine_with_an_office_is_replaced(site, request):
 
 
 def test_the_program_is_updated(site, request):
-    """The page's commands, first on the machine that waits and then on the one that serves. The other takes over, or the
-    one that is updated begins again before that."""
+    """The page's commands, first on the machine that waits and then on the one that serves. The other takes over, or
+    the one that is updated begins again before that."""
     until_well(site, site.is_well)
     programs = "crates/sshoffice/out/sshoffice examples/volume/office-{volume,waiting}"
     with asked(site) as calling:

@@ -44,7 +44,8 @@ def lacking(name, another):
 
 
 names = json.load(sys.stdin)
-print(json.dumps([{it: lacking(it, another) for it in names} for another in (None, lambda: None)] + [files, hasattr(rt, "share_work")]))
+lacks = [{it: lacking(it, another) for it in names} for another in (None, lambda: None)]
+print(json.dumps(lacks + [files, hasattr(rt, "share_work")]))
 """
 
 

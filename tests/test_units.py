@@ -75,7 +75,8 @@ def test_no_memory_image_is_written_and_memory_is_limited(unit):
 
 def test_a_station_goes_on_if_a_program_of_its_own_is_killed_for_memory():
     """Otherwise systemd stops the station with it. If it was the guard, the station ends, and is started again."""
-    assert (["continue"], ["always"]) == tuple(settings("office-station@.service", it) for it in ("OOMPolicy", "Restart"))
+    unit = "office-station@.service"
+    assert (["continue"], ["always"]) == tuple(settings(unit, it) for it in ("OOMPolicy", "Restart"))
 
 
 def test_a_station_ends_its_guards_by_itself():

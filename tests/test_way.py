@@ -206,8 +206,8 @@ def test_an_office_that_is_not_asked_yet(machines, named):
     assert ["one", "one"] == [one.ask(*PAGE), two.ask(*PAGE)]
 
 
-# What comes about while an office gets its answer ready: it has ended, and another one that began isn't asked yet, or it
-# is withheld.
+# What comes about while an office gets its answer ready: it has ended, and another one that began isn't asked yet, or
+# it is withheld.
 @pytest.mark.parametrize("comes_about", [
     lambda one: one.name_office("8\n", "7\n"),
     lambda one: one.hold("withheld", from_now(60)),

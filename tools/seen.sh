@@ -1,4 +1,4 @@
-# For the scripts beside it: says and counts what was seen, and finds a port.
+# For the script beside it: says and counts what was seen.
 passed=0
 failed=0
 
@@ -26,9 +26,4 @@ apart() {
 counted() {
   echo "$passed passed, $failed failed"
   [ "$failed" -eq 0 ]
-}
-
-# free_port: a port of 127.0.0.1 at which nobody listens
-free_port() {
-  python3 -c 'import socket; s = socket.socket(); s.bind(("127.0.0.1", 0)); print(s.getsockname()[1])'
 }
