@@ -72,7 +72,8 @@ def test_another_toolchain_is_found(told, name):
 def test_the_scripts_take_what_is_listed_and_nothing_else():
     """`share_work`, which older toolchains don't have, is called only where it is."""
     scripts = [TOP / "build", TOP / "check", *(it for it in (TOP / "tools").iterdir() if it.is_file())]
-    taken = {it for script in scripts for it in re.findall(r"\brt\.((?:rtlib\.)?\w+)", script.read_text())}
+    texts = "".join(it.read_text() for it in scripts).replace('sys.modules["rtlib"]', "rtlib")
+    taken = {*re.findall(r"\brt\.((?!rtlib)\w+)", texts), *re.findall(r"\b(rtlib\.(?!Crate)\w+)", texts)}
     assert {"share_work"} == taken - {*NAMES, *VALUES.split()}
 
 
@@ -87,7 +88,9 @@ def test_the_stamp_of_a_crate_reads_each_file_once(told):
 
 
 @pytest.mark.parametrize(("change", "complaint"), [
-    ("", "crates.txt has no crate none"), ("del need", "this toolchain's rt has no need(crate): ")])
+    ("", "crates.txt has no crate none"), ("del need", "this toolchain's rt has no need(crate): "),
+    ("below = rtlib.crates_below\nrtlib.crates_below = lambda top: [delattr(it, 'rlib') or it for it in below(top)]",
+     "this toolchain's rt has no crate.rlib: ")])
 def test_nothing_is_tried_with_another_toolchain(room, change, complaint):
     real = needs_rt()
     (room / "rt").write_text(f"__file__ = {real!r}\nexec(compile(open(__file__).read(), __file__, 'exec'))\n{change}\n")

@@ -22,7 +22,8 @@ FEWEST = 4
 STUB, SHORTEST = "{{ loop {{}} {}}}", 80
 OF_CONSTANTS = re.compile(r"\bconst\s+fn\b")
 TYPE = re.compile(r"\b(?:struct|enum|union)\s+(\w+)")
-ITEM = re.compile(r"\b(?:fn\s+(?P<fn>\w+)|impl\b(?P<impl>[^{;]*)|trait\s+(?P<trait>\w+)[^{;]*|const\s+(?P<const>\w+)\s*:)")
+ITEM = re.compile(r"\b(?:fn\s+(?P<fn>\w+)|impl\b(?P<impl>[^{;]*)|trait\s+(?P<trait>\w+)[^{;]*"
+                  r"|const\s+(?P<const>\w+)\s*:)")
 
 
 class Item:
@@ -278,9 +279,9 @@ class Sources:
                 found[path] = text
         return found
 
-    def edited(self, edits):
+    def edited(self, edits, are_controls=False):
         """A copy of the crate in which these edits are: the texts of its files, the functions that each edit changes
-        there, and for each edit of a twin the one that no edit changes.
+        there, and for each edit of a twin the one that no edit changes. Controls leave the bodies of twins as they are.
 
         Where several edits change one function, each behind the first is put into a twin of the function, which has
         the function's contract and proof files under a name of its own. One more twin is as the function was: as long
@@ -306,7 +307,7 @@ class Sources:
             item, path = self.item_of(edit.pairs[0]), edit.pairs[0].path
             if not left:
                 unchanged[edit] = plain[function] = plain[function] or add(item, path, [])
-            changed[edit] = [add(item, path, edit.pairs, left)]
+            changed[edit] = [add(item, path, () if are_controls else edit.pairs, left)]
         for path, found in places.items():
             text = self.texts[path]
             for at, length, new in sorted(found, key=lambda it: -it[0]):

@@ -2,8 +2,9 @@
 
 The command `rt` is a Python program. Its own code decides how a crate is proved and how an edit is applied, so these
 scripts load that code and call it. They add only what is tried, and what counts as an answer, and they replace nothing
-of it. CALLED and VALUES are all that they take: if a toolchain lacks one of these, or wants other arguments, the
-scripts say so at once, and do nothing.
+of it. CALLED, VALUES and OF_A_CRATE are all that they take: if a toolchain lacks one of these, or wants other arguments,
+the scripts say so at once, and do nothing. How the prover words a refusal is read by tools/wrong-bodies, and
+tools/test-wrong-bodies shows whether it reads it well.
 """
 
 import importlib.machinery
@@ -27,6 +28,8 @@ rtlib.Crate.stamp(crate) rtlib.Crate.below(crate) rtlib.Crate.count(crate, patte
 rtlib.Crate.words(crate, flags, keeps=) rtlib.Crate.build_rlib(crate, flags, anew=) rtlib.Crate.is_built(crate)
 rtlib.Crate.has_kept(crate) rtlib.Crate.has_tests(crate)"""
 VALUES = "rtlib.KIT rtlib.RATTLE rtlib.PARTS".split()
+# What each crate has besides.
+OF_A_CRATE = "name folder rlib out is_program".split()
 
 
 def stop(why):
@@ -54,6 +57,13 @@ def lacking(module):
             yield f"{name}({words})"
 
 
+def must_have(missing):
+    """Ends the script if something is missing."""
+    names = ", no ".join(missing)
+    if names:
+        stop(f"this toolchain's rt has no {names}: these scripts were written for {KITS}")
+
+
 def load():
     """The code of `rt`, as a module."""
     found = shutil.which("rt")
@@ -64,9 +74,7 @@ def load():
     module = importlib.util.module_from_spec(importlib.util.spec_from_loader("rt", loader))
     sys.modules["rt"] = module
     loader.exec_module(module)
-    missing = [*lacking(module)]
-    if missing:
-        stop(f"this toolchain's rt has no {', no '.join(missing)}: these scripts were written for {KITS}")
+    must_have(lacking(module))
     # Its first call sets a signal's handler, which only the main thread may do.
     module.rtlib.guarded()
     return module
@@ -94,7 +102,9 @@ def checked(rt, crate, texts, flags, kept):
 
 def crates_of(rt, names=()):
     """The repository's crates by name, lowest first, or just those named."""
-    crates = {crate.name: crate for crate in rt.rtlib.crates_below(TOP)}
+    found = rt.rtlib.crates_below(TOP)
+    must_have(f"crate.{it}" for it in OF_A_CRATE if not hasattr(found[0], it))
+    crates = {crate.name: crate for crate in found}
     for name in names:
         if name not in crates:
             stop(f"crates.txt has no crate {name}")
