@@ -448,7 +448,7 @@ def test_a_text_in_the_filter(page, text):
 
 
 @pytest.mark.parametrize(("order", "column"), [("end", 4), ("name", 5)])
-def test_an_order(page, order, column):
+def test_the_table_is_ordered_by_a_column(page, order, column):
     rows, _ = table_of(page.office.get("table"))
     page.driver.execute_script("const it = document.getElementById('order'); it.value = arguments[0]; "
                                "it.dispatchEvent(new Event('input', {bubbles: true}))", order)

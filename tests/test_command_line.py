@@ -132,7 +132,7 @@ def test_a_fault_is_named(program, files, words, fault):
 
 
 @pytest.mark.parametrize(("words", "output"), PRINTED, ids=[words for words, _ in PRINTED])
-def test_what_is_printed(program, files, words, output):
+def test_a_command_prints_its_report(program, files, words, output):
     assert (0, output, b"") == said([program, *words.split()], cwd=files)
 
 

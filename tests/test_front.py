@@ -250,7 +250,7 @@ GUISES = [
 
 
 @pytest.mark.parametrize("request_bytes, wanted, sent", [it[1:] for it in GUISES], ids=[it[0] for it in GUISES])
-def test_a_guise(recorded, request_bytes, wanted, sent):
+def test_a_request_in_another_form(recorded, request_bytes, wanted, sent):
     forget(recorded)
     answer = recorded.ask(request_bytes, "ana")
     assert (wanted, sent) == (statuses(answer), recorded.recorder.requests)
@@ -305,7 +305,7 @@ CLIENTS = [
 
 
 @pytest.mark.parametrize("name, wanted", [it[1:] for it in CLIENTS], ids=[it[0] for it in CLIENTS])
-def test_a_client(recorded, name, wanted):
+def test_which_certificates_of_clients_are_taken(recorded, name, wanted):
     forget(recorded)
     status, = statuses(recorded.ask(posting(MESSAGE), name))
     sent = [it.split(b" HTTP")[0].decode() for it in recorded.recorder.requests]
@@ -488,7 +488,7 @@ HANDSHAKES = [
 
 
 @pytest.mark.parametrize("words, succeeds", [it[1:] for it in HANDSHAKES], ids=[it[0] for it in HANDSHAKES])
-def test_a_handshake(recorded, words, succeeds):
+def test_which_handshakes_of_tls_succeed(recorded, words, succeeds):
     done = run(["openssl", "s_client", "-connect", f"127.0.0.1:{recorded.port}", "-CAfile",
                 recorded.authority / "ca.crt", "-verify_return_error", "-servername", "localhost", *words],
                input=b"", stdin=None)
