@@ -77,7 +77,10 @@ pub(crate) fn add<R: Clock + Print + Eprint + AllocGlobal>(
         place = place.wrapping_add(stride) % count.max(1);
     }
     let added = start.elapsed(rt)?;
-    println!(rt; "{} runs of {count} serials, {new} of them new", runs.runs().len())?;
+    println!(rt;
+        "{} runs of {count} serials, {new} of them new",
+        runs.runs().len()
+    )?;
     eprintln!(rt; "added in {} us", added.as_micros())?;
     Ok(())
 }
