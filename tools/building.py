@@ -91,8 +91,9 @@ def prove(crate, progress, jobs, keeps, logs):
 
 
 def state(crate, flags):
-    """Proves a library from nothing, and leaves what it states and not its proofs, as the toolchain's own gate does. The
-    crates above then load half as much. Of the proofs nothing is kept: after an edit, `rt` proves the crate once more."""
+    """Proves a library from nothing, and leaves what it states and not its proofs, as the toolchain's own gate does.
+    The crates above then load half as much. Of the proofs nothing is kept: after an edit, `rt` proves the crate once
+    more."""
     folder, stamp, rattle = os.path.dirname(crate.rlib), crate.stamp(), sys.modules["rtlib"].RATTLE
     os.makedirs(folder)
     status = crate.call(rattle, "build", *crate.words(flags, keeps=False), "--statements", "-o", crate.rlib)
@@ -213,7 +214,8 @@ def prove_side_by_side(rt, libraries, progress, logs, kept=()):
     for crate in libraries:
         os.makedirs(f"{crate.folder}/out", exist_ok=True)
     held = rt.rtlib.lock(libraries)
-    # A newer toolchain takes what other checkouts on this machine proved, where it is the same, and offers them its own.
+    # A newer toolchain takes what other checkouts on this machine proved, where it is the same, and offers them its
+    # own.
     if hasattr(rt, "share_work"):
         rt.share_work(True)
     try:

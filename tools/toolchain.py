@@ -2,8 +2,8 @@
 
 The command `rt` is a Python program. Its own code decides how a crate is proved and how an edit is applied, so these
 scripts load that code and call it. They add only what is tried, and what counts as an answer, and they replace nothing
-of it. CALLED, VALUES and OF_A_CRATE are all that they take: if a toolchain lacks one of these, or wants other arguments,
-the scripts say so at once, and do nothing. How the prover words a refusal is read by tools/wrong-bodies, and
+of it. CALLED, VALUES and OF_A_CRATE are all that they take: if a toolchain lacks one of these, or wants other
+arguments, the scripts say so at once, and do nothing. How the prover words a refusal is read by tools/wrong-bodies, and
 tools/test-wrong-bodies shows whether it reads it well.
 """
 
