@@ -4,7 +4,7 @@ use Rattle.std.proofs.Common.{append_assoc, inl, inr, ◌⊎◌, arith}
 use Rattle.std.specs.Prelude.{find, fold, All, Contains, ◌==◌}
 use Rattle.std.specs.List.{AllByRecursion}
 use Rattle.std.specs.Option.{option_map}
-use Rattle.std.proofs.lemmas.Bool.{eq-eqb}
+use Rattle.std.proofs.lemmas.Bool.{and_parts, eq-eqb, not-true}
 use Rattle.std.proofs.lemmas.List.{append-nil}
 use Rattle.std.proofs.lemmas.List.Sums.{fold-append}
 use Rattle.std.proofs.lemmas.List.Elements.{All-push, All-nil, All-contains, All-from_recursion, Contains-push_cases}
@@ -12,7 +12,9 @@ use Rattle.cert.specs.declared.fields.CertFields.{CertFields}
 use Rattle.guard.specs.declared.approved.Approved.{Approved}
 use Rattle.guard.specs.declared.scope.Scope.{Scope}
 use Rattle.guard.specs.Machine.{State, Question, opened, fields_of, body_of, refusal_of, row_of, after}
-use Rattle.guard.specs.History.{IsStill, MaySign, WasAsked, state}
+use Rattle.office.specs.Permissions.{are_listed, is_life_permitted, meet_rules}
+use Rattle.guard.specs.SmallOrder.{has_small_order}
+use Rattle.guard.specs.History.{AddsNoSmallOrder, IsStill, KeyHasNoSmallOrder, MaySign, WasAsked, state}
 use Rattle.guard.proofs.Allowed.{IsInScope, IsNew, kept_with_row, left_by, signed, signed_again}
 
 -- a property that one more question preserves holds after all
@@ -44,6 +46,36 @@ stays scope l later =
     let s = state scope l in
     subst (IsStill s) (sym (fold-append after (opened scope) l later))
     (all_stay s s later ([], sym (append-nil s.approved)))
+
+-- ---- keys of small order
+
+-- a body that may be signed has a key that hasn't small order
+may_sign_order : (scope : Scope) (q : Question) (c : CertFields) → MaySign scope q c → has_small_order c.key ≡ false
+may_sign_order scope q c may =
+    let d = may.allowed.0 in
+    let rules = and_parts (meet_rules d c.principals) _ may.allowed.2.permits in
+    let options = and_parts (are_listed d.options c.options) _ rules.1 in
+    let extensions = and_parts (are_listed d.extensions c.extensions) _ options.1 in
+    let life = and_parts (is_life_permitted d c.after c.before) _ extensions.1 in
+    not-true (has_small_order c.key) life.1
+
+one_adds : (first s : State) (q : Question) → AddsNoSmallOrder first s → AddsNoSmallOrder first (after s q)
+one_adds first s q (rows, is, are) =
+    left_by (AddsNoSmallOrder first) s q (rows, is, are)
+    (λ c new. (
+      rows ++ row_of q c ∷ [],
+      ap (λ (all : List Approved). all ++ row_of q c ∷ []) is
+          ∙ append_assoc first.approved rows (row_of q c ∷ []),
+      All-push KeyHasNoSmallOrder rows (row_of q c) are
+          (record { fields = c; are = new.may.fields; order = may_sign_order s.scope q c new.may }),
+    ))
+
+all_add : (first s : State) (l : List Question) → AddsNoSmallOrder first s → AddsNoSmallOrder first (fold after s l)
+all_add first s [] is = is
+all_add first s (q ∷ l) is = all_add first (after s q) l (one_adds first s q is)
+
+pub adds_no_small_order : (s : State) (l : List Question) → AddsNoSmallOrder s (fold after s l)
+adds_no_small_order s l = all_add s s l ([], sym (append-nil s.approved), All-nil KeyHasNoSmallOrder)
 
 -- ---- kept bodies were asked for
 

@@ -1,5 +1,6 @@
 pub mod Refused
 pub mod Allowed
+pub mod LittleEndian
 pub mod Histories
 pub mod PolicyLines
 pub mod BodyTexts

@@ -1,10 +1,11 @@
 -- Lists of questions, and what is known about each approved unsigned certificate (body).
-use Rattle.std.specs.Prelude.{◌≡◌, ◌+◌, ◌<◌, ◌≤◌, List, ◌∷◌, ◌++◌, fold, IsTrue, Some}
+use Rattle.std.specs.Prelude.{◌≡◌, ◌+◌, ◌<◌, ◌≤◌, List, ◌∷◌, ◌++◌, fold, All, IsTrue, false, Some}
 use Rattle.values.specs.Names.{department_of}
 use Rattle.message.specs.declared.department.Department.{Department}
 use Rattle.cert.specs.declared.fields.CertFields.{CertFields}
 use Rattle.guard.specs.declared.approved.Approved.{Approved}
 use Rattle.guard.specs.declared.scope.Scope.{Scope}
+use Rattle.guard.specs.SmallOrder.{has_small_order}
 use Rattle.guard.specs.Machine.{State, Question, opened, fields_of, department_named, permits, row_of, after}
 
 -- the state after a list of questions
@@ -15,7 +16,7 @@ state scope l = fold after (opened scope) l
 abbrev pub IsStill : State → State → Type 0
 IsStill s later = (rows : List Approved) × (later.approved ≡ s.approved ++ rows)
 
--- the department has the certificate's kind, and its profile permits the certificate
+-- the department has the certificate's kind, and the certificate is permitted: by its profile, and for its key
 pub record Allows (d : Department) (c : CertFields) : Type 0 where
   pub name : d.name ≡ department_of c.key_id
   pub kind : d.kind ≡ c.kind
@@ -36,3 +37,14 @@ abbrev pub WasAsked : Scope → List Question → Approved → Type 0
 WasAsked scope l a =
     (before : List Question) × (q : Question) × (later : List Question) × (c : CertFields)
     × (l ≡ before ++ q ∷ later) × MaySign scope q c × (a ≡ row_of q c)
+
+-- the row's body has a key, and this hasn't small order
+pub record KeyHasNoSmallOrder (a : Approved) : Type 0 where
+  pub fields : CertFields
+  pub are : fields_of a.body ≡ Some fields
+  pub order : has_small_order fields.key ≡ false
+
+-- what was approved later is only for keys that haven't small order
+abbrev pub AddsNoSmallOrder : State → State → Type 0
+AddsNoSmallOrder s later =
+    (rows : List Approved) × (later.approved ≡ s.approved ++ rows) × All KeyHasNoSmallOrder rows

@@ -1,5 +1,6 @@
 pub mod Refusals
 pub mod State
+pub mod SmallOrder
 pub mod Retiring
 pub mod Machine
 pub mod History

@@ -21,17 +21,20 @@ use Rattle.guard.specs.declared.refusal.Refusal.TheVariants.{
   AlreadyEnded,
   TooFarAhead,
 }
+use Rattle.guard.specs.SmallOrder.{has_small_order}
 pub use Rattle.guard.specs.State.{State, Question, opened, fields_of, department_named, body_of, is_same, is_other}
 
 -- ---- refusals
 
--- in the office's terms: each principal meets a rule, options and extensions are listed, the lifetime isn't too long
+-- in the office's terms: each principal meets a rule, options and extensions are listed, the lifetime isn't too long.
+-- In the guard's own: the key hasn't small order
 abbrev pub permits : Department → CertFields → Bool
 permits d c =
     meet_rules d c.principals
     && (are_listed d.options c.options
     && (are_listed d.extensions c.extensions
-    && is_life_permitted d c.after c.before))
+    && (is_life_permitted d c.after c.before
+    && not (has_small_order c.key))))
 
 abbrev pub is_permitted_by : Option Department → CertFields → Bool
 is_permitted_by (Some d) c = permits d c

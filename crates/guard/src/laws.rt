@@ -1,14 +1,14 @@
 //! Theorems about every list of questions. The functions do nothing: their clauses are what is proved.
 
 ghost use Rattle.std.specs.Prelude.{◌≡◌, ◌<◌, ℕ, List, [], ◌∷◌, ◌++◌, All, Contains, true, Some, None, Ok};
-ghost use Rattle.std.specs.Prelude.{is_some, map};
+ghost use Rattle.std.specs.Prelude.{fold, is_some, map};
 ghost use Rattle.krl.specs.Reading.{IsBytes};
 ghost use Rattle.cert.specs.declared.fields.CertFields.{CertFields};
 ghost use Rattle.guard.specs.declared.approved.Approved.{Approved};
 ghost use Rattle.guard.specs.declared.refusal.Refusal.{Refusal};
 ghost use Rattle.guard.specs.declared.scope.Scope.{Scope};
 ghost use Rattle.guard.specs.Machine.{State, Question, after, body_of, fields_of, refusal_of, refusals};
-ghost use Rattle.guard.specs.History.{IsStill, MaySign, WasAsked, state};
+ghost use Rattle.guard.specs.History.{AddsNoSmallOrder, IsStill, MaySign, WasAsked, state};
 ghost use Rattle.guard.specs.Policies.{policy_at};
 ghost use Rattle.guard.specs.PolicyTexts.{AreBetween, AreParts, Part, policy_text};
 ghost use Rattle.guard.specs.Laws.{IsBodyOf, ascend_from};
@@ -28,6 +28,12 @@ pub fn a_refusal_changes_nothing()
 /// for the guard's CA and one of its serials, permitted by the given policy, within its time.
 pub fn an_approved_body_was_permitted()
     ensures { (scope : Scope) (l : List Question) → All (WasAsked scope l) (state scope l).approved }
+{}
+
+/// Whatever a guard kept before, and whatever it is asked then: each body that it approves has a key that hasn't small
+/// order. For a key of small order everybody can sign, without any private key.
+pub fn no_key_of_small_order_is_approved()
+    ensures { (s : State) (l : List Question) → AddsNoSmallOrder s (fold after s l) }
 {}
 
 /// The text of valid departments with different names, with empty lines and comments between them, is read as these

@@ -1,4 +1,4 @@
-//! What a department's profile permits.
+//! What the policy permits.
 
 ghost use Rattle.std.specs.Prelude.{◌≡◌};
 ghost use Rattle.std.specs.List.{list_any};
@@ -6,6 +6,7 @@ ghost use Rattle.values.specs.Names.{meets};
 ghost use Rattle.office.specs.Permissions.{are_listed, is_life_permitted, meet_rules};
 ghost use Rattle.guard.specs.Machine.{permits};
 
+use crate::small_order::has_small_order;
 use cert::CertFields;
 use message::Department;
 use text::{Pair, Text, Texts};
@@ -43,7 +44,7 @@ fn is_life_permitted(department: &Department, after: u64, before: u64) -> bool
     after < before && before - after <= department.longest_life
 }
 
-/// Whether the department's profile permits the certificate.
+/// Whether the department's profile permits the certificate, and its key isn't one for which everybody can sign.
 pub(crate) fn permits(department: &Department, fields: &CertFields) -> bool
     ensures { result ≡ permits department.now fields.now }
 {
@@ -51,4 +52,5 @@ pub(crate) fn permits(department: &Department, fields: &CertFields) -> bool
         && are_listed(&department.options, fields.options.pairs())
         && are_listed(&department.extensions, fields.extensions.pairs())
         && is_life_permitted(department, fields.after, fields.before)
+        && !has_small_order(&fields.key)
 }
