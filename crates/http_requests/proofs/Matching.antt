@@ -116,7 +116,7 @@ are_rows = (
       tt,
       (
         tt,
-        ((tt, refl, refl), ((tt, refl, refl), ((tt, refl, refl), ((tt, refl, refl), tt)))),
+        ((tt, refl, refl), ((tt, refl, refl), ((tt, refl, refl), ((tt, refl, refl), ((tt, refl, refl), tt))))),
       ),
     ),
   ),

@@ -4,7 +4,7 @@ use Rattle.values.specs.Names.{is_name}
 use Rattle.values.specs.Serials.{is_serial}
 use Rattle.http_requests.specs.declared.resource.Resource.{Resource}
 use Rattle.http_requests.specs.declared.resource.Resource.TheVariants.{Pending, Certificate, Body}
-use Rattle.http_requests.specs.declared.resource.Resource.TheVariants.{RevocationList, Signers, Table, Cas}
+use Rattle.http_requests.specs.declared.resource.Resource.TheVariants.{RevocationList, Signers, Table, Cas, Departments}
 
 -- a path leads to the messages of a caller under a request ID (`key`), or to a resource
 pub data Path : Type 0 where
@@ -28,3 +28,4 @@ path_text (resource RevocationList) = codes "/v1/krl"
 path_text (resource Signers) = codes "/v1/signers"
 path_text (resource Table) = codes "/v1/table"
 path_text (resource Cas) = codes "/v1/cas"
+path_text (resource Departments) = codes "/v1/departments"

@@ -6,6 +6,7 @@ use Rattle.matchit.specs.Route.{Scan, parse_route}
 use Rattle.matchit.specs.Router.{RouteOf, route_from}
 use Rattle.matchit.specs.Rows.{RowsOf, param_token}
 use Rattle.http_requests.specs.declared.resource.Resource.TheVariants.{Pending, RevocationList, Signers, Table, Cas}
+use Rattle.http_requests.specs.declared.resource.Resource.TheVariants.{Departments}
 use Rattle.http_requests.specs.declared.router.RouteKind.{RouteKind}
 use Rattle.http_requests.specs.declared.router.RouteKind.TheVariants.{Message, Certificate, Body, Fixed}
 use Rattle.http_requests.specs.Paths.{resource, path_text}
@@ -41,7 +42,8 @@ rows_of (kind ∷ rest) = (pattern_of kind, route_row kind) ∷ rows_of rest
 -- the routes, in the order in which a router stores them
 abbrev pub kinds : List RouteKind
 kinds =
-    Message ∷ Fixed Cas ∷ Body ∷ Certificate ∷ Fixed RevocationList ∷ Fixed Pending ∷ Fixed Signers ∷ Fixed Table ∷ []
+    Message ∷ Fixed Cas ∷ Body ∷ Certificate ∷ Fixed Departments ∷ Fixed RevocationList ∷ Fixed Pending
+    ∷ Fixed Signers ∷ Fixed Table ∷ []
 
 -- their rows
 abbrev pub routing : RowsOf (RouteOf RouteKind)

@@ -13,8 +13,10 @@ pub enum Resource {
     RevocationList,
     /// The allowed signers.
     Signers,
-    /// The report of departments and certificates.
+    /// The report of all certificates.
     Table,
     /// The keys of the certificate authorities.
     Cas,
+    /// The texts of all departments.
+    Departments,
 }

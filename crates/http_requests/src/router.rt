@@ -74,7 +74,12 @@ fn router_of(alloc: Global) -> Result<Router<RouteKind>, NoMemory>
     );
     let router = with_route(router, "/v1/signers", RouteKind::Fixed(Resource::Signers));
     let router = with_route(router, "/v1/table", RouteKind::Fixed(Resource::Table));
-    with_route(router, "/v1/cas", RouteKind::Fixed(Resource::Cas))
+    let router = with_route(router, "/v1/cas", RouteKind::Fixed(Resource::Cas));
+    with_route(
+        router,
+        "/v1/departments",
+        RouteKind::Fixed(Resource::Departments),
+    )
 }
 
 impl Routes {

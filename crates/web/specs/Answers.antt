@@ -6,7 +6,7 @@ use Rattle.lines.specs.CertLines.{certificate_line_text}
 use Rattle.krl.specs.Published.{fits}
 use Rattle.http_requests.specs.declared.resource.Resource.{Resource}
 use Rattle.http_requests.specs.declared.resource.Resource.TheVariants.{Pending, Certificate, Body, RevocationList}
-use Rattle.http_requests.specs.declared.resource.Resource.TheVariants.{Signers, Table, Cas}
+use Rattle.http_requests.specs.declared.resource.Resource.TheVariants.{Signers, Table, Cas, Departments}
 use Rattle.http_requests.specs.declared.response.MediaType.TheVariants.{PlainText, Bytes}
 use Rattle.http_requests.specs.Asks.{Ask, Asks, refused, get, post}
 use Rattle.http_requests.specs.Responses.{response_text, refusal_response}
@@ -19,7 +19,7 @@ use Rattle.office.specs.State.{State, body_of}
 use Rattle.office.specs.Publication.{issued_of, published_list, published_parts}
 use Rattle.office.specs.History.{state, due}
 use Rattle.office.specs.Shows.{IsOffice}
-use Rattle.web.specs.Reports.{pending_report, ca_report, signers_report, table_report}
+use Rattle.web.specs.Reports.{pending_report, ca_report, departments_report, signers_report, table_report}
 
 -- the response to an arrival
 abbrev pub outcome_response : Outcome → List ℕ
@@ -54,6 +54,7 @@ resource_response s RevocationList = response_text 200 Bytes (published_list s)
 resource_response s Signers = response_text 200 PlainText (signers_report s)
 resource_response s Table = response_text 200 PlainText (table_report s)
 resource_response s Cas = response_text 200 PlainText (ca_report s)
+resource_response s Departments = response_text 200 PlainText (departments_report s)
 
 -- the length of each section of the published list fits in 32 bits
 abbrev pub ListFits : State → Type 0

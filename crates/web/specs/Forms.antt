@@ -21,7 +21,7 @@ use Rattle.web.specs.declared.exchange.Given.{Given}
 use Rattle.web.specs.declared.exchange.Given.TheVariants.{Answer, Fault}
 use Rattle.web.specs.Answers.{body_response, certificate_response, outcome_response}
 use Rattle.web.specs.Batches.{table_among}
-use Rattle.web.specs.Reports.{ca_lines, pending_lines, signer_rows}
+use Rattle.web.specs.Reports.{ca_lines, department_reports, pending_lines, signer_rows}
 
 -- the bytes are a list of these parts, and the length of each section fits in 32 bits
 pub record IsListText (bytes : List ℕ) : Type 0 where
@@ -44,6 +44,8 @@ MayShow resource.Table response =
     (revocations : Revocations) × (certificates : List Certificate) × (version : ℕ)
     × (response ≡ response_text 200 PlainText (table_among revocations certificates version))
 MayShow resource.Cas response = (cas : List Ca) × (response ≡ response_text 200 PlainText (ca_lines cas))
+MayShow resource.Departments response =
+    (departments : List Department) × (response ≡ response_text 200 PlainText (department_reports departments))
 
 -- The response to an ask: if it is refused at once, that of the refusal; to a message, that of any outcome.
 abbrev pub MayAnswer : Ask → (response : List ℕ) → Type 0

@@ -8,6 +8,7 @@ use Rattle.lines.specs.Digests.{fingerprint_text}
 use Rattle.lines.specs.Signers.{signers_text}
 use Rattle.lines.specs.declared.signers.SignerRow.{SignerRow}
 use Rattle.message.specs.declared.department.Department.{Department}
+use Rattle.message.specs.declared.kinds.Message.TheVariants as message
 use Rattle.office.specs.declared.ca.Ca.{Ca}
 use Rattle.office.specs.declared.publication.Pending.{Pending}
 use Rattle.office.specs.declared.publication.Entry.{Entry}
@@ -15,7 +16,7 @@ use Rattle.office.specs.declared.publication.Standing.{Standing}
 use Rattle.office.specs.declared.publication.Standing.TheVariants as standing
 use Rattle.office.specs.State.{State}
 use Rattle.office.specs.Publication.{pending_of, departments_of, entries_of}
-use Rattle.message.specs.Texts.{kind_text}
+use Rattle.message.specs.Texts.{kind_text, message_text}
 
 -- ---- pending certificates
 
@@ -69,6 +70,19 @@ signer_rows ds cas = flat_map (signer_rows_of cas) ds
 
 abbrev pub signers_report : State → List ℕ
 signers_report s = signers_text (signer_rows (departments_of s) s.cas)
+
+-- ---- departments
+
+-- the text of the message that puts the department
+abbrev pub department_report : Department → List ℕ
+department_report d = message_text (message.Department d)
+
+abbrev pub department_reports : List Department → List ℕ
+department_reports ds = flat_map department_report ds
+
+-- the texts by the departments' names, with nothing between them
+abbrev pub departments_report : State → List ℕ
+departments_report s = department_reports (departments_of s)
 
 -- ---- the table
 

@@ -12,6 +12,7 @@
 mod answering;
 mod batches;
 mod certificate_lines;
+mod departments;
 mod exchange;
 mod pieces;
 mod publishing;

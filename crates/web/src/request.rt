@@ -16,6 +16,7 @@ ghost use Rattle.web.specs.Requests.{request_ask};
 
 use crate::answering::to_arrival;
 use crate::certificate_lines::{to_certificate, to_pending, to_serial_body};
+use crate::departments::to_departments;
 use crate::publishing::{to_cas, to_list, to_signers};
 use crate::report::to_table;
 use crate::room::to_refusal;
@@ -88,6 +89,7 @@ fn to_resource<R: Registry>(
         Resource::Signers => to_signers(registry, alloc),
         Resource::Table => to_table(registry, alloc),
         Resource::Cas => to_cas(registry, alloc),
+        Resource::Departments => to_departments(registry, alloc),
     }
 }
 

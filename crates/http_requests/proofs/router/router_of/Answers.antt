@@ -8,4 +8,5 @@ returns c =
     let list = c.with_route-router-2.ensures _ pending in
     let signers = c.with_route-router-3.ensures _ list in
     let table = c.with_route-router-4.ensures _ signers in
-    c.with_route.ensures _ table
+    let cas = c.with_route-router-5.ensures _ table in
+    c.with_route.ensures _ cas

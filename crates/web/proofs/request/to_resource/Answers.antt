@@ -17,6 +17,10 @@ pub returns-in-Cas-clause-cause : goal.returns-in-Cas-clause-cause
 returns-in-Cas-clause-cause g c h =
     cause_within g.R.Registry.means g.R.Registry.fails _ _ c.to_cas.result c.to_cas.ensures.cause
 
+pub returns-in-Departments-clause-cause : goal.returns-in-Departments-clause-cause
+returns-in-Departments-clause-cause g c h =
+    cause_within g.R.Registry.means g.R.Registry.fails _ _ c.to_departments.result c.to_departments.ensures.cause
+
 pub returns-in-Signers-clause-cause : goal.returns-in-Signers-clause-cause
 returns-in-Signers-clause-cause g c h =
     cause_weaker g.R.Registry.is_open g.R.Registry.is_as_before g.R.Registry.means g.R.Registry.fails _ _
@@ -46,3 +50,8 @@ pub returns-in-Cas-clause-plain : goal.returns-in-Cas-clause-plain
 returns-in-Cas-clause-plain g c h other =
     cause_at_once g.R.Registry.is_open g.R.Registry.is_as_before g.R.Registry.means g.R.Registry.fails _ _
     c.to_cas.result (g.met.R.Registry.unasked c.args.registry.now) c.to_cas.ensures.cause
+
+pub returns-in-Departments-clause-plain : goal.returns-in-Departments-clause-plain
+returns-in-Departments-clause-plain g c h other =
+    cause_at_once g.R.Registry.is_open g.R.Registry.is_as_before g.R.Registry.means g.R.Registry.fails _ _
+    c.to_departments.result (g.met.R.Registry.unasked c.args.registry.now) c.to_departments.ensures.cause
