@@ -4,6 +4,7 @@ import importlib.machinery
 import importlib.util
 import json
 import os
+import pathlib
 import re
 import shutil
 import sys
@@ -70,11 +71,11 @@ def test_another_toolchain_is_found(told, name):
 
 
 def test_the_scripts_take_what_is_listed_and_nothing_else():
-    """`share_work`, which older toolchains don't have, is called only where it is."""
+    """What older toolchains don't have is taken only if it is there."""
     scripts = [TOP / "build", TOP / "check", *(it for it in (TOP / "tools").iterdir() if it.is_file())]
     texts = "".join(it.read_text() for it in scripts).replace('sys.modules["rtlib"]', "rtlib")
     taken = {*re.findall(r"\brt\.((?!rtlib)\w+)", texts), *re.findall(r"\b(rtlib\.(?!Crate)\w+)", texts)}
-    assert {"share_work"} == taken - {*NAMES, *VALUES.split()}
+    assert {"share_work", "kit_sum", "STORE"} == taken - {*NAMES, *VALUES.split()}
 
 
 def test_the_stamp_of_a_crate_reads_each_file_once(told):
@@ -100,14 +101,19 @@ def test_nothing_is_tried_with_another_toolchain(room, change, complaint):
     assert (2, True) == (done.returncode, done.stderr.decode().startswith(f"wrong-bodies: {complaint}"))
 
 
-def test_a_trial_leaves_the_memory_that_other_work_is_about_to_take(room, monkeypatch):
-    """A check of wrong bodies that takes 4 bytes begins beside another one if as many more stay free as a file says."""
+@pytest.fixture
+def script(monkeypatch):
+    """The code of tools/wrong-bodies."""
     monkeypatch.syspath_prepend(TOP / "tools")
     loader = importlib.machinery.SourceFileLoader("wrong_bodies", str(TOP / "tools/wrong-bodies"))
     script = importlib.util.module_from_spec(importlib.util.spec_from_loader(loader.name, loader))
     monkeypatch.setattr(sys, "dont_write_bytecode", True)
     loader.exec_module(script)
+    return script
 
+
+def test_a_trial_leaves_the_memory_that_other_work_is_about_to_take(room, script):
+    """A check of wrong bodies that takes 4 bytes begins beside another one if as many more stay free as a file says."""
     class Toolchain:
         need, free = staticmethod(lambda crate: 8), staticmethod(lambda: 10)
 
@@ -125,3 +131,83 @@ def test_a_trial_leaves_the_memory_that_other_work_is_about_to_take(room, monkey
         with memory.turn:
             memory.turn.notify_all()
         assert begun.wait(60)
+
+
+@pytest.mark.parametrize(("seconds", "running", "first"), [
+    ([[90, 5], [80, 70]], [0, 0], 0), ([[90, 5], [80, 70]], [1, 0], 1), ([[90], [44, 44]], [1, 0], 0),
+    ([[90], [46, 1]], [1, 0], 1), ([[], [1]], [0, 0], 1)])
+def test_the_longest_step_is_the_next(script, seconds, running, first):
+    """A step counts half if another one of its crate is being taken. Steps of a crate without its libraries wait."""
+    class Trial:
+        is_ready, expected = True, staticmethod(lambda step: step)
+
+        def __init__(self, steps, running):
+            self.steps, self.running = steps, running
+
+    trials, waiting = [*map(Trial, seconds, running)], Trial([1000], 0)
+    waiting.is_ready = False
+    assert trials[first] is script.Side([waiting, *trials], None).next()
+
+
+def test_the_seconds_of_an_edit_are_those_of_its_last_try(room, script):
+    """Edits that were tried together took the same. What was never tried takes as long as its crate has lines."""
+    took = script.remembered.Seconds(room)
+    assert took.of("text/first", 1000) == 1000 * script.remembered.SECONDS_OF_A_LINE
+    took.note(["text/first", "text/second"], 60)
+    took.save()
+    script.remembered.Seconds(room).save()
+    later = script.remembered.Seconds(room)
+    later.note(["text/second"], 50)
+    later.save()
+    assert {"text/first": 30, "text/second": 50} == script.remembered.Seconds(room).known
+    (room / "seconds.json").write_text('{"text/first": ')
+    assert {} == script.remembered.Seconds(room).known
+
+
+def test_what_was_not_used_for_the_longest_time_goes(room, script):
+    """Files of others stay, whatever they are called, and so does what another run is about to write."""
+    sums = [number * 32 for number in ("a0", "b1", "c2")]
+    others = ["seconds.json", "aa/other", f"folder/{sums[0]}", "new-letter"]
+    for number, name in enumerate([f"{it[:2]}/{it}" for it in sums] + ["a0/new-half_1ab", "b1/new-now_12ab", *others]):
+        (room / name).parent.mkdir(exist_ok=True)
+        (room / name).write_text("x" * 100)
+        at = None if "now" in name else (1000 + number, 1000 + number)
+        os.utime(room / name, at)
+    script.remembered.Outputs(type("Toolchain", (), {"kit_sum": staticmethod(str)}), str(room)).shrink(200)
+    left = {str(it.relative_to(room)) for it in room.rglob("*") if it.is_file()}
+    assert {f"b1/{sums[1]}", f"c2/{sums[2]}", "b1/new-now_12ab", *others} == left
+
+
+ENDS = "only=1 holes=0\n"
+
+
+@pytest.mark.parametrize(("status", "said", "is_kept"), [
+    (1, "fn a::b: no proof: `search` did not prove `returns`\n" + ENDS, True), (0, "fn a::b: no holes\n" + ENDS, True),
+    (1, "fn a::b: not proved\nlogic=not-proved\n", True), (0, "logic=proved sum=1\n", True), (0, "holes=3\n", True),
+    (1, "fn a::b: no proof\n", False), (0, "", False), (2, ENDS, False), (3, ENDS, False), (-9, ENDS, False),
+    (1, "src/lib.rt:1:2: error[unknown-name]: no\n", True), (0, "src/lib.rt:1:2: error[unknown-name]: no\n", False),
+    (1, "fn a::b: could not tell\n" + ENDS, False), (1, "note: it could not tell `a` from `b`\n" + ENDS, True),
+    (1, "`returns`: stopped at the step limit (50000000 steps a task, the default)\n" + ENDS, False),
+    (1, "  `search` broke off: the call's work took more than 10000000 steps\n" + ENDS, True),
+    (1, "note: antt ran out of the memory that the check of one declaration may use\n" + ENDS, False),
+    (1, "note: a copy of rattle was killed by signal 9, perhaps for lack of memory\n" + ENDS, False),
+    (1, "antt: a job died\n" + ENDS, False), (1, "fn a::antt: no proof\n" + ENDS, True)])
+def test_which_output_is_kept(script, status, said, is_kept):
+    """A tactic's own count of steps is the same in each check. What other limits decide may differ."""
+    unfit = script.remembered.unfit(script.remembered.subprocess.CompletedProcess([], status, said))
+    assert is_kept == (unfit is None)
+
+
+def test_the_course_of_a_check_is_not_part_of_its_output(script):
+    said = "so far: 3 of 33 functions checked\nfn a::b: no holes\nlibrary text: modules loaded=55 checked=579\n" + ENDS
+    assert "fn a::b: no holes\n" + ENDS == script.remembered.without_course(said)
+
+
+def test_the_words_that_are_looked_for_are_the_provers():
+    """A prover that says another way that it met a limit would have such output kept."""
+    prover = (pathlib.Path(needs_rt()).parent / "rattle").read_bytes()
+    words = ["ran out of ", "outgrew the memory limit", "stopped at the step limit", "stopped after copying", "term arena",
+             "no memory budget", "temporary terms", "resource limit", "could not start", "was killed by signal",
+             "incremental directory", "Run the lower steps again", "panicked at", "internal error", "os error ",
+             ": could not tell", "functions checked", ": modules loaded=", "logic=not-proved", "holes=", "only="]
+    assert [] == [it for it in words if it.encode() not in prover]

@@ -4,10 +4,10 @@ import copy
 import os
 import queue
 import re
-import subprocess
 import sys
 import threading
 import time
+from concurrent.futures import ThreadPoolExecutor
 
 # The share of the free memory that proofs may take, and the share that a proof takes of what rt reckons with at most.
 MEMORY_TAKEN = 0.85
@@ -16,11 +16,15 @@ SHARE_OF_NEED = 0.5
 # The start of a proof takes as long as the proof of so many lines.
 LINES_OF_A_START = 250
 
-# What a process takes of the memory that proves the program beside others, in bytes.
-MEMORY_OF_A_JOB = 3_000_000_000
+# A program takes as long besides, for all that is linked.
+LINES_OF_A_LINK = 2500
 
 # A crate can wait long if more lines than these can be proved before it, and the build takes no longer.
 LONG_WAIT = 8000
+
+# A crate that can't wait for more lines than these is on the longest chain or next to it, and is proved by two
+# processes at least: others end before it, and leave their processors idle.
+SHORT_WAIT, FEWEST_JOBS = 2000, 2
 
 # Beyond that, the longer a crate can wait, the lower the priority of its processes: by one for each so many lines, and
 # by so much at most.
@@ -103,19 +107,39 @@ def state(crate, flags):
     return status
 
 
+def made_from(program):
+    """A text that changes with all that the program is made from, and with the program itself."""
+    return program.stamp() + sys.modules["rtlib"].sum_of(f"{program.folder}/out/{program.name}")
+
+
+def build_program(program, progress, jobs, logs):
+    """Proves, compiles and links a program, unless it is there, and returns whether that went well. Rattle's own
+    compiler takes a fifth of the time that LLVM takes, and what it makes is as fast."""
+    note = f"{program.folder}/out/made-from"
+    if sys.modules["rtlib"].text_of(note) == made_from(program):
+        progress.was_proved()
+        return True
+    progress.begins(program.name)
+    with open(f"{logs}/{program.name}", "w+", errors="replace") as log:
+        is_built = make(program, ["--jobs", str(jobs), "--backend", "rattle"], log) == 0
+    if is_built:
+        with open(note, "w", encoding="utf-8") as it:
+            it.write(made_from(program))
+    progress.ends(program.name, is_built)
+    return is_built
+
+
 def make(program, flags, log):
-    """Proves a program, compiles and links it, and returns the status. The first time no proofs are kept: to keep those
-    of the link takes a seventh of the time."""
-    if program.has_kept() or os.path.isfile(f"{program.folder}/out/{program.name}"):
-        words = ["rt", "run", *flags, "--", "--help"]
-        how = {"cwd": program.folder, "stdin": subprocess.DEVNULL, "stdout": log, "stderr": subprocess.STDOUT}
-        return subprocess.run(words, **how).returncode
-    os.makedirs(f"{program.folder}/out", exist_ok=True)
+    """Proves a program whose libraries are built, compiles and links it, and returns the status. The first time no
+    proofs are kept: to keep those of the link takes a seventh of the time."""
     rtlib, made = sys.modules["rtlib"], f"out/{program.name}"
     program = copy.copy(program)
     program.out, tools = log, ["--toolchain", f"{rtlib.KIT}/toolchain"]
-    words = program.words([*flags, *tools], keeps=False)
-    status = program.call(rtlib.RATTLE, "build", *words, "-o", f"{made}.o")
+    if program.has_kept() or os.path.isfile(f"{program.folder}/{made}"):
+        status = program.compile(flags, f"{made}.o")
+    else:
+        words = program.words([*flags, *tools], keeps=False)
+        status = program.call(rtlib.RATTLE, "build", *words, "-o", f"{made}.o")
     words = ["--target", "x86_64-unknown-linux-gnu", *tools, "-o", made, f"{made}.o"]
     words += [f"{rtlib.KIT}/c/libos_c.a", f"{rtlib.KIT}/c/liblibc_c.a"]
     return status or program.call(f"{rtlib.KIT}/bin/rattle-link", *words)
@@ -123,7 +147,7 @@ def make(program, flags, log):
 
 def lines_of(crate):
     """The lines of a crate's code, definitions and proofs: the time of its proof goes with them."""
-    found = 0
+    found = LINES_OF_A_START + LINES_OF_A_LINK * crate.is_program
     for file in sys.modules["rtlib"].files_of(crate.folder):
         with open(file, "rb") as it:
             found += it.read().count(b"\n")
@@ -131,28 +155,29 @@ def lines_of(crate):
 
 
 class Lanes:
-    """Proves crates side by side: each as soon as those below it are proved and memory is free for it.
+    """Proves crates side by side, and builds the programs among them: each as soon as those below it are proved and
+    memory is free for it.
 
     A build takes as long as the longest chain of crates that stand on one another. A crate that isn't on this chain can
     wait: `spare` says how many lines can be proved before it, and the build takes no longer. The crates that can't wait
-    long share the processors, all alike. The others are proved by one process each, and by more only where processors
-    would be idle. There may be more processes than processors: the longer a crate can wait, the less of their time it
-    is given.
+    long share the processors, all alike; those that can hardly wait are proved by two processes at least. The others
+    are proved by one process each, and by more only where processors would be idle. There may be more processes than
+    processors: the longer a crate can wait, the less of their time it is given.
     """
 
-    def __init__(self, rt, libraries, progress, logs, kept):
+    def __init__(self, rt, crates, progress, logs, kept):
         self.rt, self.progress, self.logs, self.kept = rt, progress, logs, kept
         self.processors, self.memory = rt.processors(), MEMORY_TAKEN * rt.free()
-        size = {it.name: LINES_OF_A_START + lines_of(it) for it in libraries}
+        size = {it.name: lines_of(it) for it in crates}
         up_to, behind = {}, {}
-        for crate in libraries:
+        for crate in crates:
             up_to[crate.name] = size[crate.name] + max((up_to[it.name] for it in crate.below()), default=0)
-        for crate in reversed(libraries):
-            above = [it.name for it in libraries if crate in it.below()]
+        for crate in reversed(crates):
+            above = [it.name for it in crates if crate in it.below()]
             behind[crate.name] = max((size[it] + behind[it] for it in above), default=0)
         longest = max(up_to.values(), default=0)
-        self.spare = {it.name: longest - up_to[it.name] - behind[it.name] for it in libraries}
-        self.left = sorted(libraries, key=lambda it: -size[it.name] - behind[it.name])
+        self.spare = {it.name: longest - up_to[it.name] - behind[it.name] for it in crates}
+        self.left = sorted(crates, key=lambda it: -size[it.name] - behind[it.name])
         self.running, self.proved, self.ended = {}, {}, queue.Queue()
 
     def is_ready(self, crate):
@@ -165,6 +190,8 @@ class Lanes:
         if self.spare[crate.name] <= LONG_WAIT:
             pressing = 1 + sum(self.spare[it] <= LONG_WAIT for it in [*self.running, *others])
             idle = max(idle, self.processors // pressing)
+        if self.spare[crate.name] <= SHORT_WAIT:
+            idle = max(idle, FEWEST_JOBS)
         return min(self.processors, max(1, idle))
 
     def memory_of(self, crate, jobs):
@@ -194,9 +221,14 @@ class Lanes:
             # On Linux this lowers the priority of this thread, and of the processes that it starts.
             os.nice(min(LAST_STEP, max(0, self.spare[crate.name] - LONG_WAIT) // LINES_OF_A_STEP))
             if all(self.proved[it.name] for it in crate.below()):
-                is_proved = prove(crate, self.progress, jobs, crate.name in self.kept, self.logs)
+                is_proved = self.make(crate, jobs)
         finally:
             self.ended.put((crate.name, is_proved))
+
+    def make(self, crate, jobs):
+        if crate.is_program:
+            return build_program(crate, self.progress, jobs, self.logs)
+        return prove(crate, self.progress, jobs, crate.name in self.kept, self.logs)
 
     def run(self):
         """Proves all, and returns the name of the first that isn't proved, or None."""
@@ -208,26 +240,43 @@ class Lanes:
         return next((name for name, is_proved in self.proved.items() if not is_proved), None)
 
 
-def prove_side_by_side(rt, libraries, progress, logs, kept=()):
-    """Proves the libraries, lowest first, and keeps the proofs of those of the names in `kept`. Returns the name of one
-    that isn't proved, or None."""
-    for crate in libraries:
+def prove_side_by_side(rt, crates, progress, logs, kept=()):
+    """Proves the libraries, lowest first, builds the programs, and keeps the proofs of those of the names in `kept`.
+    Returns the name of one that isn't proved, or None."""
+    for crate in crates:
         os.makedirs(f"{crate.folder}/out", exist_ok=True)
-    held = rt.rtlib.lock(libraries)
+    # Nothing here may start a command `rt`, which would wait for these locks.
+    held = rt.rtlib.lock(crates)
     # A newer toolchain takes what other checkouts on this machine proved, where it is the same, and offers them its
     # own.
     if hasattr(rt, "share_work"):
         rt.share_work(True)
     try:
-        return Lanes(rt, libraries, progress, logs, kept).run()
+        return Lanes(rt, crates, progress, logs, kept).run()
     finally:
         for it in held:
             os.close(it)
 
 
-def jobs_alone(rt):
-    """By how many processes a crate is proved where nothing else runs."""
-    return max(1, min(4, rt.processors(), int(MEMORY_TAKEN * rt.free() / MEMORY_OF_A_JOB)))
+def test_side_by_side(rt, crates, logs):
+    """Proves and runs the tests of crates whose libraries are built, as many at a time as memory is free for, and
+    returns the names of those that don't pass."""
+    most = max((SHARE_OF_NEED * rt.need(it) for it in crates), default=1)
+    count = max(1, min(rt.processors(), int(MEMORY_TAKEN * rt.free() / most)))
+    held = rt.rtlib.lock([below for it in crates for below in [*it.below(), it]])
+    try:
+        with ThreadPoolExecutor(count) as pool:
+            passed = [*pool.map(lambda it: pass_tests(it, logs), crates)]
+    finally:
+        for it in held:
+            os.close(it)
+    return [crate.name for crate, is_passed in zip(crates, passed) if not is_passed]
+
+
+def pass_tests(crate, logs):
+    crate = copy.copy(crate)
+    with open(f"{logs}/{crate.name}", "w+", errors="replace") as crate.out:
+        return crate.run(["--jobs", "1"], [], tests=True) == 0
 
 
 def end_of(file, count=40):

@@ -17,16 +17,20 @@ import subprocess
 import sys
 import tempfile
 
+from remembered import environment, without_course
+
 TOP = os.path.dirname(os.path.dirname(os.path.realpath(__file__)))
 KITS = "rattle-kit-13b and rattle-kit-13f"
 
 # What the scripts take from `rt`: functions and methods, each with the arguments that they are called with, and values.
-# A method's first argument is the crate. `share_work`, which older toolchains don't have, is called only where it is.
+# A method's first argument is the crate. `share_work`, `kit_sum()` and `STORE`, which older toolchains don't have, are
+# taken only if they are there.
 CALLED = """need(crate) free() processors() must_fail(crate, edit, flags, kept) rtlib.guarded() rtlib.blanked(folder)
 rtlib.crates_below(top) rtlib.files_of(folder) rtlib.sum_of(file) rtlib.text_of(file) rtlib.lock(crates)
 rtlib.Crate.stamp(crate) rtlib.Crate.below(crate) rtlib.Crate.count(crate, pattern) rtlib.Crate.call(crate, word, word)
 rtlib.Crate.words(crate, flags, keeps=) rtlib.Crate.build_rlib(crate, flags, anew=) rtlib.Crate.is_built(crate)
-rtlib.Crate.has_kept(crate) rtlib.Crate.has_tests(crate)"""
+rtlib.Crate.has_kept(crate) rtlib.Crate.has_tests(crate) rtlib.Crate.compile(crate, flags, to)
+rtlib.Crate.run(crate, flags, words, tests=)"""
 VALUES = "rtlib.KIT rtlib.RATTLE rtlib.PARTS".split()
 # What each crate has besides.
 OF_A_CRATE = "name folder rlib out is_program".split()
@@ -80,24 +84,37 @@ def load():
     return module
 
 
-def checked(rt, crate, texts, flags, kept):
-    """Checks a copy of the crate with these texts in place of its own or beside them, over what earlier checks kept. A
-    file whose text is None isn't in the copy."""
-    with tempfile.TemporaryDirectory(prefix=f"wrong-{os.getpid()}-") as room:
-        for part in rt.rtlib.PARTS:
-            if os.path.isdir(f"{crate.folder}/{part}"):
-                shutil.copytree(f"{crate.folder}/{part}", f"{room}/{part}")
-        for path, text in texts.items():
-            file = f"{room}/{path}"
-            if text is not None:
-                os.makedirs(os.path.dirname(file), exist_ok=True)
-                with open(file, "w", encoding="utf-8") as it:
-                    it.write(text)
-            elif os.path.exists(file):
-                os.remove(file)
-        words = [rt.rtlib.RATTLE, "check", *crate.words(flags, keeps=False), "--incremental", kept]
+def copy_of(rt, crate, texts):
+    """The files of a copy of the crate, by their paths, with these texts in place of its own or beside them. A file
+    whose text is None isn't in the copy."""
+    files = {}
+    for file in rt.rtlib.files_of(crate.folder):
+        with open(file, "rb") as it:
+            files[os.path.relpath(file, crate.folder)] = it.read()
+    files |= {path: text.encode() for path, text in texts.items() if text is not None}
+    return {path: data for path, data in files.items() if texts.get(path, "") is not None}
+
+
+def checked(rt, crate, texts, flags, work, outputs):
+    """The output and the status of a check of a copy of the crate with these texts: what is kept of the same check, or
+    else what it prints now, over what earlier checks kept in a folder: that of `with work()`. The copy has the bytes by
+    which the output is kept, also if a file of the crate changes meanwhile."""
+    files, words = copy_of(rt, crate, texts), [rt.rtlib.RATTLE, "check", *crate.words(flags, keeps=False)]
+    key = outputs.key(crate, files, words)
+    ran = outputs.find(key)
+    if ran:
+        return ran
+    with work() as kept, tempfile.TemporaryDirectory(prefix=f"wrong-{os.getpid()}-") as room:
+        for path, data in files.items():
+            os.makedirs(os.path.dirname(f"{room}/{path}"), exist_ok=True)
+            with open(f"{room}/{path}", "wb") as it:
+                it.write(data)
         how = {"cwd": room, "stdin": subprocess.DEVNULL, "stdout": subprocess.PIPE, "stderr": subprocess.STDOUT}
-        return subprocess.run([*rt.rtlib.guarded(), *words], text=True, errors="replace", **how)
+        how |= {"encoding": "utf-8", "errors": "replace", "env": environment()}
+        ran = subprocess.run([*rt.rtlib.guarded(), *words, "--incremental", kept], **how)
+    ran.stdout = without_course(ran.stdout)
+    outputs.keep(key, ran, crate.name)
+    return ran
 
 
 def crates_of(rt, names=()):
