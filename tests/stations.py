@@ -1,7 +1,6 @@
 """The signing station of examples/station, with the guard beside its key."""
 import os
 import pathlib
-import shutil
 import signal
 import subprocess
 
@@ -103,10 +102,7 @@ class Station:
 
     def resolve(self, *addresses):
         """Has each name have these addresses, in place of what getent says of it."""
-        new = self.folder / "getent.new"
-        new.write_text(f"#!/bin/sh\nprintf '%s STREAM\\n' {' '.join(addresses)}\n")
-        new.chmod(0o755)
-        new.rename(self.folder / "getent")
+        self.runs_in_place_of("getent", f"printf '%s STREAM\\n' {' '.join(addresses)}")
 
     def change(self, old, new):
         """Has it run a copy of the script, with a text in the place of another."""
@@ -123,15 +119,16 @@ class Station:
         self.ended, program = self.folder / "ended", self.folder / "sshstation"
         program.unlink()
         program.write_text(f"#!/usr/bin/python3 -I\nimport subprocess, sys\n"
-                           f"status = subprocess.call(['{self.guard.program}', *sys.argv[1:]])\n"
+                           f"status = subprocess.call(['{self.guard.program}', *sys.argv[1:]], close_fds=False)\n"
                            f"open('{self.ended}', 'w').write(f'{{status}}')\nsys.exit(status)\n")
         program.chmod(0o755)
 
-    def verifies_with(self, text):
-        """Has it run these lines of the shell in place of openssl, wherever a signature is verified."""
-        program = self.folder / "openssl"
-        program.write_text(f'#!/bin/sh\ncase "$*" in *-verify*)\n{text}\nesac\nexec {shutil.which("openssl")} "$@"\n')
-        program.chmod(0o755)
+    def runs_in_place_of(self, name, text):
+        """Has it run these lines of the shell in place of a program of this name, such as `sshstation`."""
+        new = self.folder / f"{name}.new"
+        new.write_text(f"#!/bin/sh\n{text}\n")
+        new.chmod(0o755)
+        new.rename(self.folder / name)
 
     def speaks_at_the_end_of_a_round(self):
         """Has it say what it leaves once it has looked at all, however long that takes: after five seconds it would
