@@ -8,34 +8,32 @@ import click
 from vethlumi import formats
 from vethlumi.cli import as_json, main, pass_job, put_file, read_text, waiting
 from vethlumi.formats import BadFormat, Certificate
-from vethlumi.office import trying
-from vethlumi.printing import print_fields, print_json, print_table, print_text, say
+from vethlumi.office import NoAnswer, trying
+from vethlumi.printing import COLOURS, print_fields, print_json, print_text, say
 from vethlumi.settings import NOT_SIGNED
 
 STATES = ("pending", "signed", "revoked")
 
 
 def collect(job, kept, serial, key, out):
-    """Waits until a certificate is signed, checks it, and writes it to a file or prints it."""
+    """Waits until a certificate is signed, checks that it is for this key, and writes it to a file or prints it. Only
+    then the message is dropped: until then the same command gets this certificate, and no second one."""
     with waiting(f"serial {serial} waits for its signature") as tell:
-        while (line := trying(lambda: job.office.line(serial), job.ends, tell)) is None:
-            if time.monotonic() >= job.ends:
+        while (found := trying(lambda: job.office.line(serial), job.ends, tell)) is None:
+            left = job.ends - time.monotonic()
+            if left <= 0:
                 say(f"serial {serial} has no signature yet; run the same command again")
                 sys.exit(NOT_SIGNED)
-            time.sleep(1)
-    certificate = Certificate.of_line(line)
-    if certificate.serial != serial or (key and not certificate.is_of_key(key)):
-        raise BadFormat(f"what came as serial {serial} is a certificate for another key or serial")
+            time.sleep(min(1, left))
+    line, certificate = found
+    if certificate.key != key:
+        raise NoAnswer(f"what came as serial {serial} is a certificate for another key. The message is kept")
     if out:
         put_file(out, line)
         click.echo(f"{out} serial {serial}")
     else:
         print_text(line)
     kept.drop()
-
-
-def is_issued(reply):
-    return len(reply) == 4 and reply[0] == "issued" and reply[1].isdecimal()
 
 
 def comma_list(context, option, text):
@@ -69,8 +67,17 @@ def request(job, key_id, public, principals, life, extensions, options, out):
     after = int(time.time()) - 60
     message = formats.issue(department, key_id, key, principals or (name,), after, after + formats.seconds_of(life),
                             options, extensions)
-    kept, reply = job.send(message, is_issued)
-    collect(job, kept, int(reply[1]), key, out or f"{public[:-4]}-cert.pub")
+    kept, reply = job.send(message)
+    collect(job, kept, int(reply[1]), formats.point_of(key), out or f"{public[:-4]}-cert.pub")
+
+
+def certificate_of(job, what):
+    """The fields of a certificate that is given by its serial or its file."""
+    if not what.isdecimal():
+        return Certificate.of_line(read_text(what))
+    if not (what.isascii() and 1 <= int(what[:20]) <= formats.LAST_SERIAL):
+        raise BadFormat(f"{what[:50]} is no serial")
+    return job.office.body(int(what))
 
 
 @main.command()
@@ -80,14 +87,12 @@ def request(job, key_id, public, principals, life, extensions, options, out):
 @pass_job
 def renew(job, what, life, out):
     """Request a certificate again, with a new validity."""
-    if what.isdecimal():
-        old = job.office.body(int(what))
-    else:
-        old, out = Certificate.of_line(read_text(what)), out or what
+    old, out = certificate_of(job, what), out if what.isdecimal() else out or what
+    formats.refuse_small_order(old.key)
     after = int(time.time()) - 60
     length = formats.seconds_of(life) if life else old.before - old.after
-    kept, reply = job.send(formats.renew(old.serial, after, after + length), is_issued)
-    collect(job, kept, int(reply[1]), None, out)
+    kept, reply = job.send(formats.renew(old.serial, after, after + length))
+    collect(job, kept, int(reply[1]), old.key, out)
 
 
 @main.command()
@@ -96,10 +101,11 @@ def renew(job, what, life, out):
 @pass_job
 def get(job, serial, out):
     """Print a certificate."""
-    line = job.office.line(serial)
-    if line is None:
+    found = job.office.line(serial)
+    if found is None:
         say(f"serial {serial} has no signature yet")
         sys.exit(NOT_SIGNED)
+    line, _ = found
     put_file(out, line) if out else print_text(line)
 
 
@@ -109,7 +115,7 @@ def get(job, serial, out):
 @pass_job
 def show(job, what, as_json):
     """Show a certificate's fields, and whether it is signed or revoked."""
-    certificate = job.office.body(int(what)) if what.isdecimal() else Certificate.of_line(read_text(what))
+    certificate = certificate_of(job, what)
     rows, _ = job.office.table()
     row = next((it for it in rows if it.serial == certificate.serial and it.key_id == certificate.key_id), None)
     record = certificate.as_record() | {"state": row.state if row else "not of this office"}
@@ -130,20 +136,27 @@ def certs(job, state, kind, department, keyid, valid, ends_within, as_json):
     rows, _ = job.office.table()
     now = int(time.time())
     limit = now + formats.seconds_of(ends_within) if ends_within else None
-    chosen = [it for it in rows
+    chosen = (it for it in rows
               if (not state or it.state == state) and (not kind or it.kind == kind)
               and (not department or it.department == department)
               and (not keyid or fnmatch.fnmatchcase(it.key_id, keyid))
-              and (not (valid or limit) or (it.state == "signed" and it.after <= now < it.before))
-              and (not limit or it.before <= limit)]
+              and (not (valid or limit) or it.is_valid(now))
+              and (not limit or it.before <= limit))
     if as_json:
         for it in chosen:
             print_json(it.as_record())
         return
-    print_rows(chosen)
+    print_rows(chosen, rows.last)
 
 
-def print_rows(rows):
-    print_table(("serial", "kind", "state", "valid from", "valid until", "key ID"),
-                [(str(it.serial), it.kind, it.state, formats.date(it.after), formats.date(it.before), it.key_id)
-                 for it in rows], "no certificates")
+def print_rows(rows, last):
+    """Prints rows of a table whose highest serial is `last`, each as it comes: there may be millions."""
+    columns, is_empty = f"{{:>{max(6, len(str(last)))}}}  {{:4}}  {{:7}}  {{:20}}  {{:20}}  {{}}", True
+    for it in rows:
+        if is_empty:
+            click.secho(columns.format("serial", "kind", "state", "valid from", "valid until", "key ID"), bold=True)
+        is_empty = False
+        click.secho(columns.format(it.serial, it.kind, it.state, formats.date(it.after), formats.date(it.before),
+                                   it.key_id), fg=COLOURS[it.state])
+    if is_empty:
+        click.echo("no certificates")

@@ -2,17 +2,17 @@
 import contextlib
 import os
 import sys
-import tempfile
 import time
 
 import click
 from rich.console import Console
+from rich.text import Text
 
-from vethlumi import __version__, formats
+from vethlumi import __version__, files, formats
 from vethlumi.formats import BadFormat
 from vethlumi.office import NoAnswer, Office, trying
 from vethlumi.outbox import Outbox
-from vethlumi.printing import say
+from vethlumi.printing import plain, say
 from vethlumi.refusals import Refused
 from vethlumi.settings import BAD_WORDS, FILES, NO_ANSWER, REFUSED, BadSettings, read_settings, state_folder
 
@@ -26,10 +26,10 @@ class Job:
 
     @property
     def office(self):
-        self.made = self.made or Office(self.settings)
+        self.made = self.made or Office(self.settings, self.ends)
         return self.made
 
-    def send(self, message, is_reply):
+    def send(self, message, is_reply=lambda reply: True):
         """Sends a message, and the same one again until an answer comes or the wait is over. It stays in the outbox
         until the reply was put to use. A refusal by the office means that it was never accepted. Returns what is kept,
         and the reply as words."""
@@ -58,8 +58,9 @@ def waiting(what):
     """Shows that something is waited for, and gives a function that tells why."""
     console = Console(stderr=True, highlight=False, markup=False)
     if console.is_terminal:
-        with console.status(what) as shown:
-            yield lambda why: shown.update(f"{what}: {why.partition(chr(10))[0][:100]}")
+        # A plain string would be taken for markup: links and colours, or a mistake in them.
+        with console.status(Text(what)) as shown:
+            yield lambda why: shown.update(Text(plain(f"{what}: {why.partition(chr(10))[0][:100]}")))
         return
     told = set()
 
@@ -134,18 +135,9 @@ def read_departments(path):
 
 def put_file(path, text, mode=0o644):
     """Puts a text into a file, whole or not at all."""
-    folder, name = os.path.split(os.path.abspath(path))
-    handle, new = tempfile.mkstemp(prefix=f".{name}.", dir=folder)
-    try:
-        with open(handle, "wb") as it:
-            it.write(text if isinstance(text, bytes) else text.encode("latin-1"))
-            it.flush()
-            os.fsync(it.fileno())
-        os.chmod(new, mode)
-        os.rename(new, path)
-    except OSError:
-        os.unlink(new)
-        raise
+    if os.path.exists(path) and not os.path.isfile(path):
+        raise BadFormat(f"{path} isn't a file")
+    files.put(path, text if isinstance(text, bytes) else text.encode("latin-1"), mode)
 
 
 def ask(question, yes):

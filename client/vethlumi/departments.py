@@ -8,9 +8,15 @@ import click
 from vethlumi import formats
 from vethlumi.cli import as_json, ask, counted, main, pass_job, read_departments, read_text, without_asking
 from vethlumi.formats import BadFormat
-from vethlumi.office import trying
-from vethlumi.printing import print_json, print_table
+from vethlumi.office import NoAnswer, trying
+from vethlumi.printing import plain, print_json, print_table
+from vethlumi.refusals import Refused
 from vethlumi.settings import BadSettings
+
+# The most bytes of all departments together: over ten thousand of the usual length.
+LONGEST_DEPARTMENTS = 1 << 22
+TOO_OLD = ("the office doesn't say which departments it has: it or its front is of an earlier version. Upgrade both, "
+           "or name a file by --policy after the command")
 
 
 @main.group()
@@ -18,14 +24,26 @@ def department():
     """Show departments, compare them, and send them to the office."""
 
 
-policy_option = click.option("--policy", metavar="FILE",
-                             help="the departments to compare with [default: the policy of the settings]")
+policy_option = click.option("--policy", metavar="FILE", help="take these departments instead of the office's")
 
 
-def policy_of(job, file):
-    if not file and not job.settings.policy:
-        raise BadSettings("no policy: set `policy` in the settings, or use --policy. An office gives no departments")
-    return read_departments(file) if file else job.policy()
+def of_office(job):
+    """The departments that the office has, by their names."""
+    try:
+        found = job.office.answer("GET", "/v1/departments", longest=LONGEST_DEPARTMENTS)
+    except Refused as refused:
+        if refused.name == "NoRoute" or "no such path" in str(refused):
+            raise Refused(0, "", TOO_OLD, "") from None
+        raise
+    try:
+        return formats.departments((found if isinstance(found, bytes) else found.body()).decode("ascii"))
+    except (BadFormat, ValueError) as fault:
+        raise NoAnswer(f"/v1/departments: what came is no page that an office gives: {fault}") from None
+
+
+def known_to(job, policy):
+    """The departments of the office, or of a file that is named, and what they are called."""
+    return (read_departments(policy), policy) if policy else (of_office(job), "the office")
 
 
 @department.command("show")
@@ -34,14 +52,15 @@ def policy_of(job, file):
 @as_json
 @pass_job
 def department_show(job, names, policy, as_json):
-    """Show departments of the policy."""
-    chosen = chosen_of(policy_of(job, policy), names, "the policy")
+    """Show departments of the office, or of a policy's file."""
+    found, where = known_to(job, policy)
+    chosen = chosen_of(found, names, where)
     if as_json:
         for it in chosen:
             print_json({"maxlife": it.longest, **{name: getattr(it, name) for name in (
                 "name", "kind", "admins", "principals", "options", "extensions", "namespaces")}})
         return
-    click.echo("\n".join(it.text for it in chosen), nl=False)
+    click.echo(plain("\n".join(it.text for it in chosen)), nl=False)
 
 
 def affected(job, department):
@@ -62,7 +81,7 @@ def tell_changes(job, old, new):
     texts = [it.text.splitlines() if it else [] for it in (old, new)]
     lines = [*difflib.unified_diff(*texts, "now", "then", lineterm="", n=8)]
     for line in lines:
-        click.echo(click.style(line, fg={"+": "green", "-": "red"}.get(line[0])))
+        click.echo(click.style(plain(line), fg={"+": "green", "-": "red"}.get(line[0])))
     hit = affected(job, new)
     if hit:
         click.echo(f"{counted(len(hit), 'certificate')} that can still be used wouldn't be permitted:")
@@ -80,15 +99,24 @@ def chosen_of(found, names, where):
 
 
 @department.command("diff")
-@click.argument("file", metavar="FILE", type=click.Path(exists=True, dir_okay=False))
+@click.argument("file", metavar="[FILE]", required=False, type=click.Path(exists=True, dir_okay=False))
 @click.argument("names", metavar="[NAME..]", nargs=-1)
 @policy_option
 @pass_job
 def department_diff(job, file, names, policy):
-    """Compare the departments in FILE with the policy, and list the certificates that they wouldn't permit."""
-    known = policy_of(job, policy)
-    differ = [tell_changes(job, known.get(it.name), it) for it in chosen_of(read_departments(file), names, file)]
-    if not any(differ):
+    """Compare the departments in FILE with those of the office, and list the certificates that they wouldn't permit.
+
+    FILE is by default the policy of the settings. With --policy, two files are compared.
+    """
+    file = file or job.settings.file("policy")
+    if not file:
+        raise BadSettings("no file: name one, or set `policy` in the settings")
+    given, (known, where) = read_departments(file), known_to(job, policy)
+    differ = [tell_changes(job, known.get(it.name), it) for it in chosen_of(given, names, file)]
+    others = [] if names else [it for it in known if it not in given]
+    for it in others:
+        click.echo(plain(f"{where} has the department {it}, which {file} doesn't name"))
+    if not any(differ) and not others:
         click.echo("no difference")
 
 
@@ -101,13 +129,16 @@ def department_diff(job, file, names, policy):
 def department_put(job, file, names, policy, yes):
     """Show what changes, and send the departments in FILE, or those with the given names, to the office.
 
-    FILE has the format of the policy: eight lines per department, with empty lines and comments in between.
+    FILE has the format of the policy: eight lines per department, with empty lines and comments in between. With --yes,
+    nothing is shown before, and those that the office has already are sent too.
     """
-    known = read_departments(policy) if policy else job.policy()
     chosen = chosen_of(read_departments(file), names, file)
     if not yes:
-        for it in chosen:
-            tell_changes(job, known.get(it.name), it)
+        known, _ = known_to(job, policy)
+        chosen = [it for it in chosen if tell_changes(job, known.get(it.name), it)]
+        if not chosen:
+            click.echo("no difference")
+            return
         ask(f"Send {counted(len(chosen), 'department')} to the office?", yes)
     for it in chosen:
         kept, _ = job.send(it.text, lambda reply, name=it.name: reply == ["department", name])

@@ -11,11 +11,9 @@ import subprocess
 import time
 import urllib.parse
 
-import requests
-
-from vethlumi import formats
+from vethlumi import formats, lists
 from vethlumi.formats import BadFormat, Certificate
-from vethlumi.office import NoAnswer
+from vethlumi.office import NoAnswer, at_most
 from vethlumi.refusals import Refused
 from vethlumi.settings import BadSettings
 
@@ -25,6 +23,10 @@ STATEMENT = re.compile(rb"list ([0-9a-f]{64}) \d+ (\d+)\n")
 
 # Seconds by which clocks may differ: certificates begin a minute in the past.
 CLOCKS = 30
+# Seconds for which a certificate may wait for its signature.
+LONGEST_WAIT = 300
+# Seconds for the front's certificate.
+LONGEST_HANDSHAKE = 10
 
 
 def ok(what, found):
@@ -52,15 +54,21 @@ def front_findings(job, within):
         context = ssl.create_default_context(cafile=cacert)
         if pem:
             context.load_cert_chain(pem)
-        with socket.create_connection((url.hostname, url.port or 443), timeout=10) as plain, \
-                context.wrap_socket(plain, server_hostname=url.hostname) as secured:
-            ends = ssl.cert_time_to_seconds(secured.getpeercert()["notAfter"])
+        ends = at_most(job.office.time_left(LONGEST_HANDSHAKE),
+                       lambda: end_of_certificate(context, url.hostname, url.port or 443))
         found.append(ending("front's certificate", ends, within, "on the front's machine: authority renew"))
-    except OSError as fault:
+    except (OSError, ValueError, KeyError, NoAnswer) as fault:
         found.append(Finding("bad", "front's certificate", str(fault), "check `office` and `cacert` in the settings"))
     if pem:
         found.append(pem_finding(pem, within))
     return found
+
+
+def end_of_certificate(context, host, port):
+    """When the certificate ends that a front shows."""
+    with socket.create_connection((host, port), timeout=LONGEST_HANDSHAKE) as plain, \
+            context.wrap_socket(plain, server_hostname=host) as secured:
+        return ssl.cert_time_to_seconds(secured.getpeercert()["notAfter"])
 
 
 def pem_finding(pem, within):
@@ -75,9 +83,9 @@ def pem_finding(pem, within):
 def clock_finding(job):
     """This machine's clock beside the front's, as its answer is dated."""
     try:
-        answer = job.office.session.get(f"{job.office.url}/v1/cas", timeout=10, allow_redirects=False)
-        theirs = email.utils.parsedate_to_datetime(answer.headers["date"]).timestamp()
-    except (requests.RequestException, KeyError, ValueError):
+        fields = job.office.ask("GET", "/v1/cas").fields
+        theirs = email.utils.parsedate_to_datetime(fields["date"]).timestamp()
+    except (NoAnswer, LookupError, TypeError, ValueError, ArithmeticError):
         return []
     apart = round(abs(time.time() - theirs))
     if apart > CLOCKS:
@@ -96,10 +104,10 @@ def office_findings(job, within):
     except AMISS as fault:
         return [*found, Finding("warn", "table", str(fault).partition("\n")[0], "it takes a client's certificate")]
     now = time.time()
-    waiting = [it for it in rows if it.state == "pending" and it.after < now - 300]
+    waiting = sum(it.state == "pending" and it.after < now - LONGEST_WAIT for it in rows)
     found.append(ok("signing station", "nothing has waited for five minutes") if not waiting else
-                 Finding("warn", "signing station", f"{len(waiting)} unsigned for five minutes", "see whether it runs"))
-    soon = sum(it.state == "signed" and it.after <= now < it.before < now + within for it in rows)
+                 Finding("warn", "signing station", f"{waiting} unsigned for five minutes", "see whether it runs"))
+    soon = sum(it.is_valid(now) and it.before < now + within for it in rows)
     return [*found, ok("list", f"version {version} at the office"),
             ok("certificates", f"{soon} end soon: vethlumi certs --ends-within TIME")]
 
@@ -141,7 +149,7 @@ def list_findings(job, krl, fresh):
     try:
         with open(krl, "rb") as it:
             data = it.read()
-        here, age = formats.RevocationList.of(data), time.time() - os.stat(krl).st_mtime
+        here, age = lists.RevocationList.of(data), time.time() - os.stat(krl).st_mtime
     except (OSError, BadFormat) as fault:
         return [Finding("bad", "list here", str(fault), "fetch it: fetch-list")]
     text = f"version {here.version}, fetched {round(age)} s ago"

@@ -10,18 +10,20 @@ def figures(office, last):
     cas, (rows, _), (_, found) = office.cas(), office.table(), office.krl()
     counts = {(kind, state): 0 for kind in ("user", "host") for state in ("pending", "signed", "revoked")}
     valid = {"user": 0, "host": 0}
+    since = now
     for row in rows:
         counts[row.kind, row.state] += 1
-        valid[row.kind] += row.state == "signed" and row.after <= now < row.before
-    waiting = [row.after for row in rows if row.state == "pending"]
-    following = max([int(cas[0][1]), *[row.serial + 1 for row in rows]])
+        valid[row.kind] += row.is_valid(now)
+        since = min(since, row.after) if row.state == "pending" else since
+    # The first serial of a table that is empty is that of the first CA.
+    following = max(cas[0][1], rows.last + 1)
     return [
         ("certificates", "Certificates by kind and state.",
          [(f'{{kind="{kind}",state="{state}"}}', count) for (kind, state), count in counts.items()]),
         ("certificates_valid", "Certificates that are signed, not revoked, and valid now.",
          [(f'{{kind="{kind}"}}', count) for kind, count in valid.items()]),
         ("pending_since_seconds", "Seconds since the first validity of those that wait for a signature began.",
-         [("", max(0, round(now - min(waiting))) if waiting else 0)]),
+         [("", round(now - since))]),
         ("serials_left", "Serials that are not handed out yet.", [("", max(0, last - following + 1))]),
         ("list_version", "Version of the key revocation list.", [("", found.version)]),
         ("list_versions_left", "Changes that the list can still have.", [("", formats.LAST_SERIAL - found.version)]),

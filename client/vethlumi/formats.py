@@ -11,9 +11,16 @@ UNITS = {"s": 1, "m": 60, "h": 3600, "d": 86400, "w": 604800}
 NAME = re.compile(r"[a-z0-9-]{1,32}", re.ASCII)
 KEY_LINE = re.compile(r"ssh-ed25519 AAAAC3NzaC1lZDI1NTE5AAAAI[A-P][A-Za-z0-9+/]{42}( .*)?", re.ASCII)
 KEY_ID = re.compile(r"[a-z0-9-]{1,32}/[!-~]{1,64}", re.ASCII)
-ROW = re.compile(r" *([1-9]\d{0,18})  (user|host)  (revoked|signed |pending)  +(\d+)  +(\d+)  (\S+)", re.ASCII)
-TOTAL = re.compile(r"total (\d+) version (\d+)", re.ASCII)
 CERTIFICATE_TYPE = b"ssh-ed25519-cert-v01@openssh.com"
+CERTIFICATE_LINE = re.compile(r"ssh-ed25519-cert-v01@openssh\.com [A-Za-z0-9+/]+={0,2} [!-~]+\n", re.ASCII)
+SIGNER = re.compile(rb'[a-z0-9._@*,-]+ cert-authority,namespaces="[a-z0-9._@,-]+" ssh-ed25519 [A-Za-z0-9+/]{68}\n')
+# RFC 8032, section 5.1: the prime of Ed25519.
+PRIME = 2 ** 255 - 19
+# The second coordinates of the eight points whose order divides 8: 0, 1 and -1, and these two of order 8.
+ORDER_8 = [int.from_bytes(bytes.fromhex(it), "little") for it in (
+    "26e8958fc2b227b045c3f489f2ef98f0d5dfac05d3c63339b13802886d53fc05",
+    "c7176a703d4dd84fba3c0b760d10670f2a2053fa2c39ccc64ec7fd7792ac037a")]
+SMALL = (0, 1, PRIME - 1, *ORDER_8)
 
 
 class BadFormat(Exception):
@@ -40,11 +47,29 @@ def fingerprint(blob):
     return "SHA256:" + base64.b64encode(hashlib.sha256(blob).digest()).decode().rstrip("=")
 
 
+def is_of_small_order(point):
+    """Whether 32 bytes encode a point of Ed25519 of order 1, 2, 4 or 8, whatever the sign, and with the second
+    coordinate below the prime or not."""
+    return (int.from_bytes(point, "little") & (1 << 255) - 1) % PRIME in SMALL
+
+
+def point_of(line):
+    """The 32 bytes of the key in a public-key line."""
+    return base64.b64decode(line.split()[1])[-32:]
+
+
+def refuse_small_order(point):
+    """Refuses a key for which no private key is needed: there are signatures that fit any text."""
+    if is_of_small_order(point):
+        raise BadFormat("the public key is of small order: everybody has a valid signature for this key")
+
+
 def key_line(text):
     """The first line of a public key's file, which has to be an Ed25519 key's."""
     line = text.partition("\n")[0].rstrip("\r")
     if not KEY_LINE.fullmatch(line):
         raise BadFormat("the file has no Ed25519 public key: ssh-keygen -t ed25519 makes one")
+    refuse_small_order(point_of(line))
     return line
 
 
@@ -194,10 +219,6 @@ class Certificate:
         except ValueError:
             raise BadFormat("the certificate's base64 is damaged") from None
 
-    def is_of_key(self, line):
-        """Whether it is for the public key of this line."""
-        return base64.b64decode(line.split()[1])[-32:] == self.key
-
     def as_record(self):
         """What people and programs are shown of it."""
         return {
@@ -207,103 +228,44 @@ class Certificate:
         }
 
 
-# ---- the table of certificates
-
-@dataclass(frozen=True)
-class Row:
-    """A line of the table: state is `pending`, `signed` or `revoked`."""
-    serial: int
-    kind: str
-    state: str
-    after: int
-    before: int
-    key_id: str
-
-    @property
-    def department(self):
-        return self.key_id.partition("/")[0]
-
-    def as_record(self):
-        return {"serial": str(self.serial), "kind": self.kind, "state": self.state, "after": date(self.after),
-                "before": date(self.before), "keyid": self.key_id, "department": self.department}
+def certificate_line(data):
+    """The line of a certificate, which is text that steers no terminal."""
+    line = data.decode("ascii", "replace")
+    if not CERTIFICATE_LINE.fullmatch(line):
+        raise BadFormat("what came is no line of an Ed25519 certificate")
+    return line
 
 
-def table(data):
-    """The rows of a table, and the version of the list."""
-    *lines, end = data.decode("latin-1").split("\n")
-    total = TOTAL.fullmatch(lines.pop()) if lines else None
-    rows = [ROW.fullmatch(line) for line in lines]
-    if end or not total or None in rows or len(rows) != int(total[1]):
-        raise BadFormat("the table was cut off, or is none")
-    return [Row(int(it[1]), it[2], it[3].strip(), int(it[4]), int(it[5]), it[6]) for it in rows], int(total[2])
+def signers(data):
+    """The allowed signers, one in each line."""
+    at = 0
+    while at < len(data):
+        found = SIGNER.match(data, at)
+        if not found:
+            raise BadFormat("the page has a line that no office writes")
+        at = found.end()
+    return data.decode("ascii")
 
 
-def cas(data):
-    """The CAs of their page: number, first serial, fingerprint."""
-    return [(int(number), int(since), print_) for number, since, print_ in map(str.split, data.decode().splitlines())]
+# ---- messages and replies
+
+# What an office replies to a message, by the word with which the message begins.
+ISSUED, REVOKED = r"issued ([1-9]\d{0,18})\ndigest [0-9a-f]{64}\n", r"revoked\nversion \d{1,19}\n"
+REPLIES = {
+    "issue": ISSUED, "renew": ISSUED, "revoke-serial": REVOKED, "revoke-range": REVOKED, "revoke-keyid": REVOKED,
+    "department": r"department ([a-z0-9-]{1,32})\n", "rollover": r"rollover [1-8]\nsince [1-9]\d{0,18}\n",
+}
 
 
-# ---- key revocation lists
+def reply_to(message, data):
+    """The words of a reply to a message."""
+    kind, _, rest = message.partition("\n")[0].partition(" ")
+    text = data.decode("ascii", "replace")
+    found = re.fullmatch(REPLIES.get(kind, "(?!)"), text, re.ASCII)
+    if not found or (kind == "department" and found[1] != rest):
+        raise BadFormat(f"{text[:100]!r} is no reply to `{kind}`")
+    return text.split()
 
-@dataclass(frozen=True)
-class Revocations:
-    """What one section of a list revokes: runs of serials under a CA, and key ids."""
-    ca: bytes
-    runs: tuple
-    key_ids: tuple
-
-
-@dataclass(frozen=True)
-class RevocationList:
-    version: int
-    moment: int
-    sections: tuple
-    length: int
-
-    @classmethod
-    def of(cls, data):
-        """The list of these bytes, in the form that the office writes (OpenSSH's PROTOCOL.krl)."""
-        it = Reader(data)
-        if it.take(12) != b"SSHKRL\n\0\0\0\0\1":
-            raise BadFormat("the bytes are no key revocation list")
-        version, moment, _, _, _ = it.number(8), it.number(8), it.number(8), it.string(), it.string()
-        sections = []
-        while not it.is_at_end():
-            if it.take(1) != b"\1":
-                raise BadFormat("the list has a section that no office writes")
-            sections.append(cls.section(Reader(it.string())))
-        return cls(version, moment, tuple(sections), len(data))
-
-    @staticmethod
-    def section(it):
-        ca, _, runs, key_ids = it.string(), it.string(), [], []
-        while not it.is_at_end():
-            part = it.take(1)[0]
-            inner = Reader(it.string())
-            while not inner.is_at_end():
-                if part == 0x20:
-                    runs.append((inner.number(8),) * 2)
-                elif part == 0x21:
-                    runs.append((inner.number(8), inner.number(8)))
-                elif part == 0x23:
-                    key_ids.append(inner.string().decode("latin-1"))
-                else:
-                    raise BadFormat("the list has a part that no office writes")
-        return Revocations(ca, tuple(sorted(runs)), tuple(key_ids))
-
-    def revokes(self, certificate):
-        """Whether it revokes a certificate, by its serial or its key id under its CA."""
-        return any(it.ca == certificate.ca and (certificate.key_id in it.key_ids or any(
-            low <= certificate.serial <= high for low, high in it.runs)) for it in self.sections)
-
-    def as_record(self):
-        return {"version": str(self.version), "date": date(self.moment), "bytes": self.length,
-                "cas": [{"ca": fingerprint(it.ca), "serials": [f"{low}" if low == high else f"{low}-{high}"
-                                                              for low, high in it.runs],
-                         "keyids": [*it.key_ids]} for it in self.sections]}
-
-
-# ---- messages
 
 def issue(department, key_id, key, principals, after, before, options=(), extensions=()):
     """The message that asks for a certificate."""

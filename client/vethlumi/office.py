@@ -1,111 +1,227 @@
-"""The office, as its routes show it: messages go out, and reports come back, each with limits of time and size."""
+"""The office, as its routes show it: messages go out, and reports come back, each with limits of time and size.
+
+Whoever holds the front, or the way to it, answers what they like. So nothing is read beyond a limit, no redirect is
+followed, nothing is decompressed, and what isn't of the form that an office writes is no answer.
+"""
+import http.cookiejar
+import io
+import re
+import signal
+import tempfile
 import time
+from typing import NamedTuple
 
 import requests
-import urllib3
 
-from vethlumi import formats
+from vethlumi import formats, lists, table
 from vethlumi.formats import BadFormat
-from vethlumi.refusals import Refused, refusal_of
+from vethlumi.refusals import Refused, refusal_of, said_by
 
-# The most bytes of a page that are read: over three million certificates.
-LONGEST_PAGE, LONGEST_ANSWER = 1 << 29, 1 << 16
+# The most bytes that are read: of a table, over three million certificates; of a list as servers do, and of the
+# signers; of any other answer.
+LONGEST_TABLE, LONGEST_LIST, LONGEST_ANSWER = 1 << 29, 1 << 25, 1 << 16
+# How many of them are read at once. A table up to this length stays in memory.
+PIECE, MOST_IN_MEMORY = 1 << 16, 1 << 24
 # Seconds until a connection is made, and until the next bytes of an answer come.
 PATIENCE = 10, 60
+# Seconds for a whole answer: for a short one, and for any once the time to wait is over.
+LONGEST_REQUEST, LAST_REQUEST = 60, 1
+# Seconds until the next attempt, and the most of them that the front may ask for.
+PAUSE, LONGEST_PAUSE = 1, 60
 
 
 class NoAnswer(Exception):
-    """No answer came, or one that says to ask again later. Its text says why."""
+    """No answer came, or one that says to ask again later. Its text says why, and `pause` how many seconds later, or
+    None if there is no point in asking again."""
+
+    def __init__(self, why, pause=PAUSE):
+        super().__init__(why)
+        self.pause = pause
+
+
+class Answer(NamedTuple):
+    """The status, the header fields, and a file with the body, at its beginning."""
+    status: int
+    fields: dict
+    file: object
+
+    def body(self):
+        return self.file.read()
+
+
+class Overdue(BaseException):
+    """No Exception: after one of these the library goes on, for example with a name's next address."""
+
+
+def at_most(seconds, work):
+    """What a function returns, or NoAnswer if it takes longer, however its time passes."""
+    is_over = False
+
+    def end(*_):
+        if not is_over:
+            raise Overdue
+
+    before = signal.signal(signal.SIGALRM, end)
+    try:
+        try:
+            # Every second from then on: what is raised while Python deletes an object is lost.
+            signal.setitimer(signal.ITIMER_REAL, seconds, 1)
+            return work()
+        finally:
+            signal.setitimer(signal.ITIMER_REAL, 0)
+    except Overdue:
+        is_over = True
+        signal.setitimer(signal.ITIMER_REAL, 0)
+        raise NoAnswer(f"no whole answer came within {round(seconds) or 1} s") from None
+    finally:
+        signal.signal(signal.SIGALRM, before)
 
 
 class Office:
-    """An office behind its front, or without one."""
+    """An office behind its front, or without one. What takes long ends at a time of time.monotonic."""
 
-    def __init__(self, settings):
-        self.url, self.caller = settings.url(), settings.caller
+    def __init__(self, settings, ends):
+        self.url, self.caller, self.ends = settings.url(), settings.caller, ends
         self.session = requests.Session()
+        # Neither proxies nor passwords come from the environment.
         self.session.trust_env = False
+        # Even of a redirect that isn't followed, the library would read the whole answer.
+        self.session.get_redirect_target = lambda answer: None
+        self.session.cookies.set_policy(http.cookiejar.DefaultCookiePolicy(allowed_domains=[]))
+        self.session.headers = {"Accept-Encoding": "identity", "User-Agent": "vethlumi"}
         self.session.cert = settings.file("certificate")
         self.session.verify = settings.file("cacert") or True
 
+    def time_left(self, most):
+        """How many seconds the next answer may take, of at most so many."""
+        return min(most, max(self.ends - time.monotonic(), LAST_REQUEST))
+
     def ask(self, method, path, data=None, longest=LONGEST_ANSWER):
-        """The status and the bytes of an answer."""
+        """What the office answers, whole. Of an answer that isn't 200 the beginning will do."""
+        # A long page may take as long as there is time.
+        seconds = self.time_left(float("inf") if longest > LONGEST_ANSWER else LONGEST_REQUEST)
         try:
-            with self.session.request(method, f"{self.url}{path}", data=data, timeout=PATIENCE, stream=True,
-                                      allow_redirects=False) as answer:
-                came = answer.raw.read(longest + 1)
-                whole = answer.headers.get("content-length")
-                if len(came) > longest or (whole is not None and len(came) != int(whole)):
-                    raise NoAnswer(f"{path}: the answer is too long, or was cut off")
-                return answer.status_code, came
-        except (requests.RequestException, urllib3.exceptions.HTTPError, OSError, ValueError) as fault:
+            return at_most(seconds, lambda: self.answered(method, path, data, longest))
+        except NoAnswer:
+            raise
+        except Exception as fault:
+            # Whatever the library makes of an answer, a ValueError too, is a fault of that answer.
             raise NoAnswer(f"{self.url}: {root_of(fault)}") from None
 
+    def answered(self, method, path, data, longest):
+        file = tempfile.SpooledTemporaryFile(MOST_IN_MEMORY) if longest > LONGEST_LIST else io.BytesIO()
+        with self.session.request(method, f"{self.url}{path}", data=data, timeout=PATIENCE, stream=True,
+                                  allow_redirects=False) as answer:
+            is_page = answer.status_code == 200
+            longest = longest if is_page else LONGEST_ANSWER
+            if answer.headers.get("content-encoding", "identity").lower() != "identity":
+                if is_page:
+                    raise NoAnswer(f"{path}: the answer is compressed, and nobody asked for that", None)
+                return Answer(answer.status_code, answer.headers, file)
+            while file.tell() <= longest and (
+                    piece := answer.raw.read(min(PIECE, longest + 1 - file.tell()), decode_content=False)):
+                file.write(piece)
+            whole = answer.headers.get("content-length", str(file.tell()))
+            if file.tell() > longest and is_page:
+                raise NoAnswer(f"{path}: the answer is longer than {longest} bytes", None)
+            if file.tell() <= longest and whole != str(file.tell()):
+                raise NoAnswer(f"{path}: the answer was cut off")
+            file.seek(0)
+            return Answer(answer.status_code, answer.headers, file)
+
     def answer(self, method, path, data=None, longest=LONGEST_ANSWER):
-        """The bytes of an answer that isn't a refusal."""
-        status, came = self.ask(method, path, data, longest)
-        if status == 200:
-            return came
-        text = came.decode("utf-8", "replace")
-        if status == 429 or status >= 500:
-            raise NoAnswer(text.strip()[:200] or f"HTTP status {status}")
-        raise refusal_of(status, text)
+        """An answer that isn't a refusal."""
+        found = self.ask(method, path, data, longest)
+        if found.status == 200:
+            return found
+        text = found.body().decode("utf-8", "replace")
+        if found.status == 429 or found.status >= 500:
+            raise NoAnswer(said_by(found.status, text), pause_of(found.fields))
+        raise refusal_of(found.status, text)
+
+    def page(self, path, read, longest=LONGEST_ANSWER):
+        """What a page says, by the function that reads its file."""
+        found = self.answer("GET", path, longest=longest)
+        try:
+            return read(found)
+        except (BadFormat, ValueError) as fault:
+            raise NoAnswer(f"{path}: what came is no page that an office gives: {fault}", None) from None
 
     def post(self, kept):
-        """The reply to a message of the outbox, as words: `issued 1` is ["issued", "1"]."""
+        """The reply to a message of the outbox, as words: `issued 1` and its digest are four."""
         sender = f"callers/{self.caller}/requests" if self.caller else "requests"
-        reply = self.answer("POST", f"/v1/{sender}/{kept.key}", kept.message.encode())
-        # A word that would steer a terminal is none.
-        return [it if it.isprintable() else "?" for it in reply.decode("ascii", "replace").split()]
-
-    def page(self, path, read):
-        """What a page says, by the function that reads its bytes."""
-        came = self.answer("GET", path, longest=LONGEST_PAGE)
+        found = self.answer("POST", f"/v1/{sender}/{kept.key}", kept.message.encode())
         try:
-            return read(came)
-        except (BadFormat, ValueError) as fault:
-            raise NoAnswer(f"{path}: what came is no page that an office gives: {fault}") from None
+            return formats.reply_to(kept.message, found.body())
+        except BadFormat as fault:
+            raise NoAnswer(f"what came is no answer that an office gives: {fault}", None) from None
 
     def table(self):
         """The certificates, and the version of the list."""
-        return self.page("/v1/table", formats.table)
+        found = self.page("/v1/table", lambda it: table.Table(it.file), LONGEST_TABLE)
+        return found, found.version
 
     def cas(self):
         """The CAs: number, first serial, fingerprint."""
-        return self.page("/v1/cas", formats.cas)
+        return self.page("/v1/cas", lambda it: table.cas(it.body()))
 
     def krl(self):
         """The bytes of the list, and what they say."""
-        return self.page("/v1/krl", lambda it: (it, formats.RevocationList.of(it)))
+        def read(found):
+            data = found.file.getvalue()
+            return data, lists.RevocationList.of(data)
+        return self.page("/v1/krl", read, LONGEST_LIST)
+
+    def signers(self):
+        """The allowed signers, for ssh-keygen -Y verify."""
+        return self.page("/v1/signers", lambda it: formats.signers(it.file.getvalue()), LONGEST_LIST)
 
     def body(self, serial):
         """The fields of a certificate, signed or not."""
-        return self.page(f"/v1/certs/{serial}/body", formats.Certificate.of_bytes)
+        return self.page(f"/v1/certs/{serial}/body",
+                         lambda it: of_serial(formats.Certificate.of_bytes(it.body()), serial))
 
     def line(self, serial):
-        """The line of a certificate, or None while it has no signature."""
+        """The line of a certificate, and its fields, or None while it has no signature."""
+        def read(found):
+            line = formats.certificate_line(found.body())
+            return line, of_serial(formats.Certificate.of_line(line), serial)
         try:
-            return self.answer("GET", f"/v1/certs/{serial}").decode("latin-1")
+            return self.page(f"/v1/certs/{serial}", read)
         except Refused as refused:
             if refused.name != "NotSigned":
                 raise
             return None
 
 
+def of_serial(certificate, serial):
+    """A certificate, which has to have this serial."""
+    if certificate.serial != serial:
+        raise BadFormat(f"the certificate has serial {certificate.serial}, not {serial}")
+    return certificate
+
+
+def pause_of(fields):
+    """How long the front wants its clients to wait (RFC 9110, Retry-After), in seconds and within reason."""
+    asked = fields.get("retry-after", "")
+    return min(int(asked), LONGEST_PAUSE) if re.fullmatch(r"[1-9]\d{0,9}", asked, re.ASCII) else PAUSE
+
+
 def root_of(fault):
     """The innermost cause of a fault, which says more to people than what is around it."""
     while fault.__cause__ or fault.__context__:
         fault = fault.__cause__ or fault.__context__
-    return str(fault)[:300] or type(fault).__name__
+    return " ".join(str(fault)[:300].split()) or type(fault).__name__
 
 
-def trying(ask, until, tell, pause=1):
+def trying(ask, until, tell):
     """What `ask` gives, tried again until it answers or until a time of time.monotonic. `tell` gets each failure."""
     while True:
         try:
             return ask()
         except NoAnswer as fault:
-            if time.monotonic() >= until:
+            left = until - time.monotonic()
+            if left <= 0 or fault.pause is None:
                 raise
             tell(str(fault))
-        time.sleep(pause)
+            time.sleep(min(fault.pause, left))

@@ -10,7 +10,9 @@ import re
 import secrets
 import time
 
+from vethlumi import files
 from vethlumi.formats import NAME
+from vethlumi.settings import BadSettings
 
 # The lines of a message that differ when the same command runs again later.
 MOMENTS = re.compile(r"^(after|before) (\d+)$", re.M | re.ASCII)
@@ -37,8 +39,18 @@ class Outbox:
     def __init__(self, folder):
         self.folder = folder
 
+    def check(self):
+        """Refuses a folder in which somebody else can put messages: they would be sent with this user's certificate. Of
+        one that isn't there, what counts is the folder above that is."""
+        nearest = self.folder
+        while not os.path.lexists(nearest):
+            nearest = os.path.dirname(nearest)
+        if why := files.distrust(nearest):
+            raise BadSettings(f"the outbox can't be used: {why}. Set HOME or XDG_STATE_HOME to folders of your own")
+
     def all(self):
         """The messages that are kept, the oldest first."""
+        self.check()
         found = []
         with contextlib.suppress(FileNotFoundError):
             for entry in sorted(os.scandir(self.folder), key=lambda it: (it.stat().st_mtime_ns, it.name)):
@@ -58,20 +70,13 @@ class Outbox:
         found = self.find(message)
         if found:
             return found
-        os.makedirs(self.folder, mode=0o700, exist_ok=True)
-        key = secrets.token_hex(16)
-        path = os.path.join(self.folder, key)
+        files.make_folder(self.folder)
+        self.check()
         # A name with a dot is no message's, so half a file is never read. One that a kill left goes after a day.
         for entry in os.scandir(self.folder):
-            if entry.name.endswith(".new") and time.time() - entry.stat().st_mtime > 86400:
+            if "." in entry.name and time.time() - entry.stat(follow_symlinks=False).st_mtime > 86400:
                 os.unlink(entry.path)
-        with open(os.open(f"{path}.new", os.O_WRONLY | os.O_CREAT | os.O_EXCL, 0o600), "w", encoding="utf-8",
-                  newline="") as it:
-            it.write(f"{key}\n{message}")
-            it.flush()
-            os.fsync(it.fileno())
-        os.rename(f"{path}.new", path)
-        folder = os.open(self.folder, os.O_RDONLY)
-        os.fsync(folder)
-        os.close(folder)
+        key = secrets.token_hex(16)
+        path = os.path.join(self.folder, key)
+        files.put(path, f"{key}\n{message}".encode(), 0o600)
         return Kept(path, key, message)

@@ -1,4 +1,6 @@
 """What is printed: tables for people, JSON for programs; colours on a terminal alone."""
+import collections.abc
+import itertools
 import json
 import sys
 
@@ -11,16 +13,57 @@ COLOURS = {"signed": "green", "pending": "yellow", "revoked": "red", "ok": "gree
 
 def plain(text):
     """A text without what steers a terminal: what it shows has come from elsewhere."""
-    return "".join(it if it.isprintable() or it == "\n" else "?" for it in str(text))
+    text = str(text)
+    return text if text.isprintable() else "".join(it if it.isprintable() or it == "\n" else "?" for it in text)
+
+
+def batches(texts):
+    """What an iterator of texts gives, some thousands at once, each time with a comma if there were some before."""
+    comma = ""
+    while batch := [*itertools.islice(texts, 4096)]:
+        yield comma, batch
+        comma = ", "
+
+
+def json_pieces(value):
+    """The pieces of a value's JSON. What an iterator of texts gives is never whole in memory."""
+    if isinstance(value, collections.abc.Iterator):
+        yield "["
+        for comma, batch in batches(value):
+            yield comma + json.dumps(batch)[1:-1]
+        yield "]"
+    elif isinstance(value, list):
+        yield "["
+        for number, it in enumerate(value):
+            yield ", " * bool(number)
+            yield from json_pieces(it)
+        yield "]"
+    elif isinstance(value, dict):
+        yield "{"
+        for number, (name, it) in enumerate(value.items()):
+            yield f"{', ' * bool(number)}{json.dumps(name)}: "
+            yield from json_pieces(it)
+        yield "}"
+    else:
+        # Only ASCII: some letters beyond it steer a terminal.
+        yield json.dumps(value)
+
+
+def write(pieces):
+    """Writes pieces of text to the output, without one whole text of them."""
+    for it in pieces:
+        sys.stdout.write(it)
+    sys.stdout.flush()
 
 
 def print_json(record):
-    click.echo(json.dumps(record, ensure_ascii=False))
+    write(json_pieces(record))
+    click.echo()
 
 
 def print_text(text):
-    """Prints a text that has come from elsewhere: as it is, unless a terminal shows it."""
-    click.echo(plain(text) if sys.stdout.isatty() else text, nl=False)
+    """Prints a text that has come from elsewhere, and that was looked through."""
+    write([text])
 
 
 def print_table(columns, rows, empty):
@@ -36,14 +79,22 @@ def print_table(columns, rows, empty):
     Console(highlight=False, markup=False, emoji=False, width=None if sys.stdout.isatty() else 200).print(made)
 
 
-def print_fields(record):
-    """Prints a record, a field on a line."""
+def field_pieces(record):
+    """The pieces of a record's lines, a field on each."""
     width = max(map(len, record)) + 2
     for name, value in record.items():
         if isinstance(value, dict):
             value = [f"{key} {text}".strip() for key, text in value.items()]
-        value = ", ".join(map(str, value)) if isinstance(value, list) else value
-        click.echo(plain(f"{name:{width}}{value}").rstrip())
+        yield plain(name)
+        texts = value if isinstance(value, list | collections.abc.Iterator) else [value]
+        for comma, batch in batches(map(str, texts)):
+            yield plain((comma or " " * (width - len(name))) + ", ".join(batch))
+        yield "\n"
+
+
+def print_fields(record):
+    """Prints a record, a field on a line."""
+    write(field_pieces(record))
 
 
 def say(text):

@@ -1,4 +1,5 @@
 """Commands that look: status, list, signers, figures, outbox, doctor."""
+import collections
 import sys
 import time
 
@@ -8,10 +9,9 @@ from vethlumi import doctor, figures, formats
 from vethlumi.certificates import STATES
 from vethlumi.cli import as_json, main, pass_job, put_file, read_text
 from vethlumi.formats import BadFormat, Certificate
-from vethlumi.office import NoAnswer, trying
-from vethlumi.printing import print_fields, print_json, print_table, print_text, say
+from vethlumi.office import trying
+from vethlumi.printing import plain, print_fields, print_json, print_table, print_text, say
 from vethlumi.refusals import Refused
-from vethlumi.settings import NO_ANSWER, REFUSED
 
 
 @main.command()
@@ -21,12 +21,15 @@ def status(job, as_json):
     """Show the office's CAs, number of certificates and KRL, and how many messages have no answer yet."""
     cas, (rows, version) = job.office.cas(), job.office.table()
     now = time.time()
+    counts = collections.Counter()
+    for it in rows:
+        counts[it.state] += 1
+        counts["valid"] += it.is_valid(now)
     record = {
         "office": job.office.url,
         "cas": [{"number": number, "since": str(since), "fingerprint": print_} for number, since, print_ in cas],
         "certificates": len(rows),
-        **{state: sum(it.state == state for it in rows) for state in STATES},
-        "valid": sum(it.state == "signed" and it.after <= now < it.before for it in rows),
+        **{it: counts[it] for it in (*STATES, "valid")},
         "list version": str(version),
         "outbox": len(job.outbox.all()),
     }
@@ -63,7 +66,7 @@ def list_(job, out, check, as_json):
 @pass_job
 def signers(job):
     """Print the allowed signers file for ssh-keygen -Y verify."""
-    print_text(job.office.page("/v1/signers", bytes.decode))
+    print_text(job.office.signers())
 
 
 @main.command("figures")
@@ -75,10 +78,10 @@ def figures_(job, last):
     answered = "up", "Whether the office answered."
     try:
         found = figures.figures(job.office, last)
-    except (NoAnswer, Refused, BadFormat) as fault:
+    except Exception:
+        # Whatever it is: somebody who looks at the metrics has to see it.
         click.echo(figures.printed(*answered, [("", 0)]), nl=False)
-        say(fault)
-        sys.exit(NO_ANSWER if isinstance(fault, NoAnswer) else REFUSED)
+        raise
     click.echo("".join(figures.printed(*it) for it in [(*answered, [("", 1)]), *found]), nl=False)
 
 
@@ -96,15 +99,26 @@ def outbox(job, send, drop, as_json):
             raise BadFormat(f"the outbox has no message {drop}")
         return found.drop()
     for it in kept:
-        line = it.message.partition("\n")[0]
-        reply = " ".join(trying(lambda it=it: job.office.post(it), job.ends, say)) if send else ""
+        reply = sent_again(job, it) if send else ""
         print_json({"id": it.key, "message": it.message, "reply": reply}) if as_json \
-            else click.echo(f"{it.key}  {line}{'  ' * bool(reply)}{reply}")
-        # A certificate is fetched by the command that asked for it, which finds the message here.
-        if reply and not reply.startswith("issued"):
-            it.drop()
+            else click.echo(plain(f"{it.key}  {it.message.partition(chr(10))[0]}{'  ' * bool(reply)}{reply}"))
     if not kept and not as_json:
         click.echo("the outbox is empty")
+
+
+def sent_again(job, kept):
+    """Sends a message of the outbox, and gives its reply or refusal. It stays there if it got neither."""
+    try:
+        reply = trying(lambda: job.office.post(kept), job.ends, say)
+    except Refused as refused:
+        if not refused.number:
+            raise
+        kept.drop()
+        return f"refused {refused.number} {refused.name}"
+    # A certificate is fetched by the command that asked for it, which finds the message here.
+    if reply[0] != "issued":
+        kept.drop()
+    return " ".join(reply)
 
 
 @main.command("doctor")

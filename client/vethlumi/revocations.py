@@ -39,11 +39,11 @@ def revoke(job, what, keyid, yes):
     message, hits = revocation_of(what, keyid, job)
     if not yes:
         rows, _ = job.office.table()
-        hit = [it for it in rows if hits(it)]
-        print_rows(hit)
+        print_rows(filter(hits, rows), rows.last)
         now = time.time()
-        living = sum(it.before > now and it.state != "revoked" for it in hit)
-        ask(f"Revoke {counted(len(hit), 'certificate')}, {living} of which can still be used?", yes)
-    kept, reply = job.send(message, lambda reply: reply[:2] == ["revoked", "version"] and len(reply) == 3)
+        count = sum(map(hits, rows))
+        living = sum(hits(it) and it.before > now and it.state != "revoked" for it in rows)
+        ask(f"Revoke {counted(count, 'certificate')}, {living} of which can still be used?", yes)
+    kept, reply = job.send(message)
     kept.drop()
     click.echo(f"revoked; the list has version {reply[2]}")

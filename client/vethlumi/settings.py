@@ -2,7 +2,10 @@
 import os
 import pathlib
 import tomllib
+import urllib.parse
 from dataclasses import dataclass, fields
+
+from vethlumi import files
 
 # The statuses with which a command ends, beside 0.
 REFUSED, BAD_WORDS, NO_ANSWER, NOT_SIGNED = 1, 2, 3, 4
@@ -28,6 +31,13 @@ class Settings:
         if not self.office.startswith(("https://", "http://")):
             raise BadSettings(f"no office: set `office` to its URL in {FILES[0]}, or use --office" if not self.office
                               else f"{self.office!r} is no URL that begins with https:// or http://")
+        try:
+            found = urllib.parse.urlsplit(self.office)
+            is_url = found.hostname and found.port != 0
+        except ValueError:
+            is_url = False
+        if not is_url or not self.office.isprintable() or " " in self.office:
+            raise BadSettings(f"{self.office!r} is no URL with a host's name, and a port if there is a colon")
         return self.office.rstrip("/")
 
     def file(self, name):
@@ -48,6 +58,9 @@ def read_settings(path=None, **given):
     paths = [pathlib.Path(it).expanduser() for it in ([path] if path else FILES)]
     for file in [it for it in paths if path or it.exists()][:1]:
         try:
+            # Who names a file by --config chooses whose it is.
+            if why := "" if path else files.distrust(file, 0o002):
+                raise BadSettings(f"the settings can't be used: {why}. Set HOME to your own folder, or use --config")
             with open(file, "rb") as it:
                 found = tomllib.load(it)
         except (OSError, ValueError) as fault:
@@ -63,6 +76,6 @@ def read_settings(path=None, **given):
 
 
 def state_folder():
-    """The folder of the outbox."""
-    base = os.environ.get("XDG_STATE_HOME") or os.path.expanduser("~/.local/state")
-    return pathlib.Path(base) / "vethlumi"
+    """The folder of the outbox. The variable counts only if it is absolute (XDG Base Directory Specification)."""
+    base = os.environ.get("XDG_STATE_HOME", "")
+    return os.path.abspath(f"{base if os.path.isabs(base) else os.path.expanduser('~/.local/state')}/vethlumi")
