@@ -4,11 +4,15 @@ A bundle is a text that one set-up command makes for another. Its parts begin wi
 public keys before the first part are CAs', so `cat ca.pub server.bundle` is a bundle too.
 """
 import argparse
+import base64
+import contextlib
 import grp
+import hashlib
 import os
 import pathlib
 import pwd
 import re
+import stat
 import subprocess
 import sys
 import tempfile
@@ -18,6 +22,9 @@ LAST_SERIAL = 9223372036854775806
 ETC = pathlib.Path("/etc/vethlumi")
 PARTS = ("office", "caller", "host", "authority", "certificate", "ca", "policy")
 CA_LINE = re.compile(r"ssh-ed25519 AAAAC3NzaC1lZDI1NTE5AAAAI[A-P][A-Za-z0-9+/]{42}( .*)?", re.ASCII)
+# A public key somewhere in a line: its type and the key.
+KEY = re.compile(r"(?:^|(?<=\s))[a-z][a-z0-9@.-]+ AAAA[A-Za-z0-9+/]+={0,2}(?=\s|$)", re.ASCII)
+FINGERPRINT = re.compile(r"SHA256:[A-Za-z0-9+/]{43}", re.ASCII)
 # A name that begins with - would be taken for an option.
 NAME = re.compile(r"[a-z0-9][a-z0-9-]{0,31}", re.ASCII)
 # Parts of one line. Root writes them into settings, and names files by them, so nothing else may stand there.
@@ -33,6 +40,8 @@ database.close()
 """
 # Where the list of revoked certificates is, and how long the first one is waited for, in seconds.
 LIST, LONGEST_WAIT = pathlib.Path("/var/lib/office-list"), 60
+# In bytes: more than any file that set-up reads. Some are in folders of other users.
+LONGEST_TEXT = 1 << 24
 
 
 class Fault(Exception):
@@ -89,11 +98,12 @@ def check_line(name, text):
 
 
 def name_of_host(host):
-    """The name by which a host asks the office, and that of its department: its own name with - for each dot."""
+    """The name of a host's department: the host's own name with - for each dot. The host asks the office as the caller
+    host-NAME, which has at most 32 bytes."""
     check_line("host", host)
     name = host.lower().replace(".", "-")
-    if not NAME.fullmatch(name):
-        raise Fault(f"{host} gives no name of 1 to 32 of a-z, 0-9 and -")
+    if not NAME.fullmatch(name) or not NAME.fullmatch(f"host-{name}"):
+        raise Fault(f"{host} gives no name of 1 to 27 of a-z, 0-9 and -")
     return name
 
 
@@ -103,18 +113,132 @@ def part_of(parts, name, what):
     return parts[name]
 
 
+def certificate_of(parts):
+    """The caller's key and certificate for the front. One without its key helps nobody, and TLS's own fault says
+    nothing of it."""
+    text = part_of(parts, "certificate", "the caller's key and certificate")
+    for it in ("CERTIFICATE", "PRIVATE KEY"):
+        if not re.search(rf"^-----BEGIN [A-Z ]*{it}-----$", text, re.M):
+            raise Fault(f"the part [certificate] of the bundle has no {it}, and needs a private key and a certificate. "
+                        "Whoever made the request for the certificate has the key: put its text before the certificate")
+    return text
+
+
 def cas_of(parts, named, known=()):
     """The fingerprints of the CAs whose keys stand before a bundle. Whoever makes bundles could put another key there,
     so each is named by an option or known, unless there is one key and nothing to compare it with."""
-    if not parts.get("ca"):
-        return []
-    told = run(["ssh-keygen", "-l", "-f", "-"], input=parts["ca"], stdin=None)
-    found = [*dict.fromkeys(it.split()[1] for it in told.splitlines())]
+    found = [*keys_in(parts.get("ca", ""))]
     others = [it for it in found if it not in {*named, *known}]
     if others and (named or known or len(found) > 1):
         raise Fault(f"before the bundle there is the key of a CA that isn't known: {', '.join(others)}. If it is "
                     "one of yours, name each CA by --ca SHA256:..")
     return found
+
+
+# ---- which CAs a machine trusts
+
+def keys_in(text):
+    """The public keys in the lines of a text, by their fingerprints."""
+    found = {}
+    for line in text.splitlines():
+        for it in [] if line.startswith("#") else KEY.findall(line):
+            kind, key = it.split()
+            with contextlib.suppress(ValueError):
+                blob = base64.b64decode(key, validate=True)
+                digest = base64.b64encode(hashlib.sha256(blob).digest()).decode().rstrip("=")
+                # The key has its type in it, too.
+                if blob[4:].startswith(kind.encode()):
+                    found[f"SHA256:{digest}"] = it
+    return found
+
+
+def trusted_before():
+    """The CAs that this machine trusts, by their fingerprints: each with its key, or None if that hasn't come. A server
+    names them; a client that was set up before there was a file for them has them as signers of lists."""
+    named = re.findall(r"^(?:[0-9]+ )?(SHA256:\S{43})(?: |$)", text_of(ETC / "ca-fingerprints"), re.M)
+    keys = keys_in(text_of(ETC / "trusted-cas"))
+    if named:
+        return {it: keys.get(it) for it in named}
+    return keys or keys_in(text_of(ETC / "list-signers")) or keys_in(text_of(ETC / "list-cas"))
+
+
+class Trust:
+    """Which CAs this machine trusts from now on: exactly those that are named, or else those of before. One that trusts
+    none takes the one whose key stands before the bundle. /etc/vethlumi/trusted-cas has their keys, and is what sshd
+    reads; all other files that say which CAs count are made from it."""
+
+    def __init__(self, parts, named, pattern=None):
+        if wrong := [it for it in named if not FINGERPRINT.fullmatch(it)]:
+            raise BadWords(f"no fingerprint: {wrong[0]}")
+        self.before = trusted_before()
+        found = cas_of(parts, named, self.before)
+        others = [it for it in keys_in(text_of(ETC / "list-signers")) if it not in self.before]
+        if others and not named:
+            raise Fault(f"{ETC}/list-signers names a CA that {ETC}/ca-fingerprints doesn't: {', '.join(others)}. Name "
+                        "each CA to trust by --ca SHA256:..")
+        # Keys count by their fingerprints, so it doesn't matter where they come from.
+        known = {it: key for text in (*(text_of(ETC / it) for it in ("list-signers", "list-cas")),
+                                      text_of(LIST / "cas.pub"), text_of(ETC / "trusted-cas"), parts.get("ca", ""))
+                 for it, key in keys_in(text).items()}
+        self.keys = {it: known.get(it) for it in [*named] or [*self.before] or found}
+        # All that were ever trusted, and those that aren't any more.
+        self.every = keys_in(text_of(ETC / "list-cas")) | {it: known[it] for it in self.before if it in known}
+        self.gone = [it for it in self.before if it not in self.keys]
+        hosts = re.findall(r"^@cert-authority (\S+) ", text_of(ETC / "known_hosts"), re.M)
+        self.patterns = [*dict.fromkeys([*hosts, *([pattern] if pattern else [])])]
+
+    def missing(self):
+        """The CAs whose keys haven't come."""
+        return [it for it, key in self.keys.items() if not key]
+
+    def former(self):
+        """The keys of CAs that aren't trusted any more."""
+        return [key for it, key in self.every.items() if it not in self.keys]
+
+    def files(self):
+        """The files that are made from the keys that are trusted, with their texts. Whoever has a CA's key may state
+        which list is the office's. A list goes on naming certificates of CAs that have ended, so `list-cas` keeps
+        them. ssh refuses them whatever else it reads."""
+        keys, every = [*self.keys.values()], {**self.every, **self.keys}.values()
+        found = {ETC / "list-signers": [f'krl namespaces="krl@vethlumi" {it}' for it in keys], ETC / "list-cas": every}
+        if self.patterns:
+            found[ETC / "known_hosts"] = [*(f"@cert-authority {it} {key}" for it in self.patterns for key in keys),
+                                          *(f"@revoked * {key}" for key in self.former())]
+        return {path: "".join(f"{it}\n" for it in lines) for path, lines in found.items()}
+
+    def add_to(self, steps, is_server):
+        """The steps that write the files. What isn't trusted any more is taken out before anything is fetched."""
+        for it in self.gone:
+            steps.add(f"no longer believe the CA {it}", lambda: None)
+        for it in self.keys:
+            if is_server or it not in self.before:
+                steps.add(f"believe the CA {it}", lambda: None)
+        if is_server or (ETC / "ca-fingerprints").exists():
+            # First: the timer makes the next file from this one.
+            steps.file(ETC / "ca-fingerprints", "".join(f"{it}\n" for it in self.keys))
+        keys = [key for key in self.keys.values() if key]
+        if keys:
+            steps.file(ETC / "trusted-cas", "".join(f"{it}\n" for it in keys))
+        for path, text in {} if self.missing() else self.files().items():
+            steps.file(path, text)
+
+    def fetch(self):
+        """Has the timer's unit fetch the keys that haven't come, and makes the files from them. If none is missing, it
+        doesn't matter what the front offers."""
+        fault = None
+        try:
+            start("office-ca-keys.service")
+        except Fault as why:
+            fault = why
+        came = keys_in(text_of(ETC / "trusted-cas"))
+        if {*came} != {*self.keys}:
+            raise fault or Fault(f"{ETC}/trusted-cas has other CAs than those that are named: {', '.join(came)}")
+        if fault:
+            tell(f"  {fault}")
+        self.keys = {it: came[it] for it in self.keys}
+        for path, text in self.files().items():
+            if text_of(path) != text:
+                put(path, text, 0o644)
 
 
 # ---- questions and steps
@@ -158,7 +282,7 @@ def put(path, text, mode, user="root", group=None):
     path = pathlib.Path(path)
     handle, new = tempfile.mkstemp(prefix=f".{path.name}.", dir=path.parent)
     try:
-        with open(handle, "w") as it:
+        with open(handle, "w", errors="surrogateescape") as it:
             it.write(text)
             it.flush()
             if not os.getuid():
@@ -170,6 +294,9 @@ def put(path, text, mode, user="root", group=None):
         # It may have half a private key.
         pathlib.Path(new).unlink(missing_ok=True)
         raise
+    folder = os.open(path.parent, os.O_RDONLY | os.O_DIRECTORY)
+    os.fsync(folder)
+    os.close(folder)
 
 
 def put_database(user, path, make):
@@ -195,12 +322,21 @@ def put_database(user, path, make):
 
 
 def text_of(path):
-    """The text of a file; none if it isn't there, or is a link. Nobody is waited for at the other end of a pipe."""
+    """The text of a file; none if it isn't there, or is a link or too long. Nobody is waited for at the other end of a
+    pipe."""
     try:
-        with open(os.open(path, os.O_RDONLY | os.O_NOFOLLOW | os.O_NONBLOCK)) as it:
-            return it.read()
+        with open(os.open(path, os.O_RDONLY | os.O_NOFOLLOW | os.O_NONBLOCK), errors="surrogateescape") as it:
+            found = os.fstat(it.fileno())
+            return it.read() if stat.S_ISREG(found.st_mode) and found.st_size <= LONGEST_TEXT else ""
     except OSError:
         return ""
+
+
+def is_of(path, mode, user, group):
+    """Whether a file has this mode and, if root asks, belongs to this user."""
+    found = os.lstat(path)
+    owner = None if os.getuid() else (pwd.getpwnam(user).pw_uid, grp.getgrnam(group or user).gr_gid)
+    return stat.S_IMODE(found.st_mode) == mode and owner in (None, (found.st_uid, found.st_gid))
 
 
 class Steps:
@@ -215,10 +351,13 @@ class Steps:
         self.steps.append((what, do))
 
     def file(self, path, text, mode=0o644, user="root", group=None, what=""):
-        """A step that writes a file, unless it has this text."""
-        if text_of(path) != text:
-            self.changed.add(str(path))
-            self.add(f"write {path}{f' ({what})' if what else ''}", lambda: put(path, text, mode, user, group))
+        """A step that writes a file, unless it has this text, and is as it should be otherwise."""
+        is_written = text_of(path) == text
+        if is_written and (not os.path.lexists(path) or is_of(path, mode, user, group)):
+            return
+        self.changed.add(str(path))
+        does = f"give {path} the mode {mode:o} and its owner {user}" if is_written else f"write {path}"
+        self.add(f"{does}{f' ({what})' if what else ''}", lambda: put(path, text, mode, user, group))
 
     def lines(self, path, lines, mode=0o644, user="root", group=None, what=""):
         """A step that adds those of the lines to a file that it lacks."""
@@ -298,13 +437,6 @@ def list_settings(steps, office, authority, is_unsigned):
         old.append(unsigned)
     steps.file(ETC / "server.env", "".join(f"{it}\n" for it in [f"OFFICE={office}", *old]))
     steps.file(ETC / "ca.crt", authority)
-
-
-def signers(keys):
-    """The files that say whose lists count, with their lines. Whoever has a CA's key may state which list is the
-    office's."""
-    bare = [" ".join(it.split()[:2]) for it in keys]
-    return {ETC / "list-signers": [f'krl namespaces="krl@vethlumi" {it}' for it in bare], ETC / "list-cas": bare}
 
 
 def start(unit):
