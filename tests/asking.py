@@ -40,6 +40,22 @@ def signature_blob(signature=0x44):
     return base64.b64encode(string(b"ssh-ed25519") + string(signature)).decode()
 
 
+# The prime of the field of Ed25519 (RFC 8032, section 5.1).
+PRIME = 2 ** 255 - 19
+# Each y of a point whose order divides 8, as libsodium and others list them. Many readers take p and p + 1 as 0 and 1.
+SMALL_ORDER_YS = [0, 1, PRIME - 1, PRIME, PRIME + 1,
+                  2707385501144840649318225287225658788936804267575313519463743609750303402022,
+                  55188659117513257062467267217118295137698188065244968500265048394206261417927]
+
+
+def encoded(y, sign):
+    """The 32 bytes of a point, by its y and the sign of its x."""
+    return (y | sign << 255).to_bytes(32, "little")
+
+
+# The keys for which everybody can sign.
+SMALL_ORDER_KEYS = [encoded(y, sign) for y in SMALL_ORDER_YS for sign in (0, 1)]
+
 # The CA and the subject of the worked rows. Nobody has the private halves.
 CA, OTHER_CA, KEY = key_line(0x11), key_line(0x12), key_line(0x22)
 

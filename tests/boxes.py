@@ -25,7 +25,7 @@ import uuid
 FOLDER = pathlib.Path(os.environ.get("OFFICE_BOXES", "/var/cache/sshoffice-boxes"))
 RELEASE = "bookworm"
 PACKAGES = """systemd systemd-sysv dbus libpam-systemd iproute2 procps logrotate cron nginx-light openssh-client
-python3-requests
+python3-requests python3-cffi-backend python3-cryptography
 openssh-server openssl curl sqlite3 python3 ca-certificates""".split()
 # Boxes of an office on a volume start from a folder of their own, which the first test that needs it makes.
 OF_VOLUME = (FOLDER.with_name(f"{FOLDER.name}-ceph"),

@@ -1,4 +1,5 @@
 """The fixtures of the tests. tests/README.md says what each is."""
+import collections
 import functools
 import json
 import os
@@ -48,8 +49,8 @@ def pytest_addoption(parser):
     group.addoption("--heads", type=int, default=100_000, help="how many changed heads test_heads compares (100000)")
     group.addoption("--counts", action="store_true", help="end with the lines of counts that ./check reads")
     group.addoption("--outcomes", metavar="FILE", type=pathlib.Path,
-                    help="a file for the names of the tests that passed, and of those that failed but the ones marked "
-                         "`once`, as JSON")
+                    help="a file for the names of the tests that passed, of those that failed but the ones marked "
+                         "`once`, and the seconds of each, as JSON")
 
 
 @pytest.hookimpl(tryfirst=True)
@@ -64,6 +65,19 @@ def pytest_configure(config):
 
 def pytest_report_header(config):
     return f"random histories: --hypothesis-seed={config.option.hypothesis_seed}"
+
+
+def name_of(report):
+    return re.sub(r"@[^@\]]+$", "", report.nodeid)
+
+
+def seconds_of_tests(reporter):
+    """How long each test took, with its fixtures. What is reported of the fixtures alone has no outcome."""
+    seconds = collections.Counter()
+    for how in ("", "passed", "failed", "error"):
+        for report in reporter.stats.get(how, []):
+            seconds[name_of(report)] += getattr(report, "duration", 0)
+    return seconds
 
 
 def pytest_unconfigure(config):
@@ -81,8 +95,8 @@ def pytest_unconfigure(config):
         # A file that can't be read has no keywords. Side by side, a name ends with that of its group.
         again = [it for it in [*reports, *skipped] if "once" not in getattr(it, "keywords", ())]
         parts = {"failed": again, "passed": passed}
-        names = {it: [re.sub(r"@[^@\]]+$", "", report.nodeid) for report in parts[it]] for it in parts}
-        config.getoption("--outcomes").write_text(json.dumps(names))
+        names = {it: [name_of(report) for report in parts[it]] for it in parts}
+        config.getoption("--outcomes").write_text(json.dumps(names | {"seconds": seconds_of_tests(reporter)}))
     print(f"{sum('rows' in it.keywords for it in passed)} worked rows")
     print(f"{len(left_out)} left out")
     print(f"{len(passed)} passed, {failed} failed", flush=True)

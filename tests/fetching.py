@@ -1,7 +1,9 @@
 """What tests of the scripts that fetch have in common: a server that answers anything, and a disk that is small."""
 import contextlib
 import os
+import shutil
 import socket
+import tempfile
 
 from recording import Recorder, whole_request
 from running import EXAMPLES, run
@@ -48,6 +50,34 @@ def script(name, *words, **how):
     """Status, output, and the lines of errors of a script of examples/."""
     done = run([EXAMPLES / name, *words], **how)
     return done.returncode, done.stdout.decode(), done.stderr.decode(errors="replace").splitlines()
+
+
+# Stands for a program: does something before it and after it.
+AROUND = """#!/bin/sh
+{before}
+{program} "$@"
+status=$?
+{after}
+exit $status
+"""
+
+
+def around(folder, name, before=":", after=":"):
+    """The environment in which these commands run before and after a program, by a stand-in in this folder."""
+    file = folder / "bin" / name
+    file.parent.mkdir(exist_ok=True)
+    file.write_text(AROUND.format(program=shutil.which(name), before=before, after=after))
+    file.chmod(0o755)
+    return os.environ | {"PATH": f"{file.parent}:{os.environ['PATH']}"}
+
+
+@contextlib.contextmanager
+def folder_of_nobody():
+    """A folder of the user nobody, in which root runs a program. Everybody may enter those above it."""
+    with tempfile.TemporaryDirectory(dir="/var/tmp") as folder:
+        os.chmod(folder, 0o755)
+        shutil.chown(folder, "nobody")
+        yield folder
 
 
 def shown(folder="."):

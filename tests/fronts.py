@@ -4,6 +4,7 @@ import functools
 import os
 import pathlib
 import pwd
+import re
 import shutil
 import signal
 import socket
@@ -15,6 +16,10 @@ from running import EXAMPLES, end, free_port, is_listening, rest, run, until
 
 # The clients of whom `front` has a certificate.
 CLIENTS = (("caller", "ana"), ("root",), ("station",), ("reader", "watch"))
+# The bytes of memory that a connection may take.
+MOST_OF_A_CONNECTION = 115_000
+# How many processes of nginx serve.
+WORKERS = int(re.search(r"^worker_processes (\d+);$", (EXAMPLES / "front/nginx.conf").read_text(), re.M)[1])
 
 
 def new_authority(folder):
@@ -73,7 +78,7 @@ class Front:
         return {name: getattr(self, name) for name in ("port", "url", "authority", "conf", "state")}
 
     def begin(self):
-        """Starts nginx, and waits until it listens and has begun all of its processes: one for each processor, and one
+        """Starts nginx, and waits until it listens and has begun all of its processes: those of its settings, and one
         that looks after the pages that are kept. Before, a signal to read its files again would end it, or reach some
         of them alone."""
         user = pwd.getpwuid(os.getuid()).pw_name
@@ -81,7 +86,7 @@ class Front:
         with open(self.state / "nginx.faults", "ab") as faults:
             self.process = self.programs.begin(words, stderr=faults)
         until(functools.partial(is_listening, self.port, self.address))
-        until(lambda: len(self.workers()) > os.cpu_count())
+        until(lambda: len(self.workers()) > WORKERS)
 
     def end(self):
         end(self.process)

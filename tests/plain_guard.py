@@ -10,6 +10,7 @@ what is due to a program that it shares no line with.
 import argparse
 import base64
 import contextlib
+import functools
 import hashlib
 import os
 import pathlib
@@ -64,6 +65,39 @@ def is_key_blob(blob):
 def is_signature(text):
     found = re.fullmatch(r"[A-Za-z0-9+/]{111}=", text)
     return found is not None and base64.b64decode(text).startswith(string("ssh-ed25519") + b"\0\0\0\x40")
+
+
+# ---- points of the curve of Ed25519 (RFC 8032, section 5.1)
+
+PRIME = 2 ** 255 - 19
+D = -121665 * pow(121666, -1, PRIME) % PRIME
+
+
+def point_of(encoding):
+    """The point that 32 bytes encode, or None. As in OpenSSH, y may be p or more, and x = 0 may have either sign."""
+    number = int.from_bytes(encoding, "little")
+    sign, y = number >> 255, number % (1 << 255) % PRIME
+    square = (y * y - 1) * pow(D * y * y + 1, -1, PRIME) % PRIME
+    x = pow(square, (PRIME + 3) // 8, PRIME)
+    if x * x % PRIME != square:
+        x = x * pow(2, (PRIME - 1) // 4, PRIME) % PRIME
+    if x * x % PRIME != square:
+        return None
+    return (x if x % 2 == sign else -x % PRIME), y
+
+
+def twice(point):
+    """The sum of a point and itself."""
+    x, y = point
+    both = D * x * x * y * y
+    return 2 * x * y * pow(1 + both, -1, PRIME) % PRIME, (y * y + x * x) * pow(1 - both, -1, PRIME) % PRIME
+
+
+@functools.cache
+def has_small_order(encoding):
+    """Whether 32 bytes encode a point that eight times is the neutral one."""
+    point = point_of(encoding)
+    return point is not None and twice(twice(twice(point))) == (0, 1)
 
 
 # ---- messages, of which a policy has departments alone
@@ -167,7 +201,7 @@ class Department:
     def permits(self, body):
         return (all(any(meets(it, rule) for rule in self.rules) for it in body.principals)
                 and {*body.options} <= {*self.options} and {*body.extensions} <= {*self.extensions}
-                and 0 < body.before - body.after <= self.longest)
+                and 0 < body.before - body.after <= self.longest and not has_small_order(body.key))
 
 
 def read_policy(data):
@@ -225,6 +259,7 @@ def all_or(is_right, fault):
 
 @dataclass
 class Body:
+    key: bytes
     serial: int
     kind: int
     key_id: str
@@ -265,7 +300,8 @@ def read_body(data):
     reader = Reader(data, "Truncated")
     all_or(reader.string() == b"ssh-ed25519-cert-v01@openssh.com", "WrongType")
     all_or(len(reader.string()) == 32, "BadNonce")
-    all_or(len(reader.string()) == 32, "BadKey")
+    key = reader.string()
+    all_or(len(key) == 32, "BadKey")
     serial = reader.number(8)
     all_or(1 <= serial <= MOST_SERIAL, "BadSerial")
     kind = reader.number(4)
@@ -283,7 +319,7 @@ def read_body(data):
     ca = reader.string()
     all_or(is_key_blob(ca), "BadCa")
     all_or(not reader.data, "TrailingBytes")
-    return Body(serial, kind, key_id, principals, after, before, options, extensions, ca)
+    return Body(key, serial, kind, key_id, principals, after, before, options, extensions, ca)
 
 
 # ---- the guard

@@ -33,6 +33,11 @@ OPTION = r"(?:force-command|source-address|verify-required)"
 EXTENSION = r"(?:no-touch-required|permit-(?:X11|agent|port)-forwarding|permit-pty|permit-user-rc)"
 
 
+def line_of(word, some):
+    """The line of a list, which is empty without a space."""
+    return f"{word} {','.join(some)}\n" if some else f"{word}\n"
+
+
 def listed(of):
     """A list, which is empty without a space."""
     return rf"(?: ({of}(?:,{of})*))?"
@@ -134,6 +139,13 @@ class Department:
     extensions: list
     longest: int
     namespaces: list
+
+    def text(self):
+        """The text of the message that puts it."""
+        return (f"department {self.name}\nkind {self.kind}\n" + line_of("admins", self.admins)
+                + line_of("principals", self.rules) + line_of("options", self.options)
+                + line_of("extensions", self.extensions) + f"maxlife {self.longest}\n"
+                + line_of("namespaces", self.namespaces))
 
     def permits(self, asked, after, before):
         return (all(any(meets(it, rule) for rule in self.rules) for it in asked.principals)
@@ -366,7 +378,7 @@ class PlainOffice:
         if found and 1 <= int(found[1]) <= MOST_SERIAL:
             return self.certificate(int(found[1]), found[2])
         reports = {"/v1/pending": self.pending, "/v1/krl": self.revocation_list, "/v1/signers": self.signers,
-                   "/v1/table": self.table, "/v1/cas": self.all_cas}
+                   "/v1/table": self.table, "/v1/cas": self.all_cas, "/v1/departments": self.all_departments}
         refuse({2: target not in reports})
         return (reports[target](), target != "/v1/krl")
 
@@ -405,6 +417,9 @@ class PlainOffice:
         return "".join(
             f"{number} {since} SHA256:{base64.b64encode(hashlib.sha256(ca).digest()).decode().rstrip('=')}\n"
             for number, (ca, since) in enumerate(self.cas, 1))
+
+    def all_departments(self):
+        return "".join(it.text() for _, it in sorted(self.departments.items()))
 
     def revocation_list(self):
         parts = [struct.pack(">Q", 0x5353484b524c0a00), struct.pack(">I", 1), u64(self.version), u64(self.date), u64(0),

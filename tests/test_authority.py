@@ -331,6 +331,23 @@ def test_a_renewal_has_the_name_and_the_kind_and_a_new_key(folder):
     assert set() == revoked_in(folder / "crl.pem")
 
 
+def test_a_server_has_a_name_that_no_other_client_can_have(folder, request_file):
+    """Renewed, and with a key of its own too."""
+    longest = 27 * "a"
+    for words, name in ((["web"], "host-web"), ([longest], f"host-{longest}"), (["host-db"], "host-host-db"),
+                        (["own", "--csr", request_file(name="own")], "host-own")):
+        assert f"{folder}/{name}.pem\n" == must("host", folder, *words)
+        assert f"subject=CN = {name}" == of_certificate(folder / f"{name}.pem", "-subject")
+    why = f"authority: {folder}/host-web.pem is there; make it again by: authority renew {folder} host-web"
+    assert (1, "", why) == authority("host", folder, "web")
+    assert f"{folder}/host-web.pem\n" == must("renew", folder, "host-web", "--revoke")
+    assert "subject=CN = host-web" == of_certificate(folder / "host-web.pem", "-subject")
+    must("revoke", folder, "host-web")
+    assert 2 == len(revoked_in(folder / "crl.pem"))
+    assert {"/CN=front", "/CN=ana", "/OU=reader/CN=watch", f"/CN=host-{longest}", "/CN=host-host-db",
+            "/CN=host-own"} == look(folder)
+
+
 def test_a_renewal_may_revoke_what_was_before(folder):
     first = serial_of(folder / "ana.pem")
     must("renew", folder, "ana")
@@ -480,6 +497,21 @@ def test_a_renewed_certificate_is_taken_and_a_revoked_one_is_not(front):
     assert (403, REFUSED) == (answer.status_code, answer.text)
 
 
+def test_a_certificate_that_has_ended_is_revoked(folder, room):
+    """By its file, as one that is still valid: the front's clock may be wrong, or set back later."""
+    run(["openssl", "req", "-new", "-newkey", "ec", "-pkeyopt", "ec_paramgen_curve:P-256", "-nodes", "-keyout",
+         "old.key", "-subj", "/CN=old", "-out", "old.csr"], check=True)
+    (room / "old.ext").write_text("extendedKeyUsage = clientAuth\n")
+    (room / "old.index").touch()
+    (room / "old.conf").write_text(
+        "[ca]\ndefault_ca = it\n[it]\ndatabase = old.index\nnew_certs_dir = .\ndefault_md = sha256\nrand_serial = yes\n"
+        f"policy = any\ncertificate = {folder}/ca.crt\nprivate_key = {folder}/ca.key\n[any]\ncommonName = supplied\n")
+    run(["openssl", "ca", "-batch", "-notext", "-config", "old.conf", "-extfile", "old.ext", "-startdate",
+         "200101000000Z", "-enddate", "200102000000Z", "-in", "old.csr", "-out", "old.crt"], check=True)
+    must("revoke", folder, room / "old.crt")
+    assert {serial_of(room / "old.crt")} == revoked_in(folder / "crl.pem")
+
+
 def test_what_the_authority_has_not_made_is_not_revoked(folder, room):
     must("new", "other", "localhost")
     must("caller", "other", "ana")
@@ -549,6 +581,13 @@ BAD_WORDS = [
     (["renew", "front", "server"], 2, "the name server is that of a file of the authority"),
     (["caller", "front", "station"], 2, "the name station has a word of its own: authority station front"),
     (["reader", "front", "root"], 2, "the name root has a word of its own: authority root front"),
+    (["caller", "front", "host-x"], 2, "only servers have names that begin with host-: host-x; see authority host"),
+    (["reader", "front", "host-"], 2, "only servers have names that begin with host-: host-; see authority host"),
+    (["host", "front", "a" * 28], 2, f"the name of a server has 1 to 27 of a-z, 0-9 and -: {'a' * 28}"),
+    (["host", "front", "web.example.org"], 2, "the name of a server has 1 to 27 of a-z, 0-9 and -: web.example.org"),
+    (["host", "front", ""], 2, "the name of a server has 1 to 27 of a-z, 0-9 and -: "),
+    (["host", "front"], 2, None),
+    (["host", "front", "web", "--revoke"], 2, None),
     (["new", "front", "localhost"], 1, "front has an authority already"),
     (["new", "other", "a b"], 2, "no host name: a b"),
     (["new", "other", "a,DNS:b"], 2, "no host name: a,DNS:b"),
@@ -582,7 +621,7 @@ def test_days_are_a_number(folder, number):
 
 def test_the_help_names_each_command():
     text = must("--help")
-    for job in ("new", "server", "caller", "reader", "root", "station", "renew", "revoke", "crl", "ends"):
+    for job in ("new", "server", "caller", "reader", "host", "root", "station", "renew", "revoke", "crl", "ends"):
         assert f"\nauthority {job} FOLDER" in text
     assert text == must("help")
 

@@ -28,7 +28,7 @@ NAMES = re.compile(r"^(?:export |front=|\w+\(\)).*$", re.M)
 # The office, for curl as root on its machine.
 DOOR = "--unix-socket /run/office-door.sock http://office"
 # The CAs that a server trusts.
-CAS = "/var/lib/office-list/cas.pub"
+CAS = "/etc/vethlumi/trusted-cas"
 UNITS = "office office-door.socket office-front"
 # What a caller is answered by the front, for a route of which the front keeps no answer.
 ASK = ("curl -s -o /dev/null -w '%{{http_code}}' --cacert authority/ca.crt --cert authority/{}.pem "
@@ -501,7 +501,10 @@ def test_drill_a_taken_front_and_then_a_lost_ca(whole_site):
     """The front may have had the station sign what is in no table, so a lost CA may follow."""
     printed = drill(whole_site, "A taken front")
     assert ["granted", "amiss", "refused", "granted"] == of(printed, "granted", "refused", "amiss")
-    assert "other|eve|*e" in printed and "web|ana|alice" in printed
+    # What the office says of its departments: the foreign one, and the administrator's own.
+    told = "\n".join(printed)
+    assert "department other\nkind user\nadmins eve\nprincipals *e\n" in told
+    assert "department web\nkind user\nadmins ana\nprincipals alice\n" in told
     assert [] == [it for it in printed if it.startswith("foreign: ")]
     assert ["1 web/alice", "2 web/other"] == [f"{it[0]} {it[3]}" for it in map(str.split, printed)
                                               if len(it) == 4 and len(it[1]) == 64]

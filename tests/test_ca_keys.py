@@ -1,16 +1,20 @@
-"""fetch-ca-keys: a server trusts the CAs that its administrator named, whatever the front gives it."""
+"""fetch-ca-keys and trust-cas: a server trusts the CAs that its administrator named, whatever the front gives it, and
+whatever the user does who fetches them."""
 import base64
 import concurrent.futures
 import contextlib
 import os
+import pathlib
+import shutil
 import signal
+import socket
 import subprocess
 import time
 
 import pytest
 
 from asking import key_blob, string
-from fetching import Web, response, script, shown, small_disk
+from fetching import Web, around, folder_of_nobody, response, script, shown, small_disk
 from running import EXAMPLES, free_port, run
 
 
@@ -278,6 +282,30 @@ def test_a_link_in_place_of_the_file_is_replaced_and_not_followed(fetch, room):
     assert (text(A), "other") == (of(), of("other"))
 
 
+def test_no_link_that_lies_beside_the_file_is_followed(fetch, room):
+    """One that is put in the place of what curl has written."""
+    (room / "victim").write_text("victim\n")
+    (room / "victim").chmod(0o600)
+    env = around(room, "curl", after='for it in keys.new.*; do ln -sf victim "$it"; done')
+    (room / "keys").write_text(text(A))
+    assert 1 == fetch(body(A, B), A, B, env=env)[0]
+    assert ("victim\n", 0o600) == (of("victim"), (room / "victim").stat().st_mode & 0o777)
+    assert (text(A), False) == (of(), (room / "keys").is_symlink())
+
+
+@pytest.mark.root
+def test_root_runs_as_the_user_whose_folder_it_is(web, names, room):
+    """Also if that user can't read the script."""
+    web.answer = response(body(A))
+    room.chmod(0o700)
+    shutil.copy(EXAMPLES / "fetch-ca-keys", room / "script")
+    with folder_of_nobody() as folder:
+        done = run([room / "script", "--fingerprint", names[A], web.url, f"{folder}/keys"], cwd="/")
+        assert (0, b"") == (done.returncode, done.stderr)
+        assert text(A) == of(f"{folder}/keys")
+        assert {"nobody"} == {pathlib.Path(folder, it).owner() for it in ("keys", ".keys.lock")}
+
+
 def test_a_link_to_a_folder_or_to_nothing(fetch, room):
     (room / "folder").mkdir()
     (room / "keys").symlink_to("folder")
@@ -409,3 +437,116 @@ def test_sshd_reads_the_file(fetch, room):
     assert (0, []) == fetch(body(A, B), A, B)
     read = run(["ssh-keygen", "-l", "-f", "keys"], check=True).stdout.decode().splitlines()
     assert [fingerprint(A), fingerprint(B)] == [it.split()[1] for it in read]
+
+
+# ---- what root makes of it
+
+@pytest.fixture
+def trust(names, room):
+    """Runs trust-cas for the file `trusted`, with these keys named, where this was fetched."""
+    def run_script(fetched, *named):
+        (room / "named").write_text("".join(f"{names[it]}\n" for it in named))
+        if fetched is not None:
+            (room / "fetched").write_bytes(fetched)
+        status, out, errors = script("trust-cas", "--named", "named", "fetched", "trusted", timeout=60)
+        assert ("", []) == (out, [it for it in errors if not it.startswith("trust-cas: ")])
+        return status, [it.removeprefix("trust-cas: ") for it in errors]
+    return run_script
+
+
+def test_what_is_named_is_copied(trust, room):
+    """The type and the key alone, in the order in which root names them."""
+    assert (0, []) == trust(body(f"{B} a comment", "", "# another", A), A, B)
+    assert text(A, B) == of("trusted")
+    assert (0o644, os.getuid()) == (os.stat("trusted").st_mode & 0o777, os.stat("trusted").st_uid)
+    before = os.stat("trusted").st_ino
+    assert (0, []) == trust(body(A, B), A, B) and before == os.stat("trusted").st_ino
+    os.chmod("trusted", 0o666)
+    assert (0, []) == trust(body(A, B), A, B) and 0o644 == os.stat("trusted").st_mode & 0o777
+
+
+def test_a_key_of_another_kind_is_copied_if_root_names_it(trust):
+    assert (0, []) == trust(body(RSA), RSA)
+    assert text(RSA) == of("trusted")
+
+
+@pytest.mark.parametrize("there", [None, text(A), text(A, FALSE)], ids=["nothing", "a key", "a false key too"])
+def test_what_the_fetching_user_adds_is_left_out(trust, names, room, there):
+    """Whoever takes that user over becomes no CA, and so doesn't become root."""
+    if there:
+        (room / "trusted").write_text(there)
+    due = [f"{names[FALSE]} is in trusted and isn't named; it was left out"] * (there == text(A, FALSE))
+    assert (1, [*due, f"{names[FALSE]} is in fetched and isn't named; it was left out"]) == trust(body(FALSE, A), A)
+    assert text(A) == of("trusted")
+
+
+def put_socket(path):
+    with socket.socket(socket.AF_UNIX) as it:
+        it.bind(str(path))
+
+
+# What the user whose file it is may put in its place, and why none of it is read.
+PLACES = [
+    ("a link", lambda path: path.symlink_to("elsewhere"), "Too many levels of symbolic links"),
+    ("a pipe", os.mkfifo, "it is no regular file"),
+    ("a folder", os.mkdir, "it is no regular file"),
+    ("a socket", put_socket, "No such device or address"),
+    ("a long file", lambda path: path.write_text(text(A).ljust(16385, "#")), "it has more than 16384 bytes"),
+    ("nothing", lambda path: None, "No such file or directory"),
+]
+
+
+@pytest.mark.parametrize("put, why", [it[1:] for it in PLACES], ids=[it[0] for it in PLACES])
+def test_what_is_no_file_of_keys_changes_nothing_that_is_trusted(trust, names, room, put, why):
+    """Nor does it keep a key that isn't named any more."""
+    (room / "elsewhere").write_text(text(A))
+    (room / "trusted").write_text(text(B))
+    put(room / "fetched")
+    told = f"fetched isn't read: {why}"
+    assert (1, [told]) == trust(None, B)
+    (room / "trusted").write_text(text(A, B))
+    assert (1, [f"{names[A]} is in trusted and isn't named; it was left out", told]) == trust(None, B)
+    assert text(B) == of("trusted")
+    assert (1, [f"{names[B]} is in trusted and isn't named; it was left out",
+                f"{told}; no key that is named is there, so trusted stays as it is"]) == trust(None, A)
+    assert text(B) == of("trusted")
+
+
+def test_the_longest_file_of_keys(trust):
+    assert (0, []) == trust(text(A).ljust(16384, "#").encode(), A)
+
+
+@pytest.mark.parametrize("line", [it[1] for it in TRICKS], ids=[it[0] for it in TRICKS])
+def test_no_other_line_is_copied(trust, names, room, line):
+    status, told = trust(line.encode() + b"\n" + body(B), A, B)
+    assert (1, text(B)) == (status, of("trusted")), told
+    assert f"{names[A]} is named, and its key is missing" == told[-1]
+
+
+@pytest.mark.parametrize("named, why", [
+    ("", "no fingerprint is named in named"), ("# none\n\n", "no fingerprint is named in named"),
+    (f"{A}\n", f"named has a line without a fingerprint: {A[:60]}"),
+    (None, "can't read named: No such file or directory"),
+], ids=["empty", "a comment", "a key", "no file"])
+def test_names_that_are_none_change_nothing(room, named, why):
+    (room / "fetched").write_text(text(A))
+    (room / "trusted").write_text(text(B))
+    if named is not None:
+        (room / "named").write_text(named)
+    assert (1, "", [f"trust-cas: {why}"]) == script("trust-cas", "--named", "named", "fetched", "trusted")
+    assert text(B) == of("trusted")
+
+
+@pytest.mark.parametrize("words", [[], ["a", "b"], ["--named", "n", "a"], ["--named", "n", "a", "b", "c"],
+                                   ["--name", "n", "a", "b"]], ids=str)
+def test_bad_words_trust_nobody(words, room):
+    status, out, errors = script("trust-cas", *words)
+    assert (2, "", "usage: trust-cas --named FILE KEYS TRUSTED") == (status, out, errors[0])
+    assert [] == shown()
+
+
+def test_the_unit_copies_as_root_what_was_fetched_also_if_that_failed():
+    unit = (EXAMPLES / "systemd/office-ca-keys.service").read_text()
+    assert "\nUser=office-list\n" in unit
+    step = "trust-cas --named /etc/vethlumi/ca-fingerprints /var/lib/office-list/cas.pub /etc/vethlumi/trusted-cas"
+    assert f"\nExecStopPost=+/usr/local/bin/{step}\n" in unit

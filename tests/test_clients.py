@@ -1,15 +1,18 @@
-"""request, figures and list-of-table: what they ask is bounded, names no secret, and what fails is said."""
+"""request and list-of-table: what they ask is bounded, names no secret, and what fails is said."""
 import concurrent.futures
+import contextlib
 import os
 import pathlib
 import shutil
 import signal
 import subprocess
+import time
 
 import pytest
 
 from asking import department
 from fetching import Web, response, script, small_disk
+from recording import whole_request
 from running import EXAMPLES, new_key, run, until
 from stations import new_station
 
@@ -147,6 +150,143 @@ def test_an_endless_answer_ends(room):
     assert (1, True) == (status, errors[-1].startswith("request: no answer: "))
 
 
+# ---- request: what the front says by itself
+
+HTML = b"<html>\r\n<head><title>502 Bad Gateway</title></head>\r\n</html>\r\n"
+ESCAPES = b"\x1b]0;taken\x07\x1b[2J \xc2\x9b2J \xe2\x80\xae"
+
+
+class Office(Web):
+    """Answers each POST by the next of these answers, and a GET by the line of a certificate."""
+
+    def __init__(self, line, *answers):
+        self.line, self.answers, self.at = line, iter(answers), []
+        super().__init__(None)
+
+    def finish_request(self, peer, address):
+        request = whole_request(peer)
+        peer.settimeout(60)
+        is_post = request.startswith(b"POST")
+        if is_post:
+            self.requests.append(request)
+            self.at.append(time.monotonic())
+        with contextlib.suppress(OSError):
+            peer.sendall(next(self.answers) if is_post else response(self.line))
+
+
+def certificate(room, serial=1, key="alice"):
+    """The line of a certificate for a key, as an office gives it, by ssh-keygen."""
+    for name in {"ca", "alice", key}:
+        if not (room / name).exists():
+            new_key(name)
+    run(["ssh-keygen", "-q", "-s", "ca", "-I", "web/alice", "-n", "alice", "-z", serial, f"{key}.pub"], check=True)
+    words = (room / f"{key}-cert.pub").read_text().split()
+    (room / f"{key}-cert.pub").unlink()
+    return f"{words[0]} {words[1]} web/alice\n".encode()
+
+
+ISSUED = response(b"issued 1\ndigest " + 64 * b"0" + b"\n")
+
+
+def later(status, *fields):
+    return "\r\n".join([f"HTTP/1.1 {status}", *fields, "content-length: 5", "connection: close", "", "later"]).encode()
+
+
+@pytest.mark.parametrize("answers, pauses", [
+    ([later("429 Too Many Requests")], [1]), ([later("429 Too Many Requests", "Retry-After: 3")], [3]),
+    ([later("503 Away", "retry-after: 2"), later("502 Away", f"retry-after: {'9' * 400}")], [2, 1]),
+    ([response(HTML, "502 Bad Gateway")], [1]), ([response(b"x", length=99)], [1]),
+], ids=["429", "a pause", "two", "HTML", "cut"])
+def test_a_front_that_is_asked_again_answers_at_last(room, answers, pauses):
+    line = certificate(room)
+    with Office(line, *answers, ISSUED) as office:
+        status, out, errors = request(office, wait=60)
+    assert (0, "alice-cert.pub serial 1\n", []) == (status, out, errors)
+    assert line == (room / "alice-cert.pub").read_bytes() and not (room / "alice.request").exists()
+    assert 1 == len({it.split()[1] for it in office.requests})
+    between = [after - before for before, after in zip(office.at, office.at[1:])]
+    assert all(pause <= seconds + 0.01 for pause, seconds in zip(pauses, between, strict=True)), between
+
+
+def test_a_pause_is_no_longer_than_there_is_time(room):
+    line = certificate(room)
+    with Office(line, *9 * [later("429 Too Many Requests", "retry-after: 100000")]) as office:
+        begun = time.monotonic()
+        status, _, errors = request(office, wait=3)
+    assert (1, 1) == (status, len(errors)) and time.monotonic() - begun < 30
+    assert "later; alice.request is kept: run the same command again" in errors[0]
+
+
+@pytest.mark.parametrize("answer, why", [
+    (response(b"", "302 Found\r\nlocation: {other}"), "the front redirects (status 302), which isn't followed"),
+    (response(HTML, "403 Forbidden"), "no answer that an office gives (status 403)"),
+    (response(b"front: no such path\n", "404 Not Found"), "front: no such path (status 404)"),
+    (response(HTML), "an answer that no office gives: <html>"), (response(b""), "an answer that no office gives: "),
+    (response(b"issued 0\n"), "an answer that no office gives: "),
+    (response(b"issued 99999999999999999999\n"), "an answer that no office gives: "),
+    (response(ESCAPES, "403 Forbidden"), "?]0;taken??[2J ??2J ??? (status 403)"),
+    (response(b"issued " + ESCAPES), "an answer that no office gives: issued ?]0;taken"),
+    (response(b"refused 14 NotPermitted\n"), "an answer that no office gives: refused 14 NotPermitted"),
+], ids=["redirect", "HTML 403", "404", "HTML", "empty", "serial 0", "20 digits", "escapes", "escapes 200", "refusal"])
+def test_what_no_office_answers_keeps_the_message(room, answer, why):
+    new_key("alice")
+    with Web(response(b"stolen")) as other, Web(None) as web:
+        web.answer = answer.replace(b"{other}", other.url.encode())
+        status, out, errors = request(web)
+        assert [] == other.requests
+    assert (1, "", 1) == (status, out, len(errors)) and why in errors[0], errors
+    assert errors[0].isprintable() and (room / "alice.request").exists() and not (room / "alice-cert.pub").exists()
+
+
+@pytest.mark.parametrize("line, why", [
+    (lambda room: certificate(room, 2), "serial 1 is not for alice.pub"),
+    (lambda room: certificate(room, 1, "bob"), "serial 1 is not for alice.pub"),
+    (lambda room: certificate(room)[:-1] + b"\x1b[2J\n", "what came as serial 1 is no certificate"),
+    (lambda room: 2 * certificate(room), "what came as serial 1 is no certificate"),
+    (lambda room: certificate(room) + b"\0", "what came as serial 1 is no certificate"),
+    (lambda room: HTML, "what came as serial 1 is no certificate"), (lambda room: b"", "what came as serial 1 is no"),
+], ids=["serial", "key", "escape", "two", "zero", "HTML", "empty"])
+def test_another_certificate_is_not_taken(room, line, why):
+    line = line(room)
+    certificate(room)
+    with Office(line, ISSUED) as office:
+        status, out, errors = request(office)
+    assert (1, "") == (status, out) and why in errors[0] and errors[0].isprintable()
+    assert (room / "alice.request").exists() and not (room / "alice-cert.pub").exists()
+
+
+@pytest.mark.alone
+@pytest.mark.parametrize("is_endless", [False, True], ids=["drip", "endless"])
+def test_the_wait_is_kept_by_answers_that_last(room, is_endless):
+    class Dripping(Web):
+        def finish_request(self, peer, address):
+            whole_request(peer)
+            peer.settimeout(60)
+            with contextlib.suppress(OSError):
+                peer.sendall(response(b"", length=1000))
+                for _ in range(100):
+                    peer.sendall(b"x")
+                    time.sleep(0 if is_endless else 0.5)
+    new_key("alice")
+    with Dripping(None) as web:
+        begun = time.monotonic()
+        status, _, errors = request(web)
+    assert 1 == status and time.monotonic() - begun < 8, errors
+
+
+def test_the_same_command_ends_with_the_same_serial_after_a_step_that_failed(asked, room):
+    """What fails after the answer came keeps the message, and no second certificate is issued."""
+    new_key("alice")
+    (room / "alice-cert.pub").mkdir()
+    assert 1 == request(asked)[0]
+    assert [1] == asked.station.sign()
+    why = "request: can't write alice-cert.pub; alice.request is kept: run the same command again"
+    assert (1, "", [why]) == request(asked)
+    (room / "alice-cert.pub").rmdir()
+    assert (0, "alice-cert.pub serial 1\n", []) == request(asked)
+    assert b"total 1 version 0\n" in asked.get("/v1/table").body
+
+
 def test_a_folder_in_place_of_the_certificate(asked, room):
     new_key("alice")
     (room / "alice-cert.pub").mkdir()
@@ -214,26 +354,11 @@ def test_a_program_that_is_missing_is_named(room):
     assert (1, "", ["request: curl is missing"]) == script("request", *words, env={"PATH": str(room / "bin")})
 
 
-# ---- figures and list-of-table
-
-@pytest.mark.parametrize("url", ["ftp://127.0.0.1", "file:///etc", "nonsense", ""])
-def test_figures_ask_an_office_alone(url):
-    status, out, errors = script("figures", url)
-    assert (1, "office_up 0", [f"figures: {url}: OFFICE isn't an http or https URL"]) \
-        == (status, out.splitlines()[-1], errors)
-
-
-def test_figures_of_half_a_page_are_none():
-    with Web(response(b"1 1 SHA256:x\n", length=999)) as web:
-        status, out, errors = script("figures", web.url)
-    assert (1, "office_up 0", [f"figures: {web.url}: what came as /v1/cas was cut off"]) \
-        == (status, out.splitlines()[-1], errors)
-
+# ---- list-of-table
 
 def test_output_that_cannot_be_written_is_said(room):
     (room / "table").write_text(f"{1:19d}  user  signed   {0:12d}  {1:12d}  web/a\ntotal 1 version 0\n")
-    with open("/dev/full", "wb") as full, Web(response(b"", "500 Fault")) as web:
-        for name, what in (("list-of-table", "table"), ("figures", web.url)):
-            done = subprocess.run([EXAMPLES / name, what], stdout=full, stderr=subprocess.PIPE, timeout=60)
-            assert (1, f"{name}: [Errno 28] No space left on device") \
-                == (done.returncode, done.stderr.decode().splitlines()[-1])
+    with open("/dev/full", "wb") as full:
+        done = subprocess.run([EXAMPLES / "list-of-table", "table"], stdout=full, stderr=subprocess.PIPE, timeout=60)
+    assert (1, "list-of-table: [Errno 28] No space left on device") \
+        == (done.returncode, done.stderr.decode().splitlines()[-1])

@@ -9,11 +9,12 @@ import shutil
 import signal
 import subprocess
 import tempfile
+import threading
 import time
 
 import pytest
 
-from fetching import Web, response, script, shown, small_disk
+from fetching import Web, around, folder_of_nobody, response, script, shown, small_disk
 from lists import runs_of
 from publishing import (CA, HIGHEST, LIST, NEWER, OTHER_CA, Signer, bitmaps, is_signed, key_line, krl, section,
                         statement)
@@ -165,8 +166,10 @@ def test_a_list_that_is_not_read_for_lack_of_memory_stays(either, room, end):
 def test_a_list_that_takes_too_much_memory_to_read_is_left_out(believe, room):
     """The unit's limit would end fetch-list with ssh-keygen, and nothing would be said."""
     (room / "list").write_bytes(LIST)
+    status, why = believe(bitmaps(4), "list", "--metrics", "metrics")
+    # A slow machine's time may be over before its memory.
     said = "ssh-keygen was killed, or has too little memory, and has read no list; list is as it was"
-    assert (1, said) == believe(bitmaps(4), "list", "--metrics", "metrics")
+    assert (1, True) == (status, why in (said, TOO_SLOW)), why
     assert (LIST, 0) == ((room / "list").read_bytes(), metrics()["office_list_taken"])
 
 
@@ -232,12 +235,44 @@ def test_an_endless_body_ends(either, web, room):
 def test_a_list_that_would_take_hours_to_read_is_left_out(believe, room):
     """ssh-keygen's time grows with the square of the sections: 250,000 in 16 MB took it 35 s. Here it never ends."""
     (room / "list").write_bytes(LIST)
-    (room / "bin").mkdir()
-    (room / "bin/ssh-keygen").write_text("#!/bin/sh\nexec sleep 1000\n")
-    (room / "bin/ssh-keygen").chmod(0o755)
-    env = os.environ | {"PATH": f"{room / 'bin'}:{os.environ['PATH']}"}
-    said = "refused as NotAList: ssh-keygen can't read what came; list is as it was"
-    assert (1, said) == believe(NEWER, env=env, timeout=300)
+    said = ("refused as TooSlow: ssh-keygen reads what came for more than 60 seconds, and sshd would at each login; "
+            "list is as it was")
+    assert (1, said) == believe(NEWER, env=around(room, "ssh-keygen", "exec sleep 1000"), timeout=300)
+    assert LIST == (room / "list").read_bytes()
+
+
+# Uses the processor for so many seconds before ssh-keygen reads the list that came, in the same process.
+SPIN = """case "$*" in "-Q -l -f list.new."*) exec /usr/bin/python3 -c 'import os, sys, time
+while time.process_time() < {}:
+    pass
+os.execv("{}", sys.argv[1:])' ssh-keygen "$@" ;; esac
+"""
+TOO_SLOW = ("refused as TooSlow: ssh-keygen reads what came for more than 5 seconds of processor time, and sshd would "
+            "at each login; list is as it was")
+
+
+@pytest.mark.slow
+@pytest.mark.alone
+@pytest.mark.parametrize("before, is_taken", [
+    (SPIN.format(3, shutil.which("ssh-keygen")), True), (SPIN.format(7, shutil.which("ssh-keygen")), False),
+    ("sleep 8", True)], ids=["3 seconds", "7 seconds", "8 seconds of a busy machine"])
+def test_a_list_that_would_make_logins_slow_is_left_out(believe, room, before, is_taken):
+    """sshd reads all of it at each login, and ends a login after two minutes. Then nobody gets in any more."""
+    (room / "list").write_bytes(LIST)
+    words = ["list", "--metrics", "metrics"]
+    due = (0, "") if is_taken else (1, TOO_SLOW)
+    assert due == believe(NEWER, *words, env=around(room, "ssh-keygen", before))
+    assert (NEWER if is_taken else LIST) == (room / "list").read_bytes()
+    assert int(is_taken) == metrics()["office_list_taken"]
+
+
+@pytest.mark.slow
+@pytest.mark.alone
+def test_a_list_of_very_many_key_ids_is_left_out(believe, room):
+    """Whoever may revoke makes each list longer: ssh-keygen's time grows faster than the length."""
+    (room / "list").write_bytes(LIST)
+    many = krl(4 + 200000, [1, 2, 9], key_ids=[f"web/{it * 7919 % 1000003:090d}" for it in range(200000)])
+    assert (1, TOO_SLOW) == believe(many)
     assert LIST == (room / "list").read_bytes()
 
 
@@ -649,19 +684,60 @@ def test_a_link_in_place_of_the_lock_is_replaced_and_not_followed(either, room):
 
 
 @pytest.mark.root
-def test_a_lock_that_root_has_left_does_not_keep_others_from_it(web, signer):
-    """In a folder of the user nobody, who fetches after root did."""
+def test_root_runs_as_the_user_whose_folder_it_is(web, signer):
+    """In a folder of the user nobody, who fetches after root did: nothing there belongs to root. Root may have left a
+    lock there once."""
     web.answer = response(signer.published(LIST))
-    with tempfile.TemporaryDirectory(dir="/var/tmp") as folder:
-        os.chmod(folder, 0o755)
-        shutil.chown(folder, "nobody")
+    with folder_of_nobody() as folder:
         for it in (EXAMPLES / "fetch-list", signer.allowed):
             shutil.copy(it, folder)
+        pathlib.Path(folder, ".list.lock").touch(0o600)
         words = [f"{folder}/fetch-list", "--signers", f"{folder}/{signer.allowed.name}", web.url, f"{folder}/list"]
         for before in ((), ("runuser", "-u", "nobody", "--")):
             done = run([*before, *words])
             assert (0, b"") == (done.returncode, done.stderr)
-        assert "nobody" == pathlib.Path(folder, "list").owner()
+            made = [pathlib.Path(folder, it) for it in ("list", "list.statement", ".list.lock")]
+            assert {"nobody"} == {it.owner() for it in made}
+
+
+def test_no_link_that_lies_beside_the_list_is_followed(fetch, room):
+    """One that is put in the place of the signature while that is verified."""
+    (room / "victim").write_text("victim\n")
+    (room / "victim").chmod(0o600)
+    put_link = 'case " $* " in *" verify "*) for it; do last=$it; done; ln -sf victim "$last" ;; esac'
+    assert (0, "") == fetch(fetch.signer.published(LIST), env=around(room, "ssh-keygen", after=put_link))
+    assert ("victim\n", 0o600) == ((room / "victim").read_text(), (room / "victim").stat().st_mode & 0o777)
+    assert not (room / "list.statement").is_symlink() and LIST == (room / "list").read_bytes()
+
+
+@pytest.mark.root
+def test_links_that_race_with_root_reach_no_file_of_root_s(web, signer, room):
+    """The folder's user puts links to a file of root's in the place of all that is made there."""
+    web.answer = response(signer.published(LIST))
+    victim, is_over = room / "victim", threading.Event()
+    victim.write_text("victim\n")
+    victim.chmod(0o600)
+    with folder_of_nobody() as folder:
+        for it in (EXAMPLES / "fetch-list", signer.allowed):
+            shutil.copy(it, folder)
+
+        def race():
+            while not is_over.is_set():
+                for it in os.listdir(folder):
+                    if it.startswith((".list.lock", "list.new.", "list.statement")):
+                        with contextlib.suppress(OSError):
+                            os.unlink(f"{folder}/{it}")
+                            os.symlink(victim, f"{folder}/{it}")
+        racing = threading.Thread(target=race)
+        racing.start()
+        try:
+            for _ in range(5):
+                run([f"{folder}/fetch-list", "--signers", f"{folder}/{signer.allowed.name}", web.url,
+                     f"{folder}/list", "--metrics", f"{folder}/list.new.metrics"])
+                assert ("victim\n", 0o600) == (victim.read_text(), victim.stat().st_mode & 0o777)
+        finally:
+            is_over.set()
+            racing.join()
 
 
 @pytest.mark.slow

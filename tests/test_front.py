@@ -33,6 +33,7 @@ SUBJECTS = {
     "as-more": "/O=example/CN=ana", "as-two": "/CN=ana/CN=root", "as-joined": "/CN=ana+CN=root",
     "as-slash": "/CN=ana\\/requests\\/k-1", "as-comma": "/CN=root,OU=office", "as-line": "/CN=ana\n",
     "as-ana": "/CN=Ana", "as-long": "/CN=" + 33 * "a", "as-wide": "/CN=anä", "as-empty": "/",
+    "as-reading-host": "/OU=reader/CN=host-web", "as-long-host": "/CN=host-" + 28 * "a",
 }
 
 SETTINGS_OF_ENDED = """
@@ -85,6 +86,8 @@ def recorded(authority, tmp_path_factory):
         front = Front(programs, tmp_path_factory.mktemp("recorded") / "front", authority, recorder.port)
         front.recorder = recorder
         (front.conf / "ca-keys").write_text("ssh-ed25519 AAAA a\nssh-ed25519 BBBB b\n")
+        (front.state / "published").write_text("published\n")
+        front.make("host", "web")
         odd_certificates(front.authority)
         front.make("caller", "bob")
         take_back(front, "bob")
@@ -283,6 +286,9 @@ CLIENTS = [
     ("root's", "root", (200, "root", 200, 200)),
     ("the station's", "station", (200, "station", 200, 200)),
     ("a reader's", "watch", NOBODY),
+    ("a server's", "host-web", (200, "host-web", 200, 200)),
+    ("a reader's of a server's name", "as-reading-host", NOBODY),
+    ("a server's of 33 letters", "as-long-host", NOBODY),
     ("a caller's of the name station", "as-station", NOBODY),
     ("a caller's of the name root", "as-root", NOBODY),
     ("the station's subject in capital letters", "as-capitals", NOBODY),
@@ -315,6 +321,69 @@ def test_which_certificates_of_clients_are_taken(recorded, name, wanted):
     assert sent in ([], [f"POST /v1/callers/{wanted[1]}/requests/k-1"])
 
 
+FOR_EVERYONE = ("/v1/krl", "/v1/signers", "/v1/cas", "/ca-keys", "/published")
+REPORTS = ("/v1/table", "/v1/pending", "/v1/certs/1/body", "/page/", "/page/page.css", "/page/page.js")
+SERVER, PRIVATE = "a server may not read this", "only a client with a certificate may read this"
+DEPARTMENTS = "only root and callers may read the departments"
+# What the front says to each client about each page; None is the page.
+READ = [(name, path, None) for name in (None, "host-web", "watch", "ana", "root", "station") for path in FOR_EVERYONE]
+READ += [(name, path, why) for name, why in ((None, PRIVATE), ("host-web", SERVER), ("watch", None), ("ana", None),
+                                             ("root", None), ("station", None)) for path in REPORTS]
+READ += [(name, "/v1/departments", why) for name, why in (
+    (None, DEPARTMENTS), ("host-web", DEPARTMENTS), ("watch", DEPARTMENTS), ("station", DEPARTMENTS),
+    ("as-more", DEPARTMENTS), ("ana", None), ("root", None))]
+READ += [(None, "/v1/certs/1", PRIVATE), ("host-web", "/v1/certs/1", None), ("watch", "/v1/certs/1", None)]
+
+
+@pytest.mark.parametrize("name, path, why", READ, ids=[f"{name or 'nobody'} {path}" for name, path, _ in READ])
+def test_who_reads_what(recorded, name, path, why):
+    answer = until(lambda: (it := recorded.ask(getting(path), name)).status != 429 and it)
+    if why:
+        assert (403, f"front: {why}\n") == (answer.status, answer.text)
+    else:
+        assert 200 == answer.status
+
+
+def test_the_departments_come_from_the_office_each_time(recorded):
+    """Whoever has just changed one reads what is in effect."""
+    forget(recorded)
+    for _ in range(3):
+        assert [200] == statuses(recorded.ask(getting("/v1/departments"), "root"))
+    assert [composed("GET /v1/departments", length=False)] * 3 == recorded.recorder.requests
+
+
+@pytest.mark.parametrize("target, method, status", [
+    ("/v1/departments?x", "GET", 404), ("/v1/departments/", "GET", 404), ("/v1/%64epartments", "GET", 404),
+    ("/v1/departments", "HEAD", 405), ("/v1/departments", "POST", 405), ("/v1/departments", "DELETE", 405)])
+def test_the_departments_have_one_path(recorded, target, method, status):
+    forget(recorded)
+    answer = recorded.ask(getting(target, method), "root")
+    assert (status, []) == (answer.status, recorded.recorder.requests)
+
+
+# What a browser says of a request: of whose page it is, for what, and as what; and whether the front answers it.
+BROWSED = [
+    ("cross-site", "no-cors", "image", False), ("cross-site", "no-cors", "script", False),
+    ("cross-site", "cors", "empty", False), ("cross-site", "navigate", "iframe", False),
+    ("same-site", "no-cors", "empty", False), ("same-site", "navigate", "frame", False), ("other", "", "", False),
+    ("same-origin", "cors", "empty", True), ("same-origin", "no-cors", "style", True),
+    ("none", "navigate", "document", True), ("cross-site", "navigate", "document", True),
+]
+
+
+@pytest.mark.parametrize("path", [*FOR_EVERYONE, "/v1/table", "/v1/certs/1", "/v1/departments", "/page/"])
+def test_a_page_of_another_site_uses_up_nothing(make_front, recorded, path):
+    front = make_front(recorded.recorder.port, edits=[("zone=reports:1m rate=1r/s", "zone=reports:1m rate=1000r/s")])
+    (front.conf / "ca-keys").write_text("ssh-ed25519 AAAA a\n")
+    (front.state / "published").write_text("published\n")
+    for site, mode, kind, is_answered in BROWSED:
+        lines = [f"Sec-Fetch-{name}: {value}".encode() for name, value in (
+            ("Site", site), ("Mode", mode), ("Dest", kind)) if value]
+        answer = front.ask(getting(path, "GET", *lines), "ana")
+        due = (200, True) if is_answered else (403, False)
+        assert due == (answer.status, "another site" not in answer.text), (site, mode, kind)
+
+
 @pytest.mark.slow
 @pytest.mark.parametrize("begun", [b"", getting("/v1/krl")[:-2], posting(MESSAGE, b"hello")[:-2]],
                          ids=["at once", "in a head", "in a body"])
@@ -345,6 +414,8 @@ REFUSALS = [
     ("a message by a browser", "ana", posting(MESSAGE, b"hello", b"Origin: null"), "a browser may not send messages"),
     ("a message by GET", "ana", getting(MESSAGE), "a message is sent by POST"),
     ("the list by POST", None, posting("/v1/krl"), "a page is read by GET"),
+    ("a table for a page of another site", "ana", getting("/v1/table", "GET", b"Sec-Fetch-Site: cross-site"),
+     "a page of another site may not read this"),
     ("no path", None, getting("/favicon.ico"), "no such path"),
     ("a body of 16385 bytes", "ana", posting(MESSAGE, 16385 * b"x"), "a message has at most 16384 bytes"),
     ("a certificate that was taken back", "bob", getting("/v1/krl"),
@@ -358,7 +429,10 @@ def test_a_refusal_says_why(recorded, name, request_bytes, text):
 
 
 ANSWERED = [("a message", "ana", posting(MESSAGE)), ("the list", None, getting("/v1/krl")),
-            ("a table", "ana", getting("/v1/table")), ("a certificate", "ana", getting("/v1/certs/1"))]
+            ("a table", "ana", getting("/v1/table")), ("a certificate", "ana", getting("/v1/certs/1")),
+            ("the departments", "ana", getting("/v1/departments")), ("the page", "ana", getting("/page/")),
+            ("its script", "ana", getting("/page/page.js")), ("the CAs' keys", None, getting("/ca-keys")),
+            ("what is published", None, getting("/published"))]
 # What a browser is told of each: a page of another site may neither have it nor take it for a script.
 TOLD = b"X-Content-Type-Options: nosniff", b"Cross-Origin-Resource-Policy: same-origin"
 

@@ -137,6 +137,32 @@ def test_a_page_of_another_site_reads_nothing(browsed, another_site):
     assert ("refused", "refused") == (came, fetched)
 
 
+def test_a_page_of_another_site_uses_up_no_limit(browsed, another_site):
+    """However often it asks, the front answers the reader: it counts none of that."""
+    show(browsed.browser, another_site)
+    browsed.browser.execute_async_script("""
+        const [url, done] = arguments, asked = [];
+        for (let it = 0; it < 300; it++) asked.push(fetch(url, {mode: "no-cors", credentials: "include"}));
+        Promise.allSettled(asked).then(done)""", f"{browsed.url}/v1/certs/1/body")
+    assert 200 == browsed.session("ana").get(f"{browsed.url}/v1/certs/1/body").status_code
+
+    def lines():
+        found = [it for it in (browsed.state / "asked.log").read_text().splitlines() if "/v1/certs/1/body " in it]
+        return found[-1:] and " 200 office=200 " in found[-1] and found
+    found = until(lines, seconds=30)
+    assert '"CN=ana" "ana" "GET /v1/certs/1/body HTTP/1.1" 403 office=- ' in found[0]
+    assert 1 == sum(" office=200 " in it for it in found)
+
+
+def test_the_front_s_own_page_is_shown_what_it_asks_for(browsed):
+    show(browsed.browser, f"{browsed.url}/page/")
+    came = browsed.browser.execute_async_script("""
+        const done = arguments[0], paths = ["/v1/table", "/v1/pending", "/v1/krl", "/v1/cas", "/v1/signers",
+          "/v1/certs/1/body", "/page/page.css"];
+        Promise.all(paths.map((it) => fetch(it, {cache: "no-store"}).then((answer) => answer.status))).then(done)""")
+    assert [200] * 7 == came
+
+
 def test_a_program_posts_as_the_caller(browsed):
     """What the front refuses is the browser, and not the message."""
     answer = browsed.session("ana").post(f"{browsed.url}/v1/requests/program", data="revoke-serial 2\n")

@@ -8,16 +8,20 @@ import pathlib
 import pwd
 import re
 import shutil
+import socket
+import ssl
 import tempfile
 import time
 
 import pytest
 
+from fronts import MOST_OF_A_CONNECTION
 from recording import Recorder, getting, posting, staying, statuses
-from running import EXAMPLES, rest, run, until
+from running import EXAMPLES, free_port, rest, run, until
 
 pytestmark = [pytest.mark.front, pytest.mark.xdist_group("front_load")]
 MESSAGE = "/v1/requests/k-1"
+CHUNKED = b"Transfer-Encoding: chunked"
 
 
 @pytest.fixture
@@ -73,6 +77,72 @@ def test_the_station_waits_for_no_limit(make_front, recorder):
     assert (300, 300) == (answers, len(recorder.requests))
     # At the pace of callers, 20 a second, the last one of them would have waited for 14 seconds.
     assert time.monotonic() - begun < 13
+
+
+# ---- slow limits
+
+def each(front, count, request, name):
+    """The statuses of so many requests, one after the other."""
+    return [front.ask(request, name).status for _ in range(count)]
+
+
+def test_a_server_sends_30_messages_and_fetches_30_certificates(make_front, recorder):
+    """And then one of each in a minute, which the test doesn't wait for."""
+    front = make_front(recorder.port)
+    for name in ("web", "db"):
+        front.make("host", name)
+    for request in (posting(MESSAGE), getting("/v1/certs/1")):
+        assert [200] * 30 + [429] * 3 == each(front, 33, request, "host-web")
+        assert [200] == each(front, 1, request, "host-db")
+    assert 62 == len(recorder.requests)
+
+
+@pytest.mark.slow
+def test_a_caller_sends_2000_messages_at_once(make_front, recorder):
+    """And then one in each six seconds. The limit that slows a caller down to 20 a second is out of the way."""
+    front = make_front(recorder.port, edits=[
+        ("zone=senders:1m rate=20r/s", "zone=senders:1m rate=10000r/s"),
+        ("limit_req zone=senders burst=200 delay=20;", "limit_req zone=senders burst=10000 nodelay;")])
+    begun = time.monotonic()
+    with concurrent.futures.ThreadPoolExecutor(8) as pool:
+        came = [*pool.map(lambda _: statuses_on_one(front, posting(MESSAGE), 250, "ana"), range(8))]
+    later = statuses_on_one(front, posting(MESSAGE), 250, "ana")
+    took = time.monotonic() - begun
+    accepted = sum(it.count(200) for it in [*came, later])
+    print(f"2,250 messages in {took:.1f} s, of which {accepted} were accepted")
+    assert [[200] * 250] * 8 == came
+    assert 2000 <= accepted <= 2001 + took / 6
+    assert ({200, 429}, 2000 + later.count(200)) == ({200, *later}, len(recorder.requests))
+
+
+def statuses_on_one(front, request, count, name):
+    """The statuses of so many requests on one connection, which aren't waited for."""
+    with front.connect(name) as peer:
+        peer.sendall((count - 1) * staying(request) + request)
+        return statuses(rest(peer))
+
+
+def test_who_has_a_slow_limit(make_front, recorder):
+    """Callers and root, and neither the station nor a caller whom the settings leave out."""
+    front = make_front(recorder.port, edits=[
+        ("zone=slow_callers burst=1999", "zone=slow_callers burst=4"),
+        ("        # A caller who sends for many others has no slow limit,", "        registrar \"\";\n        #")])
+    front.make("caller", "registrar")
+    found = {name: each(front, 8, posting(MESSAGE), name) for name in ("ana", "root", "station", "registrar")}
+    assert {"ana": [200] * 5 + [429] * 3, "root": [200] * 5 + [429] * 3, "station": [200] * 8,
+            "registrar": [200] * 8} == found
+
+
+def test_what_a_slow_limit_refuses_uses_up_no_other(make_front, recorder):
+    """A client that goes on asking meets the limit alone: once the minute is over it is answered at once."""
+    front = make_front(recorder.port, edits=[("zone=slow_hosts:4m rate=1r/m", "zone=slow_hosts:4m rate=60r/m"),
+                                             ("zone=slow_hosts burst=29", "zone=slow_hosts burst=1")])
+    front.make("host", "web")
+    statuses_on_one(front, posting(MESSAGE), 300, "host-web")
+    time.sleep(1.1)
+    begun = time.monotonic()
+    assert 200 == front.ask(posting(MESSAGE), "host-web").status
+    assert time.monotonic() - begun < 5
 
 
 # ---- a slow office
@@ -131,6 +201,56 @@ def test_a_reader_has_eight_tables_under_way(make_front):
         assert {200: 8, 429: 52} == {status: got.count([status]) for status in (200, 429)}
 
 
+# ---- memory
+
+def memory_of(front):
+    """The bytes of memory that nginx's processes have for themselves."""
+    texts = (pathlib.Path(f"/proc/{it}/smaps_rollup").read_text() for it in front.workers())
+    return sum(1024 * int(re.search(r"^Private_Dirty: +(\d+) kB$", it, re.M)[1]) for it in texts)
+
+
+def slow_reader(front, request):
+    """A connection on which a long answer has begun, of which its client takes little."""
+    plain = socket.socket()
+    plain.setsockopt(socket.SOL_SOCKET, socket.SO_RCVBUF, 4096)
+    plain.settimeout(60)
+    plain.connect(("127.0.0.1", front.port))
+    of = ssl.create_default_context(cafile=front.authority / "ca.crt")
+    peer = of.wrap_socket(plain, server_hostname="localhost")
+    peer.sendall(request)
+    peer.recv(15)
+    return peer
+
+
+# What a client that takes much memory asks: a long head, a body of the greatest length, and a long answer.
+LONG_HEAD = [b"X: " + 7900 * b"x"]
+HEAVY = [
+    ("a file", getting("/published", "GET", *LONG_HEAD)),
+    ("a page from the cache", posting("/v1/krl", 16384 * b"x", *LONG_HEAD).replace(b"POST", b"GET", 1)),
+]
+
+
+@pytest.mark.slow
+@pytest.mark.parametrize("request_bytes", [it[1] for it in HEAVY], ids=[it[0] for it in HEAVY])
+def test_a_connection_takes_no_more_memory_than_there_is_for_it(make_front, request_bytes):
+    long = b"HTTP/1.1 200 OK\r\nContent-Length: 4000000\r\nConnection: close\r\n\r\n" + 4_000_000 * b"k"
+    with Recorder(answer=long) as recorder, contextlib.ExitStack() as ending:
+        front = make_front(recorder.port, edits=[("    send_timeout 10s;", "    send_timeout 100s;")])
+        (front.state / "published").write_bytes(4_000_000 * b"k")
+        assert 200 == front.ask(getting("/v1/krl")).status
+        before, count = memory_of(front), 150
+        peers = [ending.enter_context(slow_reader(front, request_bytes)) for _ in range(count)]
+        each_takes = (memory_of(front) - before) / count
+        print(f"a connection takes {each_takes:.0f} bytes")
+        assert all(is_open_still(it) for it in peers)
+        assert 20_000 < each_takes <= MOST_OF_A_CONNECTION
+
+
+def is_open_still(peer):
+    """Whether more of the answer comes."""
+    return bool(peer.recv(1))
+
+
 # ---- logs
 
 def sent_on_each(front, request, count, connections, name=None):
@@ -166,6 +286,10 @@ FLOODS = [
     # These are given a page. The few for which the office was asked are written.
     ("the list from a host of a long name", getting("http://" + 8000 * "a" + "/v1/krl"), 1000, 4, 12_000),
     ("the CAs' key lines", getting("http://" + 8000 * "a" + "/ca-keys"), 1000, 4, 0),
+    ("wrong methods for the CAs' key lines", getting("/ca-keys", "PUT"), 1000, 4, 0),
+    # The length shows once the front reads the body, when it has counted the request as one for a page.
+    ("bodies in chunks that are too long", posting("/v1/krl", b"5000\r\n" + 0x5000 * b"x", CHUNKED).replace(
+        b"POST", b"GET", 1), 1, 100, 0),
 ]
 
 
@@ -178,6 +302,66 @@ def test_a_stranger_fills_no_disk_by_the_logs(make_front, recorder, request_byte
     came = logged(front)
     print(f"{answers} answers, {came} bytes of log")
     assert (True, True) == (answers >= connections, came <= most), f"{answers} answers, {came} bytes of log"
+
+
+# nginx.conf with what lets a test be any address.
+ANY_ADDRESS = ("server_tokens off;", "server_tokens off; set_real_ip_from 127.0.0.1; real_ip_header X-Address;")
+
+
+def refused_from(front, network, count, name=None):
+    """The statuses of so many messages from an IPv6 network, which the front refuses."""
+    address = b"X-Address: 2001:db8:0:%x::1" % network
+    with front.connect(name) as peer, contextlib.suppress(OSError):
+        request = posting(MESSAGE, b"", address, b"Origin: null")
+        peer.sendall((count - 1) * staying(request) + request)
+        return statuses(rest(peer))
+
+
+@pytest.mark.parametrize("name", [None, "watch"], ids=["without a certificate", "with a reader's"])
+def test_twenty_networks_write_as_much_as_three(make_front, recorder, name):
+    """Each may be refused 1,000 times at once, and all together 3,000 times, then twice a second."""
+    front = make_front(recorder.port, edits=[ANY_ADDRESS])
+    begun = time.monotonic()
+    came = side_by_side([lambda it=it: refused_from(front, it, 1000, name) for it in range(20)], 20)
+    # Others are answered as ever: a stranger reads the list, and a caller is told why.
+    assert [200] == statuses(front.ask(getting("/v1/krl")))
+    assert [403] == refused_from(front, 30, 1, "ana")
+    took = time.monotonic() - begun
+    refused, bytes_of_log = sum(it.count(403) for it in came), logged(front)
+    lines = (front.state / "asked.log").read_text().count('"POST ')
+    print(f"{refused} of 20,000 were refused with 403 within {took:.1f} s, {bytes_of_log} bytes of log")
+    assert (20_000, refused + 1) == (sum(map(len, came)), lines)
+    assert 3000 <= refused <= 3001 + 2 * took
+    assert bytes_of_log <= 200 * lines + 1000
+
+
+# The longest that a client can make a line: with an IPv6 address, and a subject and a request of escaped bytes.
+LONGEST_LINE = 1060
+
+
+def test_the_longest_line_that_a_stranger_can_have_written(make_front, recorder):
+    front = make_front(recorder.port, edits=[ANY_ADDRESS])
+    run(["openssl", "req", "-x509", "-new", "-newkey", "ec", "-pkeyopt", "ec_paramgen_curve:P-256", "-nodes", "-keyout",
+         "wide.key", "-out", "wide.crt", "-subj", "/CN=" + 60 * "\\\\"], check=True)
+    made = front.authority / "wide.pem"
+    made.write_bytes(b"".join(pathlib.Path(f"wide.{it}").read_bytes() for it in ("key", "crt")))
+    address = b"X-Address: 2001:db8:1111:2222:3333:4444:5555:6666"
+    for name, line in (("wide", "/" + 200 * "\""), (None, "/v1/requests/" + 200 * "\""), ("wide", "/v1/krl")):
+        front.ask(posting(line, b"", address), name)
+    assert [403] == statuses(front.ask(posting(MESSAGE, b"", address)))
+    lines = until(lambda: (it := (front.state / "asked.log").read_text().splitlines())[2:] and it)
+    longest = max(map(len, lines))
+    print(f"the longest line has {longest} bytes")
+    assert 700 < longest <= LONGEST_LINE, lines
+
+
+def test_while_the_office_is_away_strangers_write_nothing(make_front):
+    front = make_front(free_port())
+    for name, path, due in ((None, "/v1/krl", 0), ("ana", "/v1/krl", 0), ("ana", "/v1/table", 1)):
+        before = (front.state / "asked.log").read_text().count("\n")
+        assert [[502]] * 20 == side_by_side([lambda: statuses(front.ask(getting(path), name))] * 20)
+        time.sleep(1.5)
+        assert (due > 0) == ((front.state / "asked.log").read_text().count("\n") > before), (name, path)
 
 
 def test_a_certificate_of_ones_own_fills_no_disk_by_its_subject(make_front, recorder):
@@ -236,9 +420,10 @@ def test_a_line_of_the_log(make_front, recorder):
     (front.conf / "ca-keys").write_text("ssh-ed25519 AAAA a\n")
     front.ask(posting(MESSAGE), "ana")
     front.ask(getting("http://" + 200 * "a" + "/v1/krl"), "watch")
-    front.ask(getting("/ca-keys"), "ana")
+    front.ask(getting("/page/page.css"), "ana")
     front.ask(getting("/v1/table"))
-    # Without a certificate only what the office is asked for is written, and here the first three have no line.
+    # Of the pages for everyone only what the office is asked for is written, and here the first ones have no line.
+    front.ask(getting("/ca-keys"), "ana")
     for path in ("/none", "/v1/krl?x", "/ca-keys", "/v1/cas"):
         front.ask(getting(path))
     lines = until(lambda: (it := (front.state / "asked.log").read_text().splitlines())[4:] and it)
@@ -246,19 +431,19 @@ def test_a_line_of_the_log(make_front, recorder):
     rests = sorted(re.fullmatch(time_and_address + r"(.*) \d+\.\d{3}", line)[1] for line in lines)
     assert ['"" "" "GET /v1/cas HTTP/1.1" 200 office=200 kept=MISS',
             '"" "" "GET /v1/table HTTP/1.1" 403 office=- kept=-',
-            '"CN=ana" "ana" "GET /ca-keys HTTP/1.1" 200 office=- kept=-',
+            '"CN=ana" "ana" "GET /page/page.css HTTP/1.1" 200 office=- kept=-',
             '"CN=ana" "ana" "POST /v1/requests/k-1 HTTP/1.1" 200 office=200 kept=-',
             f'"CN=watch,OU=reader" "" "GET http://{109 * "a"}" 200 office=200 kept=MISS'] == rests
 
 
-def test_a_kept_page_has_a_line_if_its_client_has_a_certificate(make_front, recorder):
+def test_a_kept_page_has_a_line_if_it_is_not_for_everyone(make_front, recorder):
     front = make_front(recorder.port, edits=[("proxy_cache_valid 200 2s;", "proxy_cache_valid 200 10s;")])
-    # Three clients in the same ten seconds, so that the office is asked once.
+    # Several clients in the same ten seconds, so that the office is asked once for each page.
     until(lambda: time.time() % 10 < 1)
-    for name in (None, None, "watch"):
-        assert [200] == statuses(front.ask(getting("/v1/krl"), name))
-    lines = until(lambda: (it := (front.state / "asked.log").read_text().splitlines())[1:] and it)
-    assert [("", "kept=MISS"), ("CN=watch,OU=reader", "kept=HIT")] == [
+    for name, path in ((None, "krl"), (None, "krl"), ("watch", "krl"), ("watch", "table"), ("ana", "table")):
+        assert [200] == statuses(front.ask(getting(f"/v1/{path}"), name))
+    lines = until(lambda: (it := (front.state / "asked.log").read_text().splitlines())[2:] and it)
+    assert [("", "kept=MISS"), ("CN=watch,OU=reader", "kept=MISS"), ("CN=ana", "kept=HIT")] == [
         (line.split('"')[1], line.split()[-2]) for line in lines]
 
 

@@ -13,7 +13,7 @@ import pytest
 from asking import department, issue, lasting
 from fronts import Front
 from recording import getting, posting, statuses, whole_request
-from running import EXAMPLES, Programs, free_port, is_listening, left_out, new_key, rest, run, until
+from running import EXAMPLES, TOP, Programs, free_port, is_listening, left_out, new_key, rest, run, until
 from stations import new_station
 
 pytestmark = [pytest.mark.front, pytest.mark.xdist_group("front_office")]
@@ -40,6 +40,20 @@ def test_root_puts_a_department_and_a_caller_may_not(front):
     assert (403, "front: the certificate names no caller, or there is none\n") == told(
         send(front, None, "web-1", department()))
     assert (200, "department web\n") == told(send(front, "root", "web-1", department()))
+
+
+def test_a_revocation_makes_the_list_101_bytes_longer_at_most(front):
+    """A key ID has 97 letters at most, and four bytes say how many."""
+    longest = 32 * "d"
+    send(front, "root", "d-1", department(longest))
+    lengths = []
+    for number in range(4):
+        told_of = send(front, "ana", f"r-{number}", f"revoke-keyid {longest}/{number}{63 * '~'}\n")
+        assert (200, f"revoked\nversion {number + 1}\n") == told(told_of)
+        lengths.append(len(front.served.get("/v1/krl").body))
+    assert [101] * 3 == [later - it for it, later in zip(lengths, lengths[1:])]
+    assert (400, True) == (lambda it: (it.status_code, it.text.startswith("refused ")))(
+        send(front, "ana", "r-5", f"revoke-keyid {longest}/{65 * '~'}\n"))
 
 
 def told(answer):
@@ -150,6 +164,31 @@ def test_an_office_that_was_killed_gives_the_same_bytes(sshstation, office, make
     with office.serving(port=served.port) as again:
         assert told(first) == told(send(front, "ana", "killed-1", message))
         assert "away-cert.pub serial 2\n" == certificate_of(sshstation, front, office, again, "away", asking)
+
+
+# ---- a server
+
+def test_a_server_gets_its_certificate_and_renews_it_with_what_the_front_gives_it(station, front, programs, room):
+    """As vethlumi-host asks, by the client vethlumi."""
+    front.make("host", "web")
+    text = department("web", kind="host", admins="host-web", principals="web.example.org", options="", extensions="",
+                      namespaces="", maxlife=2592000)
+    assert 200 == send(front, "root", "web-1", text).status_code
+    station.guard.permit(text)
+    new_key("host")
+    client = ["/usr/bin/python3", "-B", "-m", "vethlumi", "--office", front.url, "--certificate",
+              front.certificate("host-web"), "--cacert", front.authority / "ca.crt", "--wait", "90s"]
+    environment = os.environ | {"PYTHONPATH": str(TOP / "client"), "HOME": str(room)}
+    new = ["request", "web/web.example.org", "host.pub", "--principals", "web.example.org", "--life", "30d",
+           "--extensions", ""]
+    for serial, words in ((1, new), (2, ["renew", "host-cert.pub"])):
+        asking = programs.begin([*client, *words], stdout=subprocess.PIPE, stderr=subprocess.PIPE, env=environment)
+        until(lambda: [serial] == station.sign())
+        assert (f"host-cert.pub serial {serial}\n".encode(), b"") == asking.communicate(timeout=100)
+    shown = run([*client, "certs"], env=environment)
+    assert (1, True) == (shown.returncode, b"a server may not read this" in shown.stderr)
+    revoked = run([*client, "revoke", "--yes", "web/web.example.org"], env=environment)
+    assert b"revoked; the list has version 1\n" == revoked.stdout
 
 
 # ---- certificates that are taken back

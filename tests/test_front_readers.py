@@ -17,6 +17,7 @@ import time
 import pytest
 
 from asking import department, issue, lasting, post, revoke_serial
+from fronts import WORKERS
 from recording import getting, posting, staying, statuses
 from running import left_out, rest
 
@@ -114,7 +115,7 @@ def test_beside_slow_clients_issues_are_answered_at_once(patient):
 
 def test_more_silent_clients_than_nginx_has_room_for_by_itself_are_kept(patient):
     """By itself it keeps 512 for each of its processes, and ends others for those that come."""
-    count = 600 * os.cpu_count()
+    count = 600 * WORKERS
     if count + 500 > resource.getrlimit(resource.RLIMIT_NOFILE)[0]:
         left_out("a process may have too few files open here")
     with contextlib.ExitStack() as ending:

@@ -2,18 +2,22 @@
 histories of bodies, under policies and moments that change.
 
 A history is some hundred bodies in calls, each with a policy, a moment and a limit for what lies ahead. Many bodies
-come again, many have the serial of another one, and some are spoiled. A history that fails is made shorter, and is
-printed with its seed. `--judgements=1000000` asks more than the hundred thousand of the check.
+come again, many have the serial of another one, some are spoiled, and some were approved by an earlier version of the
+guard, which permitted every key. A history that fails is made shorter, and is printed with its seed.
+`--judgements=1000000` asks more than the hundred thousand of the check.
 """
+import contextlib
 import os
 import random
+import sqlite3
 import subprocess
-from dataclasses import dataclass
+from dataclasses import dataclass, replace
 
 import pytest
 
 import plain_guard
-from asking import LAST_SERIAL, LATEST, body, department, key_blob, key_line
+from asking import (LAST_SERIAL, LATEST, PRIME, SMALL_ORDER_KEYS, body, department, digest_of, encoded, key_blob,
+                    key_line)
 from running import preloaded, run
 from stations import EVERY_EXTENSION, Guard
 
@@ -72,9 +76,23 @@ class History:
     last: int
     policies: list
     bodies: list
+    # places of bodies, of which the guard's file has those that an earlier guard may have approved
+    old: list
     calls: list
 
+    def kept_before(self):
+        """The rows that an earlier guard left: for each serial a moment and a body."""
+        found = {}
+        for data in (self.bodies[place] for place in self.old):
+            with contextlib.suppress(plain_guard.NotABody):
+                read = plain_guard.read_body(data)
+                if read.ca == CA and self.first <= read.serial <= self.last:
+                    found.setdefault(read.serial, (NOW - 1000, data))
+        return found
 
+
+# Keys of small order, and some that are next to one.
+KEYS = [*SMALL_ORDER_KEYS, *(encoded(y, sign) for y in (2, PRIME - 2, PRIME + 2, 2 ** 255 - 1) for sign in (0, 1))]
 PRINCIPALS = ["alice", "bob", "x@example.org", "@example.org", "a.example.org", "alic", "alicee"]
 RULES = ["alice", "bob", "*@example.org", "*.example.org", "*lice"]
 VALUES = {"force-command": ["/bin/true", " ", "x" * 200], "verify-required": [None],
@@ -169,7 +187,7 @@ def any_fields(source, serials):
         "before": after + source.choice([1, 50, 100, 101, 1000, 3600, 3601, 10 ** 6]),
         "options": options if source.random() < 0.5 else [],
         "extensions": sorted(some_of(source, EVERY_EXTENSION, 0, 3)) if kind == 1 and source.random() < 0.6 else [],
-        "nonce": bytes([source.randrange(3)]) * 32}
+        "nonce": bytes([source.randrange(3)]) * 32, **({"key": source.choice(KEYS)} if source.random() < 0.15 else {})}
 
 
 def spoiled(source, fields):
@@ -208,15 +226,17 @@ def any_history(source):
     calls = [Call(source.randrange(3), NOW + source.choice([0, 0, 1, -1, 49, 50, 3600]),
                   source.choice([0, 1, 3600, 2 ** 64 - 1]), source.choices(range(BODIES), k=EACH),
                   source.random() < 0.5) for _ in range(CALLS)]
-    return History(first, last, [any_policy(source) for _ in range(3)], bodies, calls)
+    old = some_of(source, range(BODIES), 0, 10)
+    return History(first, last, [any_policy(source) for _ in range(3)], bodies, old, calls)
 
 
 def due(history):
-    """The lines that the guard in Python answers, of all calls."""
-    guard = plain_guard.PlainGuard(CA, history.first, history.last)
+    """The lines that the guard in Python answers, of all calls, and the serials and digests that it then keeps."""
+    guard = plain_guard.PlainGuard(CA, history.first, history.last, history.kept_before())
     policies = [plain_guard.read_policy(it.encode()) for it in history.policies]
-    return [guard.answer(policies[it.policy], it.moment, it.ahead, history.bodies[place])
-            for it in history.calls for place in it.bodies]
+    lines = [guard.answer(policies[it.policy], it.moment, it.ahead, history.bodies[place])
+             for it in history.calls for place in it.bodies]
+    return lines, [[str(serial), digest_of(data)] for serial, (_, data) in sorted(guard.approved.items())]
 
 
 class Given:
@@ -228,16 +248,19 @@ class Given:
         (room / "ca.pub").write_text(key_line(0x11) + "\n")
 
     def lines(self, history):
-        """The lines that the program prints, and its rows at the end."""
+        """The lines that the program prints, and the serials and digests of its rows at the end."""
         self.count += 1
         guard = Guard(self.program, self.room / f"{self.count}.db", self.room / "ca.pub", first=history.first,
                       last=history.last)
+        with contextlib.closing(sqlite3.connect(guard.db)) as tables, tables:
+            tables.executemany("INSERT INTO approved VALUES (?, ?, ?)",
+                               [(serial, *kept) for serial, kept in history.kept_before().items()])
         for place, text in enumerate(history.bodies):
             (self.room / str(place)).write_bytes(text)
         for place, text in enumerate(history.policies):
             (self.room / f"policy-{place}").write_text(text)
         lines = [line for call in history.calls for line in self.answers(guard, call)]
-        rows = guard.bodies()
+        rows = [row[:2] for row in guard.bodies()]
         for file in self.room.glob(f"{self.count}.*"):
             file.unlink()
         return lines, rows
@@ -267,20 +290,21 @@ def shorter(history, differs, tries=150):
             while place < len(bodies[number]) and tries:
                 fewer = [*bodies]
                 fewer[number] = bodies[number][:place] + bodies[number][place + size:]
-                made = History(history.first, history.last, history.policies, history.bodies, with_calls(fewer))
+                made = replace(history, calls=with_calls(fewer))
                 tries -= 1
                 if differs(made):
                     bodies = fewer
                 else:
                     place += size
         size //= 4
-    return History(history.first, history.last, history.policies, history.bodies, with_calls(bodies))
+    return replace(history, calls=with_calls(bodies))
 
 
 def described(history, given):
     """A history that fails, as a text."""
     yield f"serials {history.first} to {history.last}"
-    answers = iter(zip(due(history), given.lines(history)[0]))
+    yield from (f"approved before: {data.hex()}" for _, data in history.kept_before().values())
+    answers = iter(zip(due(history)[0], given.lines(history)[0]))
     for call in history.calls:
         if call.bodies:
             yield f"moment {call.moment}, ahead {call.ahead}, {'asked' if call.is_asked else 'named'}, under\n" \
@@ -305,13 +329,12 @@ def test_the_program_answers_as_the_guard_in_python_does(request, sshstation, ro
     given, seen, count = Given(sshstation, room), set(), 0
     while count < request.config.getoption("--judgements"):
         history = any_history(random.Random(f"{seed} {count}"))
-        wanted = due(history)
+        wanted, kept = due(history)
         lines, rows = given.lines(history)
         if wanted != lines:
-            short = described(shorter(history, lambda it: due(it) != given.lines(it)[0]), given)
+            short = described(shorter(history, lambda it: due(it)[0] != given.lines(it)[0]), given)
             pytest.fail(f"--hypothesis-seed={seed}, at {count}\n" + "\n".join(short), pytrace=False)
-        first = {int(line.split()[1]): line for line in reversed(wanted) if line.startswith("sign ")}
-        assert [first[it].split()[1:] for it in sorted(first)] == [it[:2] for it in rows], "what is kept"
+        assert kept == rows, "what is kept"
         seen |= {" ".join(it.split()[:1] if it.startswith("sign ") else it.split()) for it in wanted}
         count += len(lines)
     print(f"figure: {count} judgements, 0 differences")

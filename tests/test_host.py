@@ -9,7 +9,7 @@ import time
 import pytest
 
 from asking import department
-from running import TOP, left_out, run, until
+from running import TOP, left_out, loaded, run, until
 
 HOST = TOP / "setup/vethlumi-host"
 SETTINGS = "KEYID=db/db.example.org\nPRINCIPALS=db.example.org\nLIFE={life}\nKEY={key}\n"
@@ -210,6 +210,31 @@ def test_what_cannot_be_checked_costs_few_serials(given, room, amiss, why):
         assert (old, 2) == (given.present.read_bytes(), len(asked.read_text().splitlines()))
 
 
+@pytest.mark.parametrize("left, ago, is_asked", [
+    ("5m", 45, False), ("5m", 75, True), ("100m", 570, False), ("100m", 660, True), ("20h", 7000, False),
+    ("20h", 7300, True)])
+def test_a_tenth_of_what_is_left_but_a_minute_at_least_is_waited(given, room, left, ago, is_asked):
+    shutil.copy(certify(room, "host.pub", "old", days=f"-9d:+{left}"), given.present)
+    certify(room, "other.pub")
+    (given.state / "failed").touch()
+    os.utime(given.state / "failed", (time.time() - ago,) * 2)
+    assert int(is_asked) == given()[0]
+    assert is_asked == (room / "asked").exists()
+
+
+def test_a_certificate_of_a_ca_that_is_not_trusted_any_more_is_replaced_at_once(given, room):
+    """Clients don't believe the host by it. A renewal would be of a certificate that is nothing any more."""
+    certify(room, "host.pub", "by-old", days="-1d:+29d", ca="old-ca")
+    shutil.copy(room / "by-old-cert.pub", given.present)
+    with open(room / "cas.pub", "a") as it:
+        it.write((room / "old-ca.pub").read_text())
+    assert (0, "") == given() and not (room / "asked").exists(), "it isn't due"
+    (room / "cas.pub").write_text((room / "ca.pub").read_text())
+    new = certify(room, "host.pub", days="-1d:+10d").read_bytes()
+    assert (0, new) == (given()[0], given.present.read_bytes())
+    assert [" request "] == re.findall(" (?:renew|request) ", (room / "asked").read_text())
+
+
 def test_what_is_left_out_costs_few_serials_once_the_old_one_has_ended(given, room):
     shutil.copy(certify(room, "host.pub", "old", days="-9d:-1h"), given.present)
     certify(room, "other.pub")
@@ -273,3 +298,154 @@ def test_it_waits_until_two_thirds_are_over(given, room):
     shutil.copy(certify(room, "host.pub", "old", days="-5d:+5d"), given.present)
     assert (0, "") == given() and not (room / "asked").exists()
     assert 60 > time.time() - begun
+
+
+# ---- root's copy, which sshd reads
+
+class Copying:
+    """The step of root: the module of the script, with stand-ins for sshd and for systemd."""
+
+    def __init__(self, given, room, monkeypatch):
+        for name, value in given.environment().items():
+            monkeypatch.setenv(name, value)
+        self.script, self.asked, self.says = loaded(HOST), [], {"-t": (0, "", ""), "reload": (0, "", "")}
+        self.shown, self.named, real = self.script.SHOWN, self.script.SHOWN, self.script.run
+
+        def stand_in(*words, **how):
+            if words[0] not in ("/usr/sbin/sshd", "systemctl"):
+                return real(*words, **how)
+            self.asked.append(words[1])
+            return (0, f"port 22\nhostcertificate {self.named}\n", "") if words[1] == "-T" else self.says[words[1]]
+        monkeypatch.setattr(self.script, "run", stand_in)
+
+    def __call__(self):
+        """What is said, and what sshd and systemd were asked."""
+        self.asked.clear()
+        try:
+            return self.script.reload() or "", self.asked
+        except self.script.Fault as fault:
+            return str(fault), self.asked
+
+
+@pytest.fixture
+def copying(given, room, monkeypatch):
+    """The host has a copy of the certificate that is in place, and a new one is put in its place."""
+    made = Copying(given, room, monkeypatch)
+    assert ("", ["-t", "-T", "reload"]) == made()
+    assert given.present.read_bytes() == made.shown.read_bytes()
+    made.old = made.shown.read_bytes()
+    return made
+
+
+def test_a_new_certificate_is_copied_once_and_read(copying, given, room):
+    assert ("", []) == copying()
+    shutil.copy(certify(room, "host.pub"), given.present)
+    assert ("", ["-t", "-T", "reload"]) == copying()
+    assert given.present.read_bytes() == copying.shown.read_bytes() != copying.old
+    assert (0o644, os.getuid()) == (copying.shown.stat().st_mode & 0o777, copying.shown.stat().st_uid)
+    assert ("", []) == copying()
+    # A copy that is lost is made again, and read again.
+    copying.shown.unlink()
+    assert ("", ["-t", "-T", "reload"]) == copying() and copying.shown.exists()
+    given.present.unlink()
+    assert ("", []) == copying() and copying.shown.exists(), "without one there is nothing to do"
+
+
+@pytest.mark.parametrize("named, is_read", [("/var/lib/office-host/host-cert.pub", False), ("present", True)])
+def test_a_server_that_was_set_up_before_reads_the_certificate_itself(copying, given, room, named, is_read):
+    """Until its set-up is typed again."""
+    copying.named = given.present if named == "present" else named
+    shutil.copy(certify(room, "host.pub"), given.present)
+    assert ("", ["-t", "-T", *["reload"] * is_read]) == copying()
+
+
+def second_line(path, text):
+    path.write_bytes(text + text)
+
+
+def link(path, text):
+    path.with_name("elsewhere").write_bytes(text)
+    path.symlink_to("elsewhere")
+
+
+# What the user office-host may put in the place of a certificate, and why root doesn't copy it.
+PUT = [
+    ("a pipe", lambda path, text: os.mkfifo(path), "it is no regular file"),
+    ("a folder", lambda path, text: path.mkdir(), "it is no regular file"),
+    ("a link", link, "Too many levels of symbolic links"),
+    ("two lines", second_line, "it is no certificate"),
+    ("a comment without an end", lambda path, text: path.write_bytes(text[:-1].ljust(16385, b"a")), "it is no certif"),
+    ("no line", lambda path, text: path.write_bytes(text[:-1]), "it is no certificate"),
+    ("a public key", lambda path, text: path.write_bytes(text.replace(b"-cert-v01@openssh.com", b"")), "it is no cert"),
+    ("another file", lambda path, text: path.write_bytes(b"\1\2\n"), "it is no certificate"),
+    ("a damaged one", lambda path, text: path.write_bytes(text[:120] + b" a\n"), "ssh-keygen can't read"),
+]
+
+
+@pytest.mark.parametrize("put, why", [it[1:] for it in PUT], ids=[it[0] for it in PUT])
+def test_what_is_no_certificate_is_not_copied(copying, given, room, put, why):
+    text = certify(room, "host.pub").read_bytes()
+    given.present.unlink()
+    put(given.present, text)
+    told, asked = copying()
+    assert (True, []) == (why in told, asked), told
+    assert copying.old == copying.shown.read_bytes()
+    assert ["host-cert.pub", "host.env"] == sorted(it.name for it in given.etc.iterdir())
+
+
+@pytest.mark.parametrize("key, more, why", [
+    ("other.pub", {}, "it is for another key"), ("host.pub", {"host": ()}, "it is for a user"),
+    ("host.pub", {"principals": "web.example.org"}, "it is for web.example.org"),
+    ("host.pub", {"days": "+1d:+20d"}, "it isn't valid now"), ("host.pub", {"days": "-20d:-1d"}, "it isn't valid now"),
+    ("host.pub", {"ca": "another"}, "this server doesn't trust its CA"),
+    ("host.pub", {"host": ("-h", "-I", "a\"\n        Signing CA: ED25519 SHA256:a (using it)")}, "has a field twice"),
+])
+def test_a_certificate_that_was_not_asked_for_is_not_copied(copying, given, room, key, more, why):
+    if "-I" in more.get("host", ()):
+        run(["ssh-keygen", "-q", "-s", room / "ca", *more["host"], "-n", "db.example.org", "-V", "-1d:+10d",
+             room / "host.pub"], check=True)
+        (room / "host-cert.pub").rename(given.present)
+    else:
+        shutil.copy(certify(room, key, **more), given.present)
+    told, asked = copying()
+    assert (True, []) == (why in told, asked), told
+    assert copying.old == copying.shown.read_bytes()
+
+
+def test_a_reload_that_failed_is_tried_again(copying, given, room):
+    """Otherwise sshd would go on showing the old one until that ends."""
+    shutil.copy(certify(room, "host.pub"), given.present)
+    copying.says["reload"] = (1, "", "the unit is busy")
+    for _ in range(2):
+        assert ("sshd doesn't read the new certificate yet: the unit is busy", ["-t", "-T", "reload"]) == copying()
+    copying.says |= {"reload": (0, "", ""), "-t": (255, "", "/etc/ssh/sshd_config: line 1: Bad")}
+    assert ("sshd doesn't read the new certificate yet: /etc/ssh/sshd_config: line 1: Bad", ["-t"]) == copying()
+    copying.says["-t"] = (0, "", "")
+    assert ("", ["-t", "-T", "reload"]) == copying()
+    assert ("", []) == copying()
+
+
+def test_a_copy_that_sshd_cannot_read_gives_way_to_the_old_one(copying, given, room):
+    shutil.copy(certify(room, "host.pub"), given.present)
+    copying.says["-t"] = (0, "", f'Could not load host certificate "{copying.shown}": invalid format')
+    told, asked = copying()
+    assert (True, ["-t"], copying.old) == ("the old one is back" in told, asked, copying.shown.read_bytes())
+    copying.shown.unlink()
+    told, _ = copying()
+    assert "the old one is back" in told and not copying.shown.exists()
+
+
+def test_without_cas_that_are_trusted_nothing_is_copied(copying, given, room):
+    """What signed the certificate isn't known then."""
+    shutil.copy(certify(room, "host.pub"), given.present)
+    (room / "cas.pub").unlink()
+    assert (f"{room}/cas.pub isn't there yet: office-ca-keys.service makes it", []) == copying()
+    assert copying.old == copying.shown.read_bytes()
+
+
+def test_no_program_is_waited_for_without_end(given, monkeypatch):
+    """sshd waits for ever for a pipe that it is to read."""
+    script = loaded(HOST)
+    with pytest.raises(script.Fault, match="sleep 100 takes more than 1 seconds"):
+        script.run("sleep", "100", longest=1)
+    assert (30, 200) == (script.LONGEST_RUN, script.LONGEST_ASKING) and 90 < script.LONGEST_ASKING < 240

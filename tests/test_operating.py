@@ -95,7 +95,8 @@ def commands(program, sshstation, tmp_path_factory):
         (room / name).mkdir()
     (room / "tools/sshoffice").symlink_to(program)
     (room / "tools/sshstation").symlink_to(sshstation)
-    (room / "tools/examples").symlink_to(TOP / "examples")
+    for name in ("examples", "client"):
+        (room / "tools" / name).symlink_to(TOP / name)
     ports = {name: str(free_port()) for name in PORTS}
     with open(room / "log", "w") as log:
         how = {"stdout": log, "stderr": subprocess.STDOUT, "capture_output": False, "timeout": 570}

@@ -9,6 +9,7 @@ import random
 import re
 import signal
 import socket
+import sys
 import threading
 import time
 
@@ -504,21 +505,34 @@ def test_a_list_that_no_server_takes_was_approved_without_the_station(site, room
 @pytest.mark.slow
 @pytest.mark.alone
 def test_a_list_that_takes_too_much_memory_to_read_is_not_published(site):
-    """The unit's limit would end the station, or its guard, in the place of ssh-keygen."""
+    """The unit's limit would end the station, or its guard, in the place of ssh-keygen. On a slow machine it would
+    meet the limit of time before that of memory, so that one is a higher one here."""
     site.gives(bitmaps(4, site.blob))
+    station = site.station()
+    station.change("MOST_READING = 5\n", "MOST_READING = 500\n")
     said = ["station: the list isn't published: ssh-keygen was killed, or needs too much memory for it"]
-    assert (1, [], said) == site.station().once()
+    assert (1, [], said) == station.once()
     assert site.old == parted(site.file.read_bytes())[2]
 
 
 @pytest.mark.slow
 def test_a_list_that_takes_too_long_to_read_is_not_published(site):
     station = site.station()
-    slow = station.folder / "ssh-keygen"
-    slow.write_text("#!/bin/sh\nexec sleep 1000\n")
-    slow.chmod(0o755)
+    station.runs_in_place_of("ssh-keygen", "exec sleep 1000")
     said = ["station: the list isn't published: ssh-keygen reads it for more than 60 seconds"]
     assert (1, [], said) == station.once()
+
+
+@pytest.mark.parametrize("seconds, is_read", [(3, True), (8, False)])
+def test_a_list_that_would_make_logins_slow_is_not_published(site, seconds, is_read):
+    """sshd reads the whole list at each login. What counts is the time of a processor, so that a busy machine refuses
+    no list."""
+    station = site.station()
+    station.runs_in_place_of("ssh-keygen", f"exec {sys.executable} -c 'import time\n"
+                                           f"while time.process_time() < {seconds}: pass'")
+    said = ["station: the list isn't published: ssh-keygen reads it for more than 5 seconds of a processor, and sshd "
+            "would at each login"]
+    assert ((0, []) if is_read else (1, said)) == station.once()[::2]
 
 
 def test_a_limit_of_memory_that_cannot_be_set_is_said(site, room):

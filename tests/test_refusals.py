@@ -4,11 +4,13 @@ The office has the departments `web`, whose administrator is ana, and `db`, whos
 certificates the first is signed, the second waits, the key id of the third is revoked, and so is the serial of the
 fourth. No refusal changes anything, so one office answers all rows.
 """
+import tomllib
+
 import pytest
 
 from asking import (CA, LATEST, OTHER_CA, deliver, department, exchange, issue, lasting, post, renew, revoke_keyid,
                     revoke_range, revoke_serial, rollover)
-from running import Office, refusals
+from running import TOP, Office, refusals
 from stations import new_station
 
 pytestmark = pytest.mark.rows
@@ -136,3 +138,11 @@ def test_a_renewal_is_refused_where_it_is_served(sshstation, make_office, table)
         assert served.post("root", "k", revoke_keyid("web/alice")).text.startswith("revoked\n")
         assert due == [served.post("ana", f"again{place}", renew(1, **lasting(seconds))).text
                        for place, seconds in enumerate((-1, 1800))]
+
+
+def test_the_client_knows_each_refusal_by_its_name(table):
+    """The client says what a refusal means, and what to do about it, by a table of its own."""
+    known = tomllib.loads((TOP / "client/vethlumi/refusals.toml").read_text(encoding="utf-8"))
+    assert {str(number): name for number, (name, _) in table.items()} == {it: row[0] for it, row in known.items()}
+    for number, row in known.items():
+        assert len(row) == 3 and all(row), number

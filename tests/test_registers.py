@@ -56,7 +56,8 @@ CALLERS = some.sampled_from(["ana", "bob", "root", "station"])
 KEYS = some.sampled_from([f"k{place}" for place in range(40)])
 MOMENTS = some.sampled_from([1000] * 8 + [1500, 1999, 0, 3000, LATEST, LATEST + 1])
 NONCES = some.integers(0, 255)
-DEPARTMENTS = some.sampled_from(["web", "web", "web2", "db"])
+# By bytes `web-2` comes before `web2`; by the letters and digits alone it would come after it or be the same.
+DEPARTMENTS = some.sampled_from(["web", "web", "web2", "web-2", "db"])
 KEY_IDS = some.builds("{}/{}".format, DEPARTMENTS, some.sampled_from(["a", "b", "c/d", "x"]))
 PRINCIPALS = some.sampled_from(["alice", "alice,bob", "x@example.org", "@example.org", "b.example.org"])
 RULES = some.sampled_from(["alice,bob,*@example.org", "*.example.org", "alice"])
@@ -67,7 +68,7 @@ EXTENSIONS = some.sampled_from(["", "permit-pty", "permit-pty,permit-X11-forward
 SUBJECTS = some.sampled_from([key_line(0x22), key_line(0x23, "box")])
 CAS = some.integers(0x11, 0x1a).map(key_line)
 OTHERS = some.sampled_from(["issue web\n", "deliver 9\n", "revoke-range 3 2\n", "revoke-serial 0\n", "", "renew 1\n"])
-PAGES = some.sampled_from(["pending", "krl", "signers", "table", "cas", "certs/0", "certs/01", "keys"])
+PAGES = some.sampled_from(["pending", "krl", "signers", "table", "cas", "departments", "certs/0", "certs/01", "keys"])
 # A serial that is near to one that was handed out: so many before the next.
 BEFORE = some.integers(-1, 6)
 
@@ -218,7 +219,7 @@ class Registers(RuleBasedStateMachine):
 
     def reports(self):
         """What shows each list, each table and each certificate."""
-        pages = ["pending", "krl", "signers", "table", "cas"]
+        pages = ["pending", "krl", "signers", "table", "cas", "departments"]
         pages += [f"certs/{serial}{what}" for serial in range(1, self.office.next() + 1) for what in ("", "/body")]
         return [exchange(get(f"/v1/{it}"), 0, 0) for it in pages]
 

@@ -5,7 +5,7 @@ status are those of the table in docs/FORMATS.md.
 """
 import pytest
 
-from asking import DIGEST, exchange, get, issue
+from asking import DIGEST, department, exchange, get, issue
 from asking import post as posted
 from running import applied, refusals, rows
 
@@ -61,6 +61,9 @@ RESOURCES = [
     (b"/v1/signers", b""),
     (b"/v1/table", b"                  1  user  pending          1000          2000  web/alice\ntotal 1 version 0\n"),
     (b"/v1/cas", b"1 1 SHA256:SQfC+vTbLURn9cTkVxIS8fGQ3FKNAJWeB0o139+gV4M\n"),
+    (b"/v1/departments", department(
+        "web", principals="alice,*@example.org", options="force-command", namespaces="file,git",
+        extensions="permit-X11-forwarding,permit-agent-forwarding,permit-pty").encode()),
 ]
 AROUND = [row for path in [it for it, _ in RESOURCES] + [b"/v1/certs/1", b"/v1/certs/9223372036854775806"] for row in [
     (get(path, b"POST"), "WrongMethod"),

@@ -1,5 +1,5 @@
-"""The scripts of examples/ that callers, servers and those who watch type: ca-line, request, fetch-list, list-of-table
-and figures. test_authority.py has those of the front's authority."""
+"""The scripts of examples/ that callers, servers and those who watch type: ca-line, request, fetch-list and
+list-of-table. test_authority.py has those of the front's authority."""
 import functools
 import http.server
 import json
@@ -7,12 +7,11 @@ import os
 import re
 import shutil
 import threading
-import time
 
 import pytest
 
 from asking import department, post, revoke_serial
-from running import EXAMPLES, TOP, free_port, is_revoked, new_key, run, until
+from running import EXAMPLES, TOP, is_revoked, new_key, run, until
 
 pytestmark = pytest.mark.xdist_group("scripts")
 
@@ -29,7 +28,7 @@ def shown(certificate):
     return [it.strip() for it in run(["ssh-keygen", "-L", "-f", certificate], check=True).stdout.decode().splitlines()]
 
 
-@pytest.mark.parametrize("name", ["front/authority", "request", "ca-line", "list-of-table", "figures", "fetch-list"])
+@pytest.mark.parametrize("name", ["front/authority", "request", "ca-line", "list-of-table", "fetch-list"])
 def test_a_script_says_what_it_wants(name):
     status, out, _ = script(name, "--help")
     assert (0, True, 2) == (status, os.path.basename(name) in out, script(name, "--no-such-word")[0])
@@ -45,7 +44,8 @@ PYTHON = sorted(str(it.relative_to(TOP)) for folder in ("examples", "examples/fr
 def test_a_script_of_python_runs_no_module_that_somebody_has_put_there(room, name):
     """Neither from the script's folder nor from PYTHONPATH: some of them have a private key, or are run by root."""
     copied = shutil.copy(TOP / name, room)
-    shutil.copy(TOP / "setup/setting_up.py", room)
+    for it in (TOP / "setup").glob("*.py"):
+        shutil.copy(it, room)
     for it in ("argparse", "datetime", "hashlib", "subprocess"):
         (room / f"{it}.py").write_text("print('planted')\nraise SystemExit(9)\n")
     assert 9 == run(["/usr/bin/python3", "-B", copied, "--help"]).returncode, "it would be run"
@@ -280,26 +280,3 @@ TABLES = [
 def test_of_a_table_that_is_not_whole_nothing_is_printed(room, text, why):
     (room / "table").write_text(text)
     assert (1, "", f"list-of-table: {why}") == script("list-of-table", "table")
-
-
-# ---- figures
-
-LINE = re.compile(r'# (HELP|TYPE) [a-z_]+ .+|[a-z_]+(\{[a-z]+="[a-z]+"(,[a-z]+="[a-z]+")*\})? [0-9.e-]+')
-
-
-def test_figures_of_an_office(table):
-    status, out, _ = script("figures", "--cacert", table.authority / "ca.crt", "--cert", table.certificate("watch"),
-                            "--last", 100000, table.url)
-    assert [] == [line for line in out.splitlines() if not LINE.fullmatch(line)]
-    got = dict(line.split(" ") for line in out.splitlines() if not line.startswith("#"))
-    assert (0, "1") == (status, got["office_up"])
-    assert {"pending": "2", "signed": "0", "revoked": "1"} == {
-        state: got[f'office_certificates{{kind="user",state="{state}"}}'] for state in ("pending", "signed", "revoked")}
-    assert ("1", str(100000 - 3), str(2 ** 63 - 3)) == (
-        got["office_list_version"], got["office_serials_left"], got["office_list_versions_left"])
-    assert abs(time.time() - float(got["office_list_changed_timestamp_seconds"])) < 120
-
-
-def test_an_office_that_is_away_is_a_figure_as_well():
-    status, out, _ = script("figures", f"http://127.0.0.1:{free_port()}")
-    assert (1, ["office_up 0"]) == (status, [line for line in out.splitlines() if not line.startswith("#")])

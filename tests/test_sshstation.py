@@ -13,10 +13,13 @@ import subprocess
 import time
 
 import pytest
+from cryptography.exceptions import InvalidSignature
+from cryptography.hazmat.primitives.asymmetric.ed25519 import Ed25519PublicKey
 
 import asking
 import running
-from asking import CA, LAST_SERIAL, LATEST, department, digest_of, key_blob
+from asking import (CA, LAST_SERIAL, LATEST, PRIME, SMALL_ORDER_KEYS, SMALL_ORDER_YS, department, digest_of, encoded,
+                    key_blob)
 from running import preloaded, run
 from stations import init
 
@@ -378,6 +381,62 @@ def test_a_guard_that_is_open_is_not_opened_again(guard, room, programs):
     first.stdin.flush()
     assert b"sign" == first.stdout.readline().split()[0]
     assert (1, "", "sshstation: Device\n") == guard.judge("a")
+
+
+# ---- keys for which everybody can sign
+
+# Keys next to those: other numbers, one byte changed, and the bytes the other way round.
+ORDINARY_KEYS = [
+    *(encoded(y, sign) for y in (2, PRIME - 2, PRIME + 2, SMALL_ORDER_YS[5] - 1, SMALL_ORDER_YS[5] + 1,
+                                 SMALL_ORDER_YS[6] - 1, SMALL_ORDER_YS[6] + 1, 2 ** 255 - 1) for sign in (0, 1)),
+    *(key[:at] + bytes([key[at] ^ 4]) + key[at + 1:] for key in SMALL_ORDER_KEYS for at in (0, 15, 30, 31)),
+    *(key[:31] + bytes([key[31] ^ 0x40]) for key in SMALL_ORDER_KEYS),
+    *(key[::-1] for key in SMALL_ORDER_KEYS if key != key[::-1])]
+
+
+def is_anybodys(key):
+    """Whether OpenSSL takes for this key a signature that was made without a private key: R is the neutral point, and S
+    is 0. For a key of small order that is right for each text, or for one in two, four or eight."""
+    public = Ed25519PublicKey.from_public_bytes(key)
+    for text in range(40):
+        with contextlib.suppress(InvalidSignature):
+            public.verify(encoded(1, 0) + bytes(32), b"%d" % text)
+            return True
+    return False
+
+
+@pytest.mark.parametrize("keys, answer", [(SMALL_ORDER_KEYS, "refuse NotPermitted"), (ORDINARY_KEYS, "sign")],
+                         ids=["small order", "ordinary"])
+def test_a_key_for_which_everybody_can_sign_is_not_permitted(guard, room, keys, answer):
+    put(room, **{f"body{serial}": body(serial, key=key) for serial, key in enumerate(keys, 1)})
+    status, out, err = guard.judge(*(f"body{serial}" for serial in range(1, len(keys) + 1)))
+    given = [line if line.startswith("refuse") else line.split()[0] for line in out.splitlines()]
+    assert (0, "") == (status, err)
+    assert {key.hex(): answer for key in keys} == dict(zip((key.hex() for key in keys), given))
+    assert {key.hex(): answer != "sign" for key in keys} == {key.hex(): is_anybodys(key) for key in keys}, "to OpenSSL"
+    assert (len(keys) if answer == "sign" else 0) == len(guard.bodies())
+
+
+@pytest.mark.parametrize("of, answer", [
+    ({"keyid": "other/alice"}, "NoDepartment"), ({"kind": 2}, "OtherKind"), ({"after": 1, "before": 2}, "NotPermitted"),
+    ({"ca": 0x12}, "OtherCa"), ({"serial": 101}, "OtherSerial")],
+    ids=["no department", "other kind", "ended", "other CA", "other serial"])
+def test_a_key_of_small_order_is_refused_in_the_order_of_the_numbers(guard, room, of, answer):
+    put(room, a=body(**{"key": SMALL_ORDER_KEYS[2]} | of))
+    assert (0, f"refuse {answer}\n", "") == guard.judge("a")
+
+
+def test_what_was_approved_for_a_key_of_small_order_is_signed_again(guard, room):
+    """A guard of an earlier version approved it: its row is in the file."""
+    data = {key: body(serial, key=key) for serial, key in enumerate(SMALL_ORDER_KEYS, 1)}
+    with contextlib.closing(sqlite3.connect("guard.db")) as tables, tables:
+        tables.executemany("INSERT INTO approved VALUES (?, 1000000000, ?)", [*enumerate(data.values(), 1)])
+    put(room, **{f"body{serial}": it for serial, it in enumerate(data.values(), 1)},
+        other=body(3, key=SMALL_ORDER_KEYS[2], nonce=0x34), new=body(50, key=SMALL_ORDER_KEYS[2]))
+    wanted = "".join(sign(serial, it) for serial, it in enumerate(data.values(), 1))
+    names = [f"body{serial}" for serial in range(1, len(data) + 1)]
+    assert (0, f"{wanted}refuse SerialTaken\nrefuse NotPermitted\n", "") == guard.judge(*names, "other", "new")
+    assert len(data) == len(guard.bodies())
 
 
 # ---- judge with paths from the input

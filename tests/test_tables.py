@@ -5,7 +5,7 @@ import pytest
 from asking import (CA, LAST_SERIAL, OTHER_CA, deliver, department, digest_of, exchange, get, issue, key_blob, key_line,
                     post, renew, revoke_keyid, revoke_range, revoke_serial, rollover)
 from lists import header, section, single
-from running import init, sql
+from running import init, run, sql
 
 pytestmark = pytest.mark.rows
 
@@ -210,6 +210,24 @@ def test_a_department_takes_the_place_of_another_of_its_name(filled):
     assert ["db|alice", "web|alice,bob"] == found.splitlines()
 
 
+def test_the_departments_are_a_policy_that_a_guard_reads(filled, sshstation, room):
+    told(filled, "d2", department("web-2", kind="host", admins=""))
+    given, = filled.apply([get("/v1/departments")])
+    (room / "policy").write_bytes(given.body)
+    assert b"db\nweb\nweb-2\n" == run([sshstation, "policy", "policy"], check=True).stdout
+    texts = department("db"), department(principals="alice,bob"), department("web-2", kind="host", admins="")
+    assert "".join(texts) == given.text
+
+
+def test_each_of_many_departments_is_told_once(filled):
+    """More of them than a batch of the table has certificates."""
+    texts = {f"d{place * 7919 % 1100}": department(f"d{place * 7919 % 1100}", maxlife=place + 1) for place in range(1100)}
+    filled.apply([post("root", f"m{name}", text) for name, text in texts.items()])
+    given, = filled.apply([get("/v1/departments")])
+    texts |= {"db": department("db"), "web": department(principals="alice,bob")}
+    assert "".join(text for _, text in sorted(texts.items())) == given.text
+
+
 def test_a_certificate_is_a_row_without_a_signature(filled):
     columns = "serial, department, keyid, signature IS NULL"
     assert ["7|web|web/a|1", "8|web|web/b|1", "9|web|web/c|1"] == sql(
@@ -284,6 +302,7 @@ def test_an_office_under_another_id_is_damage(filled):
 def test_a_department_of_no_kind_is_a_fault_of_what_reads_it(filled):
     sql(filled.db, "UPDATE department SET kind = 3 WHERE name = 'web'")
     assert ["fault"] == said(filled, asked("d"))
+    assert ["fault"] == said(filled, get("/v1/departments"))
     assert "3|10" == sql(filled.db, "SELECT count(*), (SELECT next FROM office) FROM cert")
     assert ["issued 10"] == said(filled, post("ana", "e", issue("db/e", after=3000, before=4000)))
 
@@ -305,7 +324,8 @@ def test_damaged_tables_stay_as_they_are_unless_a_message_is_accepted(filled, da
     sql(filled.db, DAMAGES[damage])
     before = sql(filled.db, ".dump")
     by_another = ISSUES[0].replace(b"callers/ana", b"callers/bob")
-    given = said(filled, ISSUES[0], by_another, post("ana", "a", revoke_serial(7)), get("/v1/table"))
+    given = said(filled, ISSUES[0], by_another, post("ana", "a", revoke_serial(7)), get("/v1/table"),
+                 get("/v1/departments"))
     assert before == sql(filled.db, ".dump"), given
 
 

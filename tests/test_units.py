@@ -6,6 +6,7 @@ import shutil
 
 import pytest
 
+from fronts import MOST_OF_A_CONNECTION
 from running import EXAMPLES, TOP, left_out, loaded, run
 
 UNITS, VOLUME = EXAMPLES / "systemd", EXAMPLES / "volume"
@@ -88,6 +89,33 @@ def test_a_station_ends_its_guards_by_itself():
     assert longest < int(patience.removesuffix("s"))
 
 
+def seconds(text):
+    """What systemd means by a time such as 2min or 20s."""
+    number, unit = re.fullmatch(r"(\d+)(s|min|)", text).groups()
+    return int(number) * (60 if unit == "min" else 1)
+
+
+# How often a timer runs its unit, in seconds, at most how much later, and what the pages say of it.
+TIMERS = [
+    ("office-list.timer", 120, 20, "docs/OPERATING.md", "fetches the KRL every two minutes"),
+    ("office-list.timer", 120, 20, "docs/INSTALLING.md", "the server fetches it within two and a half more"),
+    ("office-list.timer", 120, 20, "docs/THREATS.md", "at the server's next fetch, within two and a half minutes"),
+    ("office-ca-keys.timer", 600, 20, "docs/OPERATING.md", "whose fingerprints you have named, every ten minutes"),
+    ("office-ca-keys.timer", 600, 20, "docs/THREATS.md", "at the next run of `office-ca-keys`, within ten minutes"),
+    ("vethlumi-host.timer", 60, 10, "docs/OPERATING.md", "looks at the host's certificate each minute"),
+    ("vethlumi-figures.timer", 60, 10, "docs/OPERATING.md", "for node_exporter, each minute"),
+]
+
+
+@pytest.mark.parametrize("unit, every, later, page, says", TIMERS, ids=[f"{it[0]} {it[3]}" for it in TIMERS])
+def test_a_timer_is_as_the_pages_say(unit, every, later, page, says):
+    """A list that is fetched every twenty minutes would keep a revocation from servers for as long."""
+    [between], [random] = settings(unit, "OnUnitInactiveSec"), settings(unit, "RandomizedDelaySec") or ["0"]
+    assert (every, True) == (seconds(between), seconds(random) <= later)
+    assert ["timers.target"] == settings(unit, "WantedBy")
+    assert says in " ".join((TOP / page).read_text().split())
+
+
 @pytest.mark.parametrize("unit", ["office.service", "office-door.service"])
 def test_what_is_for_this_machine_alone_reaches_no_address(unit):
     assert (["any"], ["localhost"]) == (settings(unit, "IPAddressDeny"), settings(unit, "IPAddressAllow"))
@@ -104,6 +132,15 @@ def test_each_connection_of_the_front_may_have_two_files_open():
     """One to the client, and one to the office while it is asked."""
     [most] = re.findall(r"^ +worker_connections (\d+);$", (EXAMPLES / "front/nginx.conf").read_text(), re.M)
     assert [True] == [2 * int(most) < int(it) for it in settings("office-front.service", "LimitNOFILE")]
+
+
+def test_all_connections_of_the_front_fit_into_its_memory():
+    """Each takes at most what test_front_load measures. A tenth is left for nginx itself."""
+    text = (EXAMPLES / "front/nginx.conf").read_text()
+    [processes], [connections] = (re.findall(rf"^ *{it} (\d+);$", text, re.M) for it in (
+        "worker_processes", "worker_connections"))
+    assert ["1G"] == settings("office-front.service", "MemoryMax")
+    assert int(processes) * int(connections) * MOST_OF_A_CONNECTION <= 0.9 * 2 ** 30
 
 
 @pytest.mark.root

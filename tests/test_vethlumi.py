@@ -6,6 +6,7 @@ import os
 import pathlib
 import pty
 import re
+import shutil
 import signal
 import subprocess
 import time
@@ -227,6 +228,48 @@ def test_a_message_can_be_given_up(clients, front, alice):
     assert [] == ana.kept()
 
 
+@pytest.mark.parametrize("out", ["none/cert.pub", "folder", "/dev/full/cert.pub"])
+def test_a_step_that_fails_after_the_answer_keeps_the_message(clients, station, alice, room, out):
+    """The same command then ends with the same serial, and the office has issued one certificate."""
+    ana = clients["ana"]
+    (room / "folder").mkdir()
+    assert 4 == ana("--wait", "1", "request", "web/alice", alice)[0]
+    assert [1] == station.sign()
+    status, printed, told = ana("request", "web/alice", alice, "--out", out)
+    assert (2, "", 1) == (status, printed, len(ana.kept())) and f"vethlumi: {out}" in told, told
+    assert [] == [*(room / "folder").iterdir()]
+    assert (0, "cert serial 1\n", "") == ana("request", "web/alice", alice, "--out", "cert")
+    assert ([], ["1"]) == (ana.kept(), [it["serial"] for it in ana.json("certs")])
+
+
+def test_an_issue_stays_in_the_outbox_until_somebody_has_the_certificate(clients, front, station, alice):
+    ana = clients["ana"]
+    front.end()
+    assert 3 == ana("--wait", "1", "request", "web/alice", alice)[0]
+    front.begin()
+    [kept] = ana.kept()
+    for state in ("pending", "signed"):
+        status, out, told = ana("outbox", "--send")
+        assert (0, "", [kept]) == (status, told, ana.kept())
+        assert re.fullmatch(f"{kept.name}  issue web  issued 1 digest [0-9a-f]{{64}}\n", out), out
+        assert state != "pending" or [1] == station.sign()
+    assert (0, f"{alice.with_name('alice-cert.pub')} serial 1\n", "") == ana("request", "web/alice", alice)
+    assert ([], ["1"]) == (ana.kept(), [it["serial"] for it in ana.json("certs")])
+
+
+def test_what_the_office_refuses_leaves_the_outbox(clients, front, alice):
+    """And holds up none of the other messages."""
+    ana = clients["ana"]
+    front.end()
+    for what in ("other/zoe", "web/zoe"):
+        assert 3 == ana("--wait", "1", "revoke", what, "--yes")[0]
+    first, second = sorted((it.name for it in ana.kept()), key=lambda it: (ana.outbox / it).stat().st_mtime_ns)
+    front.begin()
+    assert (0, f"{first}  revoke-keyid other/zoe  refused 10 NotAllowed\n"
+               f"{second}  revoke-keyid web/zoe  revoked version 1\n", "") == ana("outbox", "--send")
+    assert [] == ana.kept()
+
+
 def test_what_is_not_signed_yet_is_asked_for_again(clients, station, alice):
     ana = clients["ana"]
     status, _, told = ana("--wait", "1", "request", "web/alice", alice)
@@ -302,18 +345,30 @@ def on_terminal(client, *words):
     return printed.decode()
 
 
-def test_what_came_steers_no_terminal(room):
-    """A file gets the signers as they came."""
-    with Web(response("ana \x1b]0;taken\x07 \x9b2J\n".encode())) as web:
+KEY = "ssh-ed25519 AAAAC3NzaC1lZDI1NTE5AAAAIBERERERERERERERERERERERERERERERERERERERERER"
+SIGNERS = f'alice,*@example.org cert-authority,namespaces="file,git" {KEY}\n'
+
+
+@pytest.mark.parametrize("signers, status", [
+    ("", 0), (SIGNERS, 0), (2 * SIGNERS, 0), (f"{SIGNERS}\x1b]0;taken\x07 \x9b2J\n", 3), (SIGNERS[:-1], 3), ("\n", 3),
+    (f"alice {KEY}\n", 3),
+], ids=["none", "one", "two", "escape", "cut", "empty line", "a key that is no authority's"])
+def test_signers_are_those_that_an_office_gives(room, signers, status):
+    with Web(response(signers.encode())) as web:
         client = Client(room / "home", web.url, caller="ana")
-        assert "ana \x1b]0;taken\x07 \x9b2J\n" == client("signers")[1]
-        assert "ana ?]0;taken? ?2J\r\n" == on_terminal(client, "signers")
+        found, out, told = client("signers")
+        assert (status, signers * (status == 0)) == (found, out)
+        assert ("" == told) == (status == 0)
+        if status == 0 and signers:
+            assert signers.replace("\n", "\r\n") == on_terminal(client, "signers")
 
 
-def test_a_reply_that_no_office_gives_steers_no_terminal(room):
+def test_a_reply_that_no_office_gives_is_no_answer(room):
     with Web(response("revoked version \x1b[2J\n".encode())) as web:
-        status, out, _ = Client(room / "home", web.url, caller="ana")("revoke", "web/zoe", "--yes")
-    assert (0, "revoked; the list has version ?\n") == (status, out)
+        status, out, told = Client(room / "home", web.url, caller="ana")("revoke", "web/zoe", "--yes")
+        assert 1 == len(web.requests)
+    assert (3, "") == (status, out)
+    assert "is no reply to `revoke-keyid`\n  the message is kept" in told and "\x1b" not in told
 
 
 @pytest.mark.parametrize("answer", BROKEN.values(), ids=BROKEN)
@@ -336,10 +391,23 @@ def test_a_certificate_for_another_key_is_not_taken(clients, station, signed, ro
             peer.sendall(response(b"issued 1\ndigest " + 64 * b"0" + b"\n" if is_post else line))
     with Other(None) as web:
         status, out, told = Client(room / "home", web.url, caller="ana")("request", "web/alice", "bob.pub")
-    assert 2 == status and "another key" in told and not pathlib.Path("bob-cert.pub").exists()
+    assert 3 == status and "another key" in told and not pathlib.Path("bob-cert.pub").exists()
 
 
 # ---- reports
+
+def test_only_certificates_that_are_valid_now_are_valid(room):
+    """On both sides of each limit. A server takes a certificate from its first second on, and not at its end."""
+    now = int(time.time())
+    rows = [("signed ", now - 60, now + 60), ("signed ", now + 60, now + 120), ("signed ", now - 60, now),
+            ("pending", now - 60, now + 60), ("revoked", now - 60, now + 60), ("signed ", 0, 253402300799)]
+    page = "".join(f"{number:19d}  user  {state}  {after:12d}  {before:12d}  web/a\n"
+                   for number, (state, after, before) in enumerate(rows, 1)) + f"total {len(rows)} version 0\n"
+    with Web(response(page.encode())) as web:
+        client = Client(room / "home", web.url, caller="ana")
+        assert ["1", "6"] == [it["serial"] for it in client.json("certs", "--valid")]
+        assert ["1"] == [it["serial"] for it in client.json("certs", "--ends-within", "1h")]
+
 
 def test_certificates_are_listed_with_filters(clients, station, signed, alice):
     ana = clients["ana"]
@@ -354,7 +422,7 @@ def test_certificates_are_listed_with_filters(clients, station, signed, alice):
     assert "\x1b" not in out
 
 
-def test_status_list_signers_and_figures(clients, station, signed, front):
+def test_status_list_and_signers(clients, station, signed, front):
     root = clients["root"]
     assert 0 == root("revoke", "web/zoe", "--yes")[0]
     [status] = root.json("status")
@@ -364,14 +432,42 @@ def test_status_list_signers_and_figures(clients, station, signed, front):
     assert ("1", ["web/zoe"]) == (listed["version"], listed["cas"][0]["keyids"])
     assert "web/zoe" in root("list")[1] and status["office"] in root("status")[1]
     assert front.session().get(f"{front.url}/v1/signers").text == root("signers")[1]
-    figures = root("figures", "--last", "10")[1]
-    assert 'office_certificates{kind="user",state="signed"} 1\n' in figures and "office_serials_left 9\n" in figures
+
+
+# A line of Prometheus' text format.
+FIGURE = re.compile(r'# (HELP|TYPE) [a-z_]+ .+|[a-z_]+(\{[a-z]+="[a-z]+"(,[a-z]+="[a-z]+")*\})? [0-9.e-]+')
+
+
+def test_figures_of_an_office(clients, station, signed, alice):
+    """By a reader's certificate. One certificate is signed, one waits, and one is revoked."""
+    ana, watch = clients["ana"], clients["watch"]
+    for name in ("web/zoe", "web/late"):
+        assert 4 == ana("--wait", "1", "request", name, alice, "--principals", "alice")[0]
+    assert 0 == ana("revoke", "web/zoe", "--yes")[0]
+    until(lambda: " revoked " in watch("certs")[1] and "version 1" in watch("list", "--out", "list")[1], pause=1)
+    status, out, told = watch("figures", "--last", "100000")
+    assert [] == [line for line in out.splitlines() if not FIGURE.fullmatch(line)]
+    got = dict(line.split(" ") for line in out.splitlines() if not line.startswith("#"))
+    assert (0, "", "1") == (status, told, got["office_up"])
+    assert {"pending": "1", "signed": "1", "revoked": "1"} == {
+        state: got[f'office_certificates{{kind="user",state="{state}"}}'] for state in ("pending", "signed", "revoked")}
+    assert ("1", "1", str(100000 - 3), str(2 ** 63 - 3)) == tuple(got[f"office_{it}"] for it in (
+        'certificates_valid{kind="user"}', "list_version", "serials_left", "list_versions_left"))
+    assert abs(time.time() - float(got["office_list_changed_timestamp_seconds"])) < 120
+    # Since its first second, which is a minute before the request.
+    assert 60 <= int(got["office_pending_since_seconds"]) < 180
 
 
 def test_figures_without_an_office(clients, front):
     front.end()
     status, out, _ = clients["root"]("figures")
-    assert (3, "office_up 0") == (status, out.splitlines()[-1])
+    assert (3, ["office_up 0"]) == (status, [it for it in out.splitlines() if not it.startswith("#")])
+
+
+@pytest.mark.parametrize("words", [["--certificate", "/none"], ["--office", "ftp://127.0.0.1"]])
+def test_figures_say_that_the_office_is_away_if_nobody_can_be_asked(clients, words):
+    status, out, _ = clients["root"](*words, "figures")
+    assert (2, ["office_up 0"]) == (status, [it for it in out.splitlines() if not it.startswith("#")])
 
 
 # ---- departments
@@ -478,6 +574,61 @@ def test_doctor_looks_at_the_settings_of_sshd(clients, settings, due):
     assert due == {name: state for name, state in found.items() if name.startswith("sshd")}
 
 
+# ---- whose settings and whose outbox
+
+@pytest.mark.root
+@pytest.mark.parametrize("what, told", [
+    ("home/.local/state/vethlumi", "the outbox can't be used: {} belongs to nobody, and root runs this"),
+    ("home/.config/vethlumi.toml", "the settings can't be used: {} belongs to nobody, and root runs this"),
+])
+def test_what_belongs_to_another_user_is_not_used(room, what, told):
+    """As with `sudo -E`: root, with the HOME of somebody else."""
+    with Web(response(b"revoked\nversion 1\n")) as web:
+        client = Client(room / "home", web.url, caller="ana")
+        client.outbox.mkdir(parents=True)
+        client.outbox.joinpath("a").write_text("a\nrevoke-keyid web/zoe\n")
+        shutil.chown(room / what, "nobody")
+        for words in (["outbox", "--send"], ["revoke", "web/zoe", "--yes"]):
+            status, out, said = client(*words)
+            assert (2, "", f"vethlumi: {told.format(room / what)}") == (status, out, said.partition(". ")[0])
+        assert [] == web.requests and "a" == client.kept()[0].name
+
+
+@pytest.mark.root
+def test_an_outbox_is_not_made_in_a_folder_of_another_user(room):
+    with Web(response(b"revoked\nversion 1\n")) as web:
+        client = Client(room / "home", web.url, caller="ana")
+        (room / "home/.local").mkdir()
+        shutil.chown(room / "home/.local", "nobody")
+        status, _, told = client("revoke", "web/zoe", "--yes")
+        assert (2, []) == (status, web.requests) and f"{room / 'home/.local'} belongs to nobody" in told
+        assert [] == os.listdir(room / "home/.local")
+
+
+@pytest.mark.parametrize("mode, status", [(0o700, 0), (0o755, 0), (0o775, 2), (0o757, 2), (0o1777, 0)], ids=oct)
+def test_an_outbox_in_a_folder_that_others_can_write(room, monkeypatch, mode, status):
+    """In a folder like /tmp nobody can rename what is another's, so a folder is made there."""
+    (room / "shared").mkdir()
+    (room / "shared").chmod(mode)
+    with Web(response(b"revoked\nversion 1\n")) as web:
+        client = Client(room / "home", web.url, caller="ana")
+        monkeypatch.setattr(client, "environment", lambda found=client.environment(): found | {
+            "XDG_STATE_HOME": str(room / "shared")})
+        found, _, told = client("revoke", "web/zoe", "--yes")
+    assert status == found and ("others than its owner can write" in told) == (status == 2), told
+    if status == 0:
+        assert 0o700 == (room / "shared/vethlumi").stat().st_mode & 0o777
+
+
+def test_an_outbox_that_others_can_write_is_not_used(room):
+    with Web(response(b"revoked\nversion 1\n")) as web:
+        client = Client(room / "home", web.url, caller="ana")
+        client.outbox.mkdir(parents=True)
+        client.outbox.chmod(0o777)
+        status, _, told = client("outbox", "--send")
+        assert (2, []) == (status, web.requests) and "others than its owner can write" in told
+
+
 # ---- words and settings
 
 @pytest.mark.parametrize("words, told", [
@@ -502,6 +653,9 @@ def test_bad_words_end_with_2(clients, alice, words, told):
     ("office = 1\n", "is no setting"),
     ('port = "1"\n', "is no setting"), ("office\n", "vethlumi.toml"),
     ('office = "http://127.0.0.1:1"\ncertificate = "/none"\n', "can't read /none"),
+    ('office = "http://127.0.0.1:65536"\n', "is no URL with"), ('office = "http://:1"\n', "is no URL with"),
+    ('office = "http://127.0.0.1:a"\n', "is no URL with"), ('office = "http://[::1"\n', "is no URL with"),
+    ('office = "http://a b"\n', "is no URL with"), ('office = "http://a\\u001bb"\n', "is no URL with"),
 ])
 def test_bad_settings_end_with_2(room, settings, told):
     client = Client(room / "home", "")
