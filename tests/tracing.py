@@ -22,6 +22,7 @@ class Event:
     ended: int
     name: str
     paths: tuple
+    words: str
 
 
 def paths_of(name, words, folder):
@@ -44,7 +45,7 @@ def events(text, folder):
         if words.endswith("<unfinished ...>"):
             begun[process, name] = number, words
         elif re.search(r"\) += -1 ", words) is None or name in ("connect", "sendto"):
-            found.append(Event(at, number, name, paths_of(name, before + words, folder)))
+            found.append(Event(at, number, name, paths_of(name, before + words, folder), before + words))
     return found
 
 
@@ -95,8 +96,9 @@ class Trace:
         return min(it.ended for it in self.of(os.path.dirname(path), "fsync") if it.begun > moved)
 
     def first_sent(self):
-        """When the first connection was begun that leaves this machine's files: those to sockets of files are none."""
-        return min(it.begun for it in self.events if it.name in ("connect", "sendto"))
+        """When the first connection was begun by an address: a socket of a file isn't the office, nor one of the
+        kernel. A shell asks nscd by such a socket who its user is, if its environment doesn't say so."""
+        return min(it.begun for it in self.events if it.name == "connect" and "sa_family=AF_INET" in it.words)
 
     def unsynced_folders(self):
         """The folders that were made and of which the one above wasn't synced after."""

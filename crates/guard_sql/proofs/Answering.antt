@@ -11,17 +11,18 @@ use Rattle.store_sql.specs.declared.table_fault.Fault.TheVariants.{Damaged, Devi
 use Rattle.guard.specs.Judged.{HasCause}
 use Rattle.guard.specs.declared.register.RegisterFault.TheVariants as register
 use Rattle.guard.specs.State.{State}
-use Rattle.guard_sql.specs.Calls.{Fails, FindsSuch, Never}
-use Rattle.guard_sql.specs.Contents.{Contents, Holds, Kept}
+use Rattle.store_sql.specs.Calls.{Fails, Never}
+use Rattle.rows.specs.Calls.{FindsSuch}
+use Rattle.guard_sql.specs.Contents.{Contents, Holds, Kept, guard_tables}
 use Rattle.guard_sql.specs.Keeping.{HasFailed, HasGuard, IsGuard, Keeps, Leaves}
-use Rattle.guard_sql.specs.Refusals.{HasCauseOr}
+use Rattle.store_sql.specs.Refusals.{HasCauseOr}
 use Rattle.guard_sql.specs.Registering.{Leads, Shows}
 use Rattle.guard_sql.specs.Rows.{guard_contents}
-use Rattle.guard_sql.specs.Statements.{Found}
+use Rattle.rows.specs.Statements.{Found}
 use Rattle.guard_sql.specs.Told.{register_fault, told}
-use Rattle.guard_sql.specs.Transactions.{Has, Rests, Whole}
-use Rattle.guard_sql.proofs.Before.{fails_before, same_before}
-use Rattle.guard_sql.proofs.Wholes.{rests_still, still_outside}
+use Rattle.rows.specs.Transactions.{Has, Rests, Whole}
+use Rattle.rows.proofs.Before.{fails_before, same_before}
+use Rattle.rows.proofs.Wholes.{rests_still, still_outside}
 
 -- ---- failures
 
@@ -72,7 +73,7 @@ caused old new Device unlimited was cause = has_failed old new unlimited (was_op
 pub shows_found : {X Y : Type 0} {Such : Contents → Option X → Type 0} (Shown : State → Y → Type 0) (of : Option X → Y)
     → ((s : State) (trees : Trees) → IsGuard s → Holds trees (guard_contents s) → (x : Option X)
     → Such (guard_contents s) x → Shown s (of x)) → {old new : Connection} (r : Result (Option X) Fault)
-    → Found (FindsSuch Such) old new r → Shows Shown old new (told of r)
+    → Found guard_tables (FindsSuch guard_tables Such) old new r → Shows Shown old new (told of r)
 shows_found Shown of so {old = old} {new = new} (Ok x) found = record {
   honest = λ clean. omega (arith, found.survives.clean);
   before = λ clean. fails_before old new (inl (found.reads clean));
@@ -125,14 +126,14 @@ module _ (May : State → Type 0) (Room : Type 0) (next : State → State) (afte
     (same : (s : State) → after (guard_contents s) ≡ guard_contents (next s))
     (fits : (s : State) → IsGuard s → May s → Room → refused (guard_contents s) → ⊥) (old new : Connection)
     (settled : (trees : Trees) → IsTrue new.is_open → new.may_leave trees → trees ≡ new.committed.trees) where
-  cut_off : (r : Result (Unit {0}) Fault) → Whole after refused old new r → HasCleanDisk new → (s : State)
+  cut_off : (r : Result (Unit {0}) Fault) → Whole guard_tables after refused old new r → HasCleanDisk new → (s : State)
       → Keeps old s → Leaves old s s → Leaves new s (next s)
   cut_off r whole clean s keeps left trees may = elim (whole.survives.crash clean trees may) [
     | inl was ↦ widened old s (next s) left trees was
     | inr more ↦ inr (subst (Kept trees) (same s) (more.1 (guard_contents s) (keeps.rows more.0)))
   ]
 
-  pub leads_whole : (r : Result (Unit {0}) Fault) → Whole after refused old new r
+  pub leads_whole : (r : Result (Unit {0}) Fault) → Whole guard_tables after refused old new r
       → Leads May Room next old new (told (λ x. x) r)
   leads_whole (Ok x) whole = record {
     honest = λ clean. omega (arith, whole.survives.clean);
@@ -140,7 +141,7 @@ module _ (May : State → Type 0) (Room : Type 0) (next : State → State) (afte
     kept = λ clean s keeps may.
         let e = whole.ends clean in
         let rests : HasGuard (next s) new =
-        subst (λ c. Rests (Has c) new) (same s) (e.2 (guard_contents s) (keeps.rows e.0)).1 in
+        subst (λ c. Rests (Has guard_tables c) new) (same s) (e.2 (guard_contents s) (keeps.rows e.0)).1 in
         record {
           guard = lawful s keeps.guard may;
           unlimited = whole.survives.limit ∙ keeps.unlimited;
@@ -151,7 +152,7 @@ module _ (May : State → Type 0) (Room : Type 0) (next : State → State) (afte
     durable = λ clean s keeps may trees left.
         let e = whole.ends clean in
         let rests : HasGuard (next s) new =
-        subst (λ c. Rests (Has c) new) (same s) (e.2 (guard_contents s) (keeps.rows e.0)).1 in
+        subst (λ c. Rests (Has guard_tables c) new) (same s) (e.2 (guard_contents s) (keeps.rows e.0)).1 in
         inl (subst (λ (t : Trees). Kept t (guard_contents (next s))) (sym (settled trees e.1 left)) rests.committed.kept);
     crash = λ clean s keeps left may. cut_off (Ok x) whole clean s keeps left;
     cause = λ clean s keeps may room. tt;

@@ -1,14 +1,14 @@
 -- The statements on the table of approved bodies, and why a body is refused.
-use Rattle.guard_sql.proofs.Words.{AllByRecursion, ApprovalRow, Binary, Blob, Compare, Contents, Eq, Equal}
-use Rattle.guard_sql.proofs.Words.{FIND_APPROVED, FROM_APPROVED, FailsBy, Fault, Ge, Has, Holds, INSERT_APPROVED}
-use Rattle.guard_sql.proofs.Words.{Insert, Int, IsAnswer, IsPermutation, IsPermutation-refl, IsSorted, IsTooLong, Key}
-use Rattle.guard_sql.proofs.Words.{List, Null, Output, Query, RefusedFor, RefusesApproval, Result, Row, State, Term}
-use Rattle.guard_sql.proofs.Words.{Trees, Values, [], and-true, ap, approval_cells, approval_places, approved_at}
-use Rattle.guard_sql.proofs.Words.{approved_under, ap₂, arith, ascending, at_places, binary, codes, col, column, drop}
-use Rattle.guard_sql.proofs.Words.{equal, everything, filter, has_serial, inl, inr, is_true, lit, lt-ltb, map, nat_le}
-use Rattle.guard_sql.proofs.Words.{op2, overlay, pos, refl, rowid, subst, sym, take, tied_itself, tied_same}
-use Rattle.guard_sql.proofs.Words.{true, value_cmp, value_cmp_total, whole, with_approval, ℕ, ◌&&◌, ◌<◌, ◌^◌, ◌∙◌}
-use Rattle.guard_sql.proofs.Words.{◌∷◌, ◌≡◌}
+use Rattle.rows.proofs.Words.{AllByRecursion, Binary, Blob, Compare, Eq, Equal, FailsBy, Fault, Ge, Has, Insert, Int}
+use Rattle.rows.proofs.Words.{IsAnswer, IsPermutation, IsPermutation-refl, IsSorted, IsTooLong, Key, List, Null, Output}
+use Rattle.rows.proofs.Words.{Query, RefusedFor, Result, Row, State, Term, Trees, Values, and-true, ap, ap₂, arith}
+use Rattle.rows.proofs.Words.{ascending, at_places, binary, codes, col, column, drop, equal, everything, filter, inl}
+use Rattle.rows.proofs.Words.{inr, is_true, lit, lt-ltb, map, nat_le, op2, overlay, pos, refl, rowid, subst, sym, take}
+use Rattle.rows.proofs.Words.{tied_itself, tied_same, true, value_cmp, value_cmp_total, [], ℕ, ◌&&◌, ◌<◌, ◌^◌, ◌∙◌, ◌∷◌}
+use Rattle.rows.proofs.Words.{◌≡◌}
+use Rattle.guard_sql.proofs.Words.{ApprovalRow, Contents, FIND_APPROVED, FROM_APPROVED, Holds, INSERT_APPROVED}
+use Rattle.guard_sql.proofs.Words.{RefusesApproval, approval_cells, approval_places, approved_at, approved_under}
+use Rattle.guard_sql.proofs.Words.{has_serial, whole, with_approval}
 use Rattle.store_sql.proofs.CallLemmas.{FindIn, IsSelect}
 use Rattle.store_sql.proofs.Edits.{of_row}
 use Rattle.store_sql.proofs.FaultLemmas.{none_overflows}
@@ -19,12 +19,13 @@ use Rattle.store_sql.proofs.Rows.{cast_int, cast_null, ge_number, same_number}
 use Rattle.store_sql.proofs.Selects.{AscendBy, IsTreeOf, select}
 use Rattle.store_sql.proofs.Texts.{query, statement}
 use Rattle.store_sql.proofs.Inserts.{taken_number}
-use Rattle.guard_sql.proofs.CallLemmas.{Find, Write}
-use Rattle.guard_sql.proofs.Elsewhere.{approval_apart, in_approved}
+use Rattle.rows.proofs.CallLemmas.{Find, Write}
+use Rattle.guard_sql.proofs.Elsewhere.{approval_apart, in_approved, simple}
 use Rattle.guard_sql.proofs.FirstFrom.{first_from, first_is_least, rises, rising}
-use Rattle.guard_sql.proofs.FaultLemmas.{HasWriteCause, IsStatement}
-use Rattle.guard_sql.proofs.Inserts.{IsInsert, insert, insert_fails}
-use Rattle.guard_sql.proofs.Reasons.{IsPut, unclashed}
+use Rattle.rows.proofs.FaultLemmas.{HasWriteCause, IsStatement}
+use Rattle.rows.proofs.Inserts.{IsInsert, insert, insert_fails}
+use Rattle.rows.proofs.Reasons.{IsPut, unclashed}
+use Rattle.guard_sql.specs.Contents.{guard_tables}
 
 pub tree : IsTreeOf Holds approval_cells approval_places 1 (λ c. c.approved)
 tree = record { stored = λ trees. refl; held = λ trees c h. h.approved; apart = approval_apart }
@@ -37,13 +38,14 @@ terms = col 0 0 ∷ lit Null ∷ col 0 1 ∷ col 0 2 ∷ []
 abbrev pub approval_row : ApprovalRow → Row
 approval_row x = Int (pos x.serial) ∷ Null ∷ Int (pos x.moment) ∷ Blob x.body ∷ []
 
-insert_is : IsStatement INSERT_APPROVED.now (Insert 1 (Values terms 4)) 3
+insert_is : IsStatement guard_tables INSERT_APPROVED.now (Insert 1 (Values terms 4)) 3
 unfolding everything
 insert_is = statement whole INSERT_APPROVED.now _ 3 refl refl
 
-pub puts : IsInsert INSERT_APPROVED.now approval_cells approval_places 1 approved_at terms 4 with_approval
+pub puts : IsInsert guard_tables INSERT_APPROVED.now approval_cells approval_places 1 approved_at terms 4 with_approval
     (λ c. c.approved) (λ x rows. approval_row x)
 puts = record {
+  simple = simple;
   tree = tree;
   found = refl;
   is = λ x. insert_is;
@@ -53,7 +55,7 @@ puts = record {
   held = λ x db after c h o put. in_approved db after c h (x ∷ c.approved) o;
 }
 
-pub put : (x : ApprovalRow) → Write INSERT_APPROVED.now (approval_cells x) (with_approval x)
+pub put : (x : ApprovalRow) → Write guard_tables INSERT_APPROVED.now (approval_cells x) (with_approval x)
 put = insert puts
 
 -- ---- SELECT of one row
@@ -72,7 +74,7 @@ pub find_is : IsSelect whole FIND_APPROVED.now
 unfolding everything
 find_is = query whole FIND_APPROVED.now _ _ 1 refl refl
 
-pub find : (serial : ℕ) → Find FIND_APPROVED.now (Int (pos serial) ∷ []) approval_cells (approved_under serial)
+pub find : (serial : ℕ) → Find guard_tables FIND_APPROVED.now (Int (pos serial) ∷ []) approval_cells (approved_under serial)
 find serial = select tree find_is (has_serial serial)
     (λ v. is_true (binary (Compare Eq Binary) (column v 0) (Int (pos serial))) && true)
     shown_row (λ x. and-true _ ∙ int_test (pos x.serial) (pos serial) ∙ same_number x.serial serial) (λ x. refl) (λ r. refl)
@@ -181,13 +183,13 @@ pub serial_apart : (trees : Trees) (c : Contents) → Holds trees c → (x y : A
     → Has c.approved y → x.serial ≡ y.serial → x ≡ y
 serial_apart = apart_by_serial tree (λ (a : ApprovalRow). a.serial) (λ x. refl) (λ x. refl)
 
-pub from : (n : ℕ) → Find FROM_APPROVED.now (Int (pos n) ∷ []) approval_cells
+pub from : (n : ℕ) → Find guard_tables FROM_APPROVED.now (Int (pos n) ∷ []) approval_cells
     (λ c. first_from (λ (a : ApprovalRow). a.serial) n c.approved)
 from = from_of tree (λ (a : ApprovalRow). a.serial) (λ x. refl) (λ x. refl)
 
 -- ---- why a body is refused
 
-is_put : (x : ApprovalRow) → IsPut approved_at (approval_row x)
+is_put : (x : ApprovalRow) → IsPut whole approved_at (approval_row x)
 is_put x = record {
   listed = inr (inl refl);
   formed = (refl, refl, refl, refl);
@@ -202,11 +204,11 @@ approval_long : (x : ApprovalRow) → 10 ^ 9 < size (approval_row x) → IsTooLo
 approval_long x long = omega (arith, long)
 
 pub approval_fails : {X : Type 0} (x : ApprovalRow) → x.serial < 2 ^ 63 → (old new : State) (r : Result X Fault)
-    → FailsBy (HasWriteCause INSERT_APPROVED.now (approval_cells x)) old new r
-    → RefusedFor (RefusesApproval x) old new r
+    → FailsBy guard_tables (HasWriteCause guard_tables INSERT_APPROVED.now (approval_cells x)) old new r
+    → RefusedFor guard_tables (RefusesApproval x) old new r
 approval_fails x below = insert_fails puts x (RefusesApproval x) (λ s. is_put x)
     (λ s c means out. never (lt-ltb x.serial (2 ^ 63) below) out)
     (λ s c means taken. inl (taken_number (λ y. y.serial) x.serial (drop 1 (approval_row x))
     (λ y r is. ap (λ v. column v 0) is) means.kept.holds.approved taken))
-    (λ s c means clash. absurd (unclashed s.now.trees approved_at [] (approval_row x) tt clash))
+    (λ s c means clash. absurd (unclashed whole simple s.now.trees approved_at [] (approval_row x) tt clash))
     (λ s c long. inr (approval_long x long))

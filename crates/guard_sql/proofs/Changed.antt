@@ -14,13 +14,13 @@ use Rattle.guard.specs.Judged.{IsKeepable}
 use Rattle.guard.specs.Machine.{State, body_of, with_approved}
 use Rattle.guard.specs.Retiring.{IsLowered, with_last}
 use Rattle.guard_sql.specs.Changes.{with_approval, with_last as with_last_row}
-use Rattle.guard_sql.specs.Contents.{no_contents}
+use Rattle.guard_sql.specs.Contents.{guard_tables, no_contents}
 use Rattle.guard_sql.specs.Keeping.{IsGuard, IsScope}
 use Rattle.guard_sql.specs.Refusals.{RefusesApproval, RefusesGuard, RefusesLast}
 use Rattle.guard_sql.specs.Registering.{Leads}
 use Rattle.guard_sql.specs.Rows.{approval_row, guard_contents, guard_row}
 use Rattle.guard_sql.specs.Told.{told}
-use Rattle.guard_sql.specs.Transactions.{Whole}
+use Rattle.rows.specs.Transactions.{Whole}
 use Rattle.store_sql.specs.declared.table_fault.Fault.{Fault}
 use Rattle.guard_sql.proofs.Answering.{leads_whole}
 use Rattle.guard_sql.proofs.Newest.{body_has, free, one_more}
@@ -87,13 +87,13 @@ module _ (old new : Connection)
     (settled : (trees : Trees) → IsTrue new.is_open → new.may_leave trees → trees ≡ new.committed.trees)
     (r : Result (Unit {0}) Fault) where
   pub body_kept : (row : Approved) → row.serial < 2 ^ 63
-      → Whole (with_approval (approval_row row)) (RefusesApproval (approval_row row)) old new r
+      → Whole guard_tables (with_approval (approval_row row)) (RefusesApproval (approval_row row)) old new r
       → Leads (λ s. body_of s row.serial ≡ None) (IsKeepable row) (λ s. with_approved s row) old new (told (λ x. x) r)
   body_kept row low = leads_whole (λ s. body_of s row.serial ≡ None) (IsKeepable row) (λ s. with_approved s row)
       (with_approval (approval_row row)) (RefusesApproval (approval_row row)) (λ s guard none. more_lawful row low s guard)
       (more_same row) (λ s guard none room. more_fits row s none room) old new settled r
 
-  pub last_set : (last : ℕ) → Whole (with_last_row last) (RefusesLast last) old new r
+  pub last_set : (last : ℕ) → Whole guard_tables (with_last_row last) (RefusesLast last) old new r
       → Leads (λ s. IsLowered s last) (Unit {0}) (λ s. with_last s last) old new (told (λ x. x) r)
   last_set last = leads_whole (λ s. IsLowered s last) (Unit {0}) (λ s. with_last s last) (with_last_row last)
       (RefusesLast last) (lower_lawful last) (lower_same last) (λ s guard to room. lower_fits last s guard) old new

@@ -1,10 +1,10 @@
 -- The table of approved bodies, whatever its rows hold.
-use Rattle.guard_sql.proofs.Words.{ApprovalRow, Binary, Compare, Eq, Error, FIND_APPROVED, FROM_APPROVED, FailsToQuery}
-use Rattle.guard_sql.proofs.Words.{Fault, Global, all-permutation}
-use Rattle.guard_sql.proofs.Words.{HasCleanDisk, IfErr, IfOk, Int, IsFirstRead, IsPermutation, List, None, Ok, Err, Option}
-use Rattle.guard_sql.proofs.Words.{Result, Row, Shown, Some, State, Trees, Vec, [], and-true, approval_cells, approval_places}
-use Rattle.guard_sql.proofs.Words.{ap, arith, binary, column, is_true, length_permutation, map, number_in, pos, refl, subst, sym}
-use Rattle.guard_sql.proofs.Words.{true, whole, ℕ, ◌&&◌, ◌==◌, ◌∙◌, ◌∷◌, ◌≡◌, ◌<◌, ◌^◌}
+use Rattle.guard_sql.proofs.Words.{ApprovalRow, FIND_APPROVED, FROM_APPROVED, approval_cells, approval_places, whole}
+use Rattle.rows.proofs.Words.{Binary, Compare, Eq, Err, Error, FailsToQuery, Fault, Global, HasCleanDisk, IfErr, IfOk}
+use Rattle.rows.proofs.Words.{Int, IsFirstRead, IsPermutation, List, None, Ok, Option, Result, Row, Shown, Some, State}
+use Rattle.rows.proofs.Words.{Trees, Vec, all-permutation, and-true, ap, arith, binary, column, is_true}
+use Rattle.rows.proofs.Words.{length_permutation, map, number_in, pos, refl, subst, sym, true, [], ℕ, ◌&&◌, ◌<◌, ◌==◌}
+use Rattle.rows.proofs.Words.{◌^◌, ◌∙◌, ◌∷◌, ◌≡◌}
 use Rattle.std.specs.Option.{option_map}
 use Rattle.sqlite.specs.Effect.{Database}
 use Rattle.store_sql.specs.Contents.{Lists}

@@ -1,11 +1,11 @@
 -- The element of a list with the least serial from a given one on.
-use Rattle.guard_sql.proofs.Words.{AllByRecursion, Binary, Equal, Greater, Has, Int, IsLeastFrom}
-use Rattle.guard_sql.proofs.Words.{IsOneOf, IsPermutation, IsPermutation-sym, IsSorted, IsSorted-from_map, Less, List}
-use Rattle.guard_sql.proofs.Words.{None, Option, Ordering, Row, Some, [], all-permutation, all_from, all_has}
-use Rattle.guard_sql.proofs.Words.{ap₂, arith, ascending, cases_Bool, column, false, filter}
-use Rattle.guard_sql.proofs.Words.{has_filtered, has_kept, if◌then◌else◌, inl, inr, key_cmp, length_permutation, map}
-use Rattle.guard_sql.proofs.Words.{nat_cmp, nat_le, nat_tests, pos, refl, subst, suc, sym, take, true, value_cmp, ℕ}
-use Rattle.guard_sql.proofs.Words.{◌<◌, ◌∙◌, ◌∷◌, ◌≡◌, ◌≤◌}
+use Rattle.rows.proofs.Words.{AllByRecursion, Binary, Equal, Greater, Has, Int, IsOneOf, IsPermutation}
+use Rattle.rows.proofs.Words.{IsPermutation-sym, IsSorted, IsSorted-from_map, Less, List, None, Option, Ordering, Row}
+use Rattle.rows.proofs.Words.{Some, all-permutation, all_from, all_has, ap₂, arith, ascending, cases_Bool, column}
+use Rattle.rows.proofs.Words.{false, filter, has_filtered, has_kept, if◌then◌else◌, inl, inr, key_cmp}
+use Rattle.rows.proofs.Words.{length_permutation, map, nat_cmp, nat_le, nat_tests, pos, refl, subst, suc, sym, take}
+use Rattle.rows.proofs.Words.{true, value_cmp, [], ℕ, ◌<◌, ◌∙◌, ◌∷◌, ◌≡◌, ◌≤◌}
+use Rattle.guard_sql.proofs.Words.{IsLeastFrom}
 use Rattle.std.proofs.Common.{is_lt, add-one}
 use Rattle.sqlite_trees.proofs.ListLemmas.{all_weaker}
 use Rattle.store_sql.proofs.Selects.{AscendBy, number_cmp}

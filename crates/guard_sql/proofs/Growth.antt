@@ -1,13 +1,14 @@
 -- The tables are made one after the other.
-use Rattle.guard_sql.proofs.Words.{Bool, Completes, Creates, Err, Fault, HasCleanDisk, IsBare, IsPermutation-refl}
-use Rattle.guard_sql.proofs.Words.{IsSound, List, Lists, Ok, Result, Row, State, Stays, Survives, WaitsAt, []}
-use Rattle.guard_sql.proofs.Words.{approval_cells, approval_places, approved, arith, false, guard, guard_cells}
-use Rattle.guard_sql.proofs.Words.{guard_places, if◌then◌else◌, no_schema, subst, survives_then, sym}
-use Rattle.guard_sql.proofs.Words.{through_guard, true, ℕ, ◌∙◌, ◌≡◌}
+use Rattle.rows.proofs.Words.{Bool, Completes, Creates, Err, Fault, HasCleanDisk, IsBare, IsPermutation-refl, IsSound}
+use Rattle.rows.proofs.Words.{List, Lists, Ok, Result, Row, State, Stays, Survives, WaitsAt, arith, false}
+use Rattle.rows.proofs.Words.{if◌then◌else◌, no_schema, subst, survives_then, sym, true, [], ℕ, ◌∙◌, ◌≡◌}
+use Rattle.guard_sql.proofs.Words.{approval_cells, approval_places, approved, guard, guard_cells, guard_places}
+use Rattle.guard_sql.proofs.Words.{through_guard}
 use Rattle.std.proofs.lemmas.Result.{IfErr-weaker}
 use Rattle.store_sql.proofs.Later.{cause_then, inside_is, stops}
 use Rattle.store_sql.proofs.Staying.{stays_then}
-use Rattle.guard_sql.specs.Calls.{FailsWhere}
+use Rattle.store_sql.specs.Calls.{FailsWhere}
+use Rattle.guard_sql.specs.Contents.{guard_tables}
 
 -- a table with no row
 lists_none : {X : Type 0} (cells : X → Row) (places : List ℕ) (rows : List Row) → rows ≡ [] → Lists cells places rows []
@@ -26,10 +27,10 @@ module _ (a b d : State) (r : Result (Unit {0}) Fault)
   early : HasCleanDisk d → HasCleanDisk b
   early clean = omega (arith, second.clean)
 
-  pub completed : (HasCleanDisk d → Creates through_guard approved b d r) → HasCleanDisk d → Completes no_schema a d r
+  pub completed : (HasCleanDisk d → Creates through_guard approved b d r) → HasCleanDisk d → Completes guard_tables no_schema a d r
   completed two clean = go r (two clean)
     where
-      go : (r : Result (Unit {0}) Fault) → Creates through_guard approved b d r → Completes no_schema a d r
+      go : (r : Result (Unit {0}) Fault) → Creates through_guard approved b d r → Completes guard_tables no_schema a d r
       go (Ok x) two = λ bare.
           let p = one (early clean) bare.0 in
           let q = two p.schema in

@@ -1,10 +1,11 @@
 -- The statements on the table of the guard, and why its row is refused.
-use Rattle.guard_sql.proofs.Words.{AllByRecursion, Binary, Blob, Compare, Database, EVERY_GUARD, Eq, FailsBy, Fault}
-use Rattle.guard_sql.proofs.Words.{GuardRow, HasGuards, Holds, INSERT_GUARD, Insert, Int, IsTooLong, LOWER_GUARD}
-use Rattle.guard_sql.proofs.Words.{List, Lists, Null, RefusedFor, RefusesGuard, RefusesLast, Result, Row, State, Term}
-use Rattle.guard_sql.proofs.Words.{Trees, Update, Values, [], ap, arith, codes, col, column, drop, ending_at}
-use Rattle.guard_sql.proofs.Words.{everything, guard_at, guard_cells, guard_places, inl, inr, lit, lt-ltb, op2, pos}
-use Rattle.guard_sql.proofs.Words.{refl, true, whole, with_guard, with_last, ℕ, ◌<◌, ◌^◌, ◌∷◌, ◌≡◌}
+use Rattle.rows.proofs.Words.{AllByRecursion, Binary, Blob, Compare, Database, Eq, FailsBy, Fault, Insert, Int}
+use Rattle.rows.proofs.Words.{IsTooLong, List, Lists, Null, RefusedFor, Result, Row, State, Term, Trees, Update, Values}
+use Rattle.rows.proofs.Words.{ap, arith, codes, col, column, drop, everything, inl, inr, lit, lt-ltb, op2, pos, refl}
+use Rattle.rows.proofs.Words.{true, [], ℕ, ◌<◌, ◌^◌, ◌∷◌, ◌≡◌}
+use Rattle.guard_sql.proofs.Words.{EVERY_GUARD, GuardRow, HasGuards, Holds, INSERT_GUARD, LOWER_GUARD, RefusesGuard}
+use Rattle.guard_sql.proofs.Words.{RefusesLast, ending_at, guard_at, guard_cells, guard_places, whole, with_guard}
+use Rattle.guard_sql.proofs.Words.{with_last}
 use Rattle.store_sql.proofs.CallLemmas.{FindIn, IsSelect}
 use Rattle.store_sql.proofs.Edits.{keep_all}
 use Rattle.store_sql.proofs.Queries.{on_table}
@@ -13,12 +14,13 @@ use Rattle.store_sql.proofs.Rows.{cast_int, cast_null}
 use Rattle.store_sql.proofs.Selects.{IsTreeOf, select}
 use Rattle.store_sql.proofs.Texts.{query, statement}
 use Rattle.store_sql.proofs.Inserts.{taken_number}
-use Rattle.guard_sql.proofs.CallLemmas.{Write}
-use Rattle.guard_sql.proofs.Elsewhere.{guard_apart, in_guard}
-use Rattle.guard_sql.proofs.FaultLemmas.{HasWriteCause, IsStatement}
-use Rattle.guard_sql.proofs.Inserts.{IsInsert, insert, insert_fails}
+use Rattle.rows.proofs.CallLemmas.{Write}
+use Rattle.guard_sql.proofs.Elsewhere.{guard_apart, in_guard, simple}
+use Rattle.rows.proofs.FaultLemmas.{HasWriteCause, IsStatement}
+use Rattle.rows.proofs.Inserts.{IsInsert, insert, insert_fails}
 use Rattle.guard_sql.proofs.NumberUpdates.{IsUpdate, update, update_fails}
-use Rattle.guard_sql.proofs.Reasons.{IsPut, unclashed}
+use Rattle.rows.proofs.Reasons.{IsPut, unclashed}
+use Rattle.guard_sql.specs.Contents.{guard_tables}
 
 pub tree : IsTreeOf Holds guard_cells guard_places 0 (λ c. c.guards)
 tree = record { stored = λ trees. refl; held = λ trees c h. h.guards; apart = guard_apart }
@@ -31,13 +33,14 @@ terms = col 0 0 ∷ lit Null ∷ col 0 1 ∷ col 0 2 ∷ col 0 3 ∷ col 0 4 ∷
 abbrev pub guard_row : GuardRow → Row
 guard_row x = Int (pos x.id) ∷ Null ∷ Int (pos x.schema) ∷ Blob x.ca ∷ Int (pos x.first) ∷ Int (pos x.last) ∷ []
 
-insert_is : IsStatement INSERT_GUARD.now (Insert 0 (Values terms 6)) 5
+insert_is : IsStatement guard_tables INSERT_GUARD.now (Insert 0 (Values terms 6)) 5
 unfolding everything
 insert_is = statement whole INSERT_GUARD.now _ 5 refl refl
 
-pub puts : IsInsert INSERT_GUARD.now guard_cells guard_places 0 guard_at terms 6 with_guard (λ c. c.guards)
+pub puts : IsInsert guard_tables INSERT_GUARD.now guard_cells guard_places 0 guard_at terms 6 with_guard (λ c. c.guards)
     (λ x rows. guard_row x)
 puts = record {
+  simple = simple;
   tree = tree;
   found = refl;
   is = λ x. insert_is;
@@ -47,7 +50,7 @@ puts = record {
   held = λ x db after c h o put. in_guard db after c h (x ∷ c.guards) o;
 }
 
-pub put : (x : GuardRow) → Write INSERT_GUARD.now (guard_cells x) (with_guard x)
+pub put : (x : GuardRow) → Write guard_tables INSERT_GUARD.now (guard_cells x) (with_guard x)
 put = insert puts
 
 -- ---- SELECT of all
@@ -84,7 +87,7 @@ last_test = op2 (Compare Eq Binary) (col 1 0) (lit (Int (pos 1))) ∷ []
 abbrev pub last_project : List Term
 last_project = col 1 0 ∷ col 1 0 ∷ lit Null ∷ col 1 2 ∷ col 1 3 ∷ col 1 4 ∷ col 0 0 ∷ []
 
-last_is : IsStatement LOWER_GUARD.now (Update 0 (record { lets = []; body = on_table 0 last_test last_project [] })) 1
+last_is : IsStatement guard_tables LOWER_GUARD.now (Update 0 (record { lets = []; body = on_table 0 last_test last_project [] })) 1
 unfolding everything
 last_is = statement whole LOWER_GUARD.now _ 1 refl refl
 
@@ -110,12 +113,12 @@ module _ (last : ℕ) where
     held = λ db next c h o. in_guard db next c h _ o;
   }
 
-  pub end : Write LOWER_GUARD.now last_params (with_last last)
+  pub end : Write guard_tables LOWER_GUARD.now last_params (with_last last)
   end = update ends
 
 -- ---- why a row is refused
 
-pub is_put : (x : GuardRow) → IsPut guard_at (guard_row x)
+pub is_put : (x : GuardRow) → IsPut whole guard_at (guard_row x)
 is_put x = record {
   listed = inl refl;
   formed = (refl, refl, refl, refl);
@@ -130,14 +133,14 @@ guard_long : (x : GuardRow) → 10 ^ 9 < size (guard_row x) → IsTooLong (guard
 guard_long x long = omega (arith, long)
 
 pub guard_fails : {X : Type 0} (x : GuardRow) → x.id < 2 ^ 63 → (old new : State) (r : Result X Fault)
-    → FailsBy (HasWriteCause INSERT_GUARD.now (guard_cells x)) old new r → RefusedFor (RefusesGuard x) old new r
+    → FailsBy guard_tables (HasWriteCause guard_tables INSERT_GUARD.now (guard_cells x)) old new r → RefusedFor guard_tables (RefusesGuard x) old new r
 guard_fails x below = insert_fails puts x (RefusesGuard x) (λ s. is_put x)
     (λ s c means out. never (lt-ltb x.id (2 ^ 63) below) out)
     (λ s c means taken. inl (taken_number (λ y. y.id) x.id (drop 1 (guard_row x)) (λ y r is. ap (λ v. column v 0) is)
-    means.kept.holds.guards taken)) (λ s c means clash. absurd (unclashed s.now.trees guard_at [] (guard_row x) tt clash))
+    means.kept.holds.guards taken)) (λ s c means clash. absurd (unclashed whole simple s.now.trees guard_at [] (guard_row x) tt clash))
     (λ s c long. inr (guard_long x long))
 
 pub last_fails : {X : Type 0} (last : ℕ) (old new : State) (r : Result X Fault)
-    → FailsBy (HasWriteCause LOWER_GUARD.now (last_params last)) old new r → RefusedFor (RefusesLast last) old new r
+    → FailsBy guard_tables (HasWriteCause guard_tables LOWER_GUARD.now (last_params last)) old new r → RefusedFor guard_tables (RefusesLast last) old new r
 last_fails last =
     update_fails (ends last) (inl refl) refl (λ x. refl) (λ x. refl) guard_long tt is_put

@@ -1,7 +1,7 @@
 -- The CREATE statements of a guard's tables.
-use Rattle.guard_sql.proofs.Words.{CREATE_APPROVED, CREATE_GUARD, CreateTable, Ok, ap, approved, everything, guard}
-use Rattle.guard_sql.proofs.Words.{no_schema, refl, same_name, statement_of, table_defined_by, through_guard}
-use Rattle.guard_sql.proofs.Words.{value_cmp, ◌≡◌}
+use Rattle.guard_sql.proofs.Words.{CREATE_APPROVED, CREATE_GUARD, approved, guard, through_guard}
+use Rattle.rows.proofs.Words.{CreateTable, Ok, ap, everything, no_schema, refl, same_name, statement_of}
+use Rattle.rows.proofs.Words.{table_defined_by, value_cmp, ◌≡◌}
 use Rattle.sqlite_resolve.specs.Compile.{compiled}
 use Rattle.sqlite_trees.specs.Sound.{begins, fits_kind, is_free_name, same_name as same_letters}
 use Rattle.std.specs.Str.{is_utf8, chars}

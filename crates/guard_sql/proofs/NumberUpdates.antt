@@ -1,21 +1,22 @@
 -- UPDATE of the struct with one number, in any table: the contents after it, and why it is refused.
-use Rattle.guard_sql.proofs.Words.{All, AllByRecursion, Applies, BadReference, Binary, Bool, Check, Command, Compare}
-use Rattle.guard_sql.proofs.Words.{Contents, Database, Datatype, Does, Edit, Enforced, Eq, FailsBy, Fault, ForeignKey}
-use Rattle.guard_sql.proofs.Words.{Given, Has, HasOne, Holds, Int, IsPermutation, IsTooLong, Keeps, List, Lists}
-use Rattle.guard_sql.proofs.Words.{Means, Mismatch, NoRowid, None, NotNull, Null, Ok, Option, PrimaryKey, Program}
-use Rattle.guard_sql.proofs.Words.{Refers, RefusedFor, Result, Row, Some, State, Table, Tally, Term, TooDeep, Trees}
-use Rattle.guard_sql.proofs.Words.{Unique, Update, Violates, [], accepts_program, all_has, and-true, ap, at_places}
-use Rattle.guard_sql.proofs.Words.{binary, cases_Bool, cast_row, column, cond, edit_of, eqb-true, eval_all, false}
-use Rattle.guard_sql.proofs.Words.{filter, fits_i64, guards, holds, id_in, ids_of, inl, inr, is_int, is_true, length}
-use Rattle.guard_sql.proofs.Words.{list_all, map, nat_lt, pos, references_fit, refl, rowid, slice_get, statement_of}
-use Rattle.guard_sql.proofs.Words.{subst, sym, true, understood, whole, with_tree, ℕ, ℤ, ◌&&◌, ◌<◌, ◌==◌, ◌^◌, ◌∙◌}
-use Rattle.guard_sql.proofs.Words.{◌∷◌, ◌≡◌}
-use Rattle.guard_sql.proofs.Reasons.{fit, IsPut, halted, one, unclashed}
+use Rattle.rows.proofs.Words.{All, AllByRecursion, Applies, BadReference, Binary, Bool, Check, Command, Compare}
+use Rattle.rows.proofs.Words.{Database, Datatype, Does, Edit, Enforced, Eq, FailsBy, Fault, ForeignKey, Given, Has}
+use Rattle.rows.proofs.Words.{HasOne, Int, IsPermutation, IsTooLong, Keeps, List, Lists, Mismatch, NoRowid, None}
+use Rattle.rows.proofs.Words.{NotNull, Null, Ok, Option, PrimaryKey, Program, Refers, RefusedFor, Result, Row, Some}
+use Rattle.rows.proofs.Words.{State, Table, Tally, Term, TooDeep, Trees, Unique, Update, Violates, accepts_program}
+use Rattle.rows.proofs.Words.{all_has, and-true, ap, at_places, binary, cases_Bool, cast_row, column, cond, edit_of}
+use Rattle.rows.proofs.Words.{eqb-true, eval_all, false, filter, fits_i64, guards, holds, id_in, ids_of, inl, inr}
+use Rattle.rows.proofs.Words.{is_int, is_true, length, list_all, map, nat_lt, pos, references_fit, refl, rowid}
+use Rattle.rows.proofs.Words.{slice_get, statement_of, subst, sym, true, understood, with_tree, [], ℕ, ℤ, ◌&&◌, ◌<◌}
+use Rattle.rows.proofs.Words.{◌==◌, ◌^◌, ◌∙◌, ◌∷◌, ◌≡◌}
+use Rattle.guard_sql.proofs.Words.{Contents, Holds, Means, whole}
+use Rattle.rows.proofs.Reasons.{IsPut, halted, one, removal_halts, unclashed}
 use Rattle.sqlite_rules.specs.Edit.{edited}
-use Rattle.guard_sql.proofs.CallLemmas.{Write}
-use Rattle.guard_sql.proofs.Elsewhere.{Spares}
-use Rattle.guard_sql.proofs.FaultLemmas.{HasWriteCause, IsStatement, Stops, refused_for}
-use Rattle.guard_sql.proofs.Inserts.{no_works, all_refer}
+use Rattle.rows.proofs.CallLemmas.{Write}
+use Rattle.rows.proofs.Edits.{Spares, lists_changed}
+use Rattle.guard_sql.proofs.Elsewhere.{simple}
+use Rattle.rows.proofs.FaultLemmas.{HasWriteCause, IsStatement, Stops, refused_for}
+use Rattle.rows.proofs.Inserts.{all_refer}
 use Rattle.store_sql.proofs.FaultLemmas.{none_overflows}
 use Rattle.store_sql.proofs.NumberUpdates.{IsSole, freed, picked}
 use Rattle.store_sql.proofs.Reasons.{size}
@@ -24,9 +25,9 @@ use Rattle.store_sql.proofs.Queries.{int_test, on_table, selected}
 use Rattle.store_sql.proofs.Selects.{IsTreeOf}
 use Rattle.store_sql.proofs.Statements.{mode, uncounted, updates}
 use Rattle.store_sql.proofs.Stops.{IsHalted, update_halts}
-use Rattle.guard_sql.proofs.Edits.{lists_changed}
 use Rattle.sqlite_rules.proofs.RuleLemmas.{keeps_same}
 use Rattle.sqlite_schema.specs.Rules.{Obeys}
+use Rattle.guard_sql.specs.Contents.{guard_tables}
 
 -- ---- no row at all
 
@@ -36,33 +37,12 @@ same_trees db tree t = elim (cases_Bool (t == tree)) [
   | inr apart ↦ rw apart refl
 ]
 
--- an edit that only removes rows is made, if keys and references stay
-pub removal_halts : (db : Trees) (table : Table) (gone : List ℤ)
-    → let edit : Edit = record { table = table; gone = gone; news = [] } in
-    Has whole.tables table → Keeps Unique whole (with_tree db table.tree (edited db edit))
-    → ((next : Trees) → Applies whole Enforced db edit next → Refers All whole next) → IsHalted whole db edit → ⊥
-removal_halts db table gone listed unique refers (inl (Violates Datatype, h)) = let wrong : true ≡ false = h in cc
-removal_halts db table gone listed unique refers (inl (Violates NotNull, h)) = let wrong : true ≡ false = h in cc
-removal_halts db table gone listed unique refers (inl (Violates Check, h)) = let wrong : true ≡ false = h in cc
-removal_halts db table gone listed unique refers (inl (Violates PrimaryKey, h)) = let wrong : true ≡ false = h in cc
-removal_halts db table gone listed unique refers (inl (Violates Unique, h)) = h unique
-removal_halts db table gone listed unique refers (inl (Violates ForeignKey, h)) = h
-removal_halts db table gone listed unique refers (inl (Mismatch, h)) = let wrong : true ≡ false = h in cc
-removal_halts db table gone listed unique refers (inl (NoRowid, h)) = let wrong : true ≡ false = h in cc
-removal_halts db table gone listed unique refers (inl (BadReference, h)) =
-    let fits = all_has (λ t. references_fit whole t false (nat_lt 0 (length gone)) ≡ true) whole.tables table
-    (fit false (nat_lt 0 (length gone))) listed in
-    let wrong : true ≡ false = sym fits ∙ h in cc
-removal_halts db table gone listed unique refers (inl (TooDeep, h)) = h
-removal_halts db table gone listed unique refers (inr (inl (row, none, big))) = none
-removal_halts db table gone listed unique refers (inr (inr (next, did, broken))) = broken (refers next did)
-
 -- an edit of no row is made
 pub nothing_halts : (db : Trees) (table : Table) → Obeys whole db → Has whole.tables table
     → IsHalted whole db (record { table = table; gone = []; news = [] }) → ⊥
-nothing_halts db table obeys listed = removal_halts db table [] listed
+nothing_halts db table obeys listed = removal_halts whole simple db table [] listed
     (keeps_same whole db (with_tree db table.tree (db table.tree)) (λ t known. same_trees db table.tree t.tree) Unique
-    (obeys.rules Unique)) (λ next did. all_refer next)
+    (obeys.rules Unique)) (λ next did. all_refer whole simple next)
 
 -- ---- UPDATE
 
@@ -73,7 +53,7 @@ pub record IsUpdate {X : Type 0} (sql : List ℕ) (params : Row) (cells : X → 
     (u : X → X) (row : X → Row) : Type 0 where
   pub tree : IsTreeOf Holds cells places table.tree of
   pub found : slice_get whole.tables at ≡ Some (uncounted table)
-  pub is : IsStatement sql (Update at (record { lets = []; body = on_table table.tree tests project [] }))
+  pub is : IsStatement guard_tables sql (Update at (record { lets = []; body = on_table table.tree tests project [] }))
       (length params)
   pub typed : accepts_program whole [] (on_table table.tree tests project []) params ≡ true
   -- the new row from a row's columns, and its columns
@@ -85,7 +65,7 @@ pub record IsUpdate {X : Type 0} (sql : List ℕ) (params : Row) (cells : X → 
   pub on_struct : (x : X) → (column (cells x) 0 ≡ Int (pos (number x))) × (change (cells x) ≡ cells (u x))
       × (at_places places (row x) ≡ cells x)
   pub made : (x : X) → cast_row (uncounted table) (next (cells x)) ≡ row (u x)
-  pub held : (db next : Trees) (c : Contents) → Holds db c → Spares table.tree db next
+  pub held : (db next : Trees) (c : Contents) → Holds db c → Spares whole table.tree db next
       → Lists cells places (next table.tree) (map (λ x. cond (number x == n) (u x) x) (of c)) → Holds next (after c)
 
 module _ {X : Type 0} {sql : List ℕ} {params : Row} {cells : X → Row} {places : List ℕ} {at : ℕ} {table : Table}
@@ -131,10 +111,10 @@ module _ {X : Type 0} {sql : List ℕ} {params : Row} {cells : X → Row} {place
       → (next.schema ≡ whole) × Holds next.trees (after c)
   does limit db next tally c means h =
       let did = updates limit db next tally whole means.schema at table it.found params
-      (statement_of sql (understood whole sql)) program h (no_works table.tree) in
+      (statement_of sql (understood whole sql)) program h (simple.no_works table.tree) in
       let all = selected table.tree tests project [] db.trees params did.0 (it.tree.stored db.trees)
       (did.1.answer Null) in
-      let now = lists_changed cells places (uncounted table) db.trees next.trees did.0 (of c)
+      let now = lists_changed whole cells places (uncounted table) db.trees next.trees did.0 (of c)
       (λ x. number x == n) u passes it.change next_row tested (λ x. (it.on_struct x).1)
       (λ x r is. ap is_int (numbered x r is)) back
       (it.tree.held db.trees c means.kept.holds) (shown db.trees did.0 all) did.2 in (
@@ -142,7 +122,7 @@ module _ {X : Type 0} {sql : List ℕ} {params : Row} {cells : X → Row} {place
         it.held db.trees next.trees c means.kept.holds did.2.tables now,
       )
 
-  pub update : Write sql params after
+  pub update : Write guard_tables sql params after
   update = record { command = Update at program; is = it.is; on_rows = tt; does = does }
 
   -- it is refused if the struct is then too long: its number stays
@@ -150,7 +130,7 @@ module _ {X : Type 0} {sql : List ℕ} {params : Row} {cells : X → Row} {place
       (same : (x : X) → number (u x) ≡ number x) (row_number : (x : X) → rowid (row x) ≡ Int (pos (number x)))
       (long : (x : X) → 10 ^ 9 < size (row x) → IsTooLong (cells x))
       (unindexed : AllByRecursion (λ i. guards i (uncounted table) ≡ true → ⊥) whole.indexes)
-      (put : (x : X) → IsPut (uncounted table) (row x))
+      (put : (x : X) → IsPut whole (uncounted table) (row x))
     where
       hits : (x : X) (r : Row) → at_places places r ≡ cells x → passes (at_places places r) ≡ true → number x ≡ n
       hits x r is h = eqb-true (number x) n (sym (tested x) ∙ ap passes (sym is) ∙ h)
@@ -173,19 +153,19 @@ module _ {X : Type 0} {sql : List ℕ} {params : Row} {cells : X → Row} {place
           let step = subst (λ rs. IsHalted whole db (edit_of db t (ids_of rs) Given 1 rs)) alone halts in
           let at_id = subst (λ v. IsHalted whole db (one db t (id_in v ∷ []) (cast_row t (next_row r)))) id step in
           let stopped = subst (λ row. IsHalted whole db (one db t (pos n ∷ []) row)) (is_made x r is) at_id in
-          halted db t (pos n ∷ []) new (put (u x)) (it.tree.held db c means.kept.holds).apart
+          halted whole simple db t (pos n ∷ []) new (put (u x)) (it.tree.held db c means.kept.holds).apart
           (means.kept.sound.obeys.rules Unique)
           (λ out. absurd (let wrong : true ≡ false = sym fits ∙ ap (λ v. fits_i64 (id_in v)) (sym new_id) ∙ out in cc))
           (λ taken. absurd (freed (db table.tree) (pos n) new new_id taken))
-          (λ clash. absurd (unclashed db t (pos n ∷ []) new unindexed clash)) (λ big. (x, has, (is_n, long (u x) big)))
-          (λ next did broken. absurd (broken (all_refer next))) stopped
+          (λ clash. absurd (unclashed whole simple db t (pos n ∷ []) new unindexed clash)) (λ big. (x, has, (is_n, long (u x) big)))
+          (λ next did broken. absurd (broken (all_refer whole simple next))) stopped
 
-      refuses : (s : State) (c : Contents) → Means s.now c → Stops sql params command s
+      refuses : (s : State) (c : Contents) → Means s.now c → Stops guard_tables sql params command s
           → HasOne (λ x. (number x ≡ n) × IsTooLong (cells (u x))) (of c)
       refuses s c means stops =
           let q = on_table table.tree tests project [] in
           let kept = update_halts s.now whole means.schema at table it.found params
-          (statement_of sql (understood whole sql)) (no_works table.tree) (record { lets = []; body = q }) it.typed
+          (statement_of sql (understood whole sql)) (simple.no_works table.tree) (record { lets = []; body = q }) it.typed
           (λ h. elim h [ inl over ↦ over | inr fold ↦ none_overflows _ fold ]) stops.0 stops.1 in
           let all = selected table.tree tests project [] s.now.trees params kept.0 (it.tree.stored s.now.trees)
           (kept.1.answer Null) in
@@ -196,7 +176,7 @@ module _ {X : Type 0} {sql : List ℕ} {params : Row} {cells : X → Row} {place
 
       -- why the call fails
       pub update_fails : {Y : Type 0} (old new : State) (r : Result Y Fault)
-          → FailsBy (HasWriteCause sql params) old new r
-          → RefusedFor (λ c. HasOne (λ x. (number x ≡ n) × IsTooLong (cells (u x))) (of c)) old new r
-      update_fails = refused_for sql params command
+          → FailsBy guard_tables (HasWriteCause guard_tables sql params) old new r
+          → RefusedFor guard_tables (λ c. HasOne (λ x. (number x ≡ n) × IsTooLong (cells (u x))) (of c)) old new r
+      update_fails = refused_for guard_tables sql params command
           it.is.0 it.is.2 (λ c. HasOne (λ x. (number x ≡ n) × IsTooLong (cells (u x))) (of c)) refuses

@@ -19,14 +19,14 @@ use Rattle.guard.specs.State.{State}
 use Rattle.guard_sql.specs.declared.guards.GuardRow.{GuardRow}
 use Rattle.guard_sql.specs.declared.opening_fault.OpeningFault.{OpeningFault}
 use Rattle.guard_sql.specs.declared.opening_fault.OpeningFault.TheVariants as fault
-use Rattle.guard_sql.specs.Calls.{Fails, Never}
-use Rattle.guard_sql.specs.Contents.{Contents, HasGuards, Kept, Means}
+use Rattle.store_sql.specs.Calls.{Fails, Never}
+use Rattle.guard_sql.specs.Contents.{Contents, HasGuards, Kept, Means, guard_tables}
 use Rattle.guard_sql.specs.Keeping.{HasGuard, IsGuard, IsScope, Stores}
 use Rattle.guard_sql.specs.Opening.{FindsScope, IsExcused, Says, scope_in, scope_with}
-use Rattle.guard_sql.specs.Refusals.{HasCauseOr}
+use Rattle.store_sql.specs.Refusals.{HasCauseOr}
 use Rattle.guard_sql.specs.Rows.{guard_contents, guard_row}
 use Rattle.guard_sql.specs.Told.{opening_fault}
-use Rattle.guard_sql.specs.Transactions.{Has}
+use Rattle.rows.specs.Transactions.{Has}
 use Rattle.guard_sql.proofs.Answering.{has_failed}
 
 -- a valid scope is read back
@@ -82,8 +82,8 @@ pub opened_stores : (old new : Connection) (s : State)
 opened_stores old new s settled same survives unlimited guard has =
     let rests : HasGuard s new = record {
       autocommit = same.0.mode ∙ has.autocommit;
-      now = subst (Has (guard_contents s)) (sym same.0.now_is) has.now;
-      committed = subst (Has (guard_contents s)) (sym same.0.committed_is) has.committed;
+      now = subst (Has guard_tables (guard_contents s)) (sym same.0.now_is) has.now;
+      committed = subst (Has guard_tables (guard_contents s)) (sym same.0.committed_is) has.committed;
     } in
     made_stores new s settled same.0.is_open guard (survives.limit ∙ unlimited) rests
 

@@ -2,8 +2,8 @@
 use Rattle.std.specs.Prelude.{pos, List, [], ◌∷◌}
 use Rattle.sqlite.specs.Order.{Row}
 use Rattle.sqlite.specs.declared.types.Value.TheVariants.{Int, Blob}
-use Rattle.guard_sql.specs.declared.kind.Kind.{Kind}
-use Rattle.guard_sql.specs.declared.kind.Kind.TheVariants as kind
+use Rattle.rows.specs.declared.kind.Kind.{Kind}
+use Rattle.rows.specs.declared.kind.Kind.TheVariants as kind
 use Rattle.guard_sql.specs.declared.guards.GuardRow.{GuardRow}
 use Rattle.guard_sql.specs.declared.approvals.ApprovalRow.{ApprovalRow}
 

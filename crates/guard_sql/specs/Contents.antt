@@ -3,13 +3,14 @@ use Rattle.std.specs.Prelude.{◌≡◌, ◌<◌, ◌≤◌, ℕ, List, [], ◌�
 use Rattle.std.specs.List.{AllByRecursion}
 use Rattle.sqlite.specs.Tree.{Trees}
 use Rattle.sqlite.specs.Effect.{Database}
-use Rattle.sqlite_catalog.specs.Listing.{IsSound}
 use Rattle.sqlite_rules.specs.Lists.{Has}
 use Rattle.store_sql.specs.Contents.{Lists}
 use Rattle.guard_sql.specs.declared.guards.GuardRow.{GuardRow}
 use Rattle.guard_sql.specs.declared.approvals.ApprovalRow.{ApprovalRow}
 use Rattle.guard_sql.specs.Cells.{approval_cells, guard_cells}
 use Rattle.guard_sql.specs.Schema.{whole}
+use Rattle.rows.specs.Tables as rows
+use Rattle.rows.specs.Tables.{Tables}
 
 -- the structs of all rows
 pub record Contents : Type 0 where
@@ -31,15 +32,17 @@ pub record Holds (trees : Trees) (c : Contents) : Type 0 where
   pub guards : Lists guard_cells guard_places (trees 0) c.guards
   pub approved : Lists approval_cells approval_places (trees 1) c.approved
 
+-- the tables of a guard, for what all tables share
+abbrev pub guard_tables : Tables Contents
+guard_tables = record { whole = whole; Holds = Holds; none = no_contents }
+
 -- this suffices to find the contents again after an open
-pub record Kept (trees : Trees) (c : Contents) : Type 0 where
-  pub sound : IsSound whole trees
-  pub holds : Holds trees c
+abbrev pub Kept : Trees → Contents → Type 0
+Kept trees c = rows.Kept guard_tables trees c
 
 -- the database has exactly a guard's tables, and they hold these contents
-pub record Means (db : Database) (c : Contents) : Type 0 where
-  pub schema : db.schema ≡ whole
-  pub kept : Kept db.trees c
+abbrev pub Means : Database → Contents → Type 0
+Means db c = rows.Means guard_tables db c
 
 -- the one with this serial, or else with the next higher one; or none has such a serial
 abbrev pub IsLeastFrom : {X : Type 0} → (serial : X → ℕ) → ℕ → List X → Option X → Type 0

@@ -9,9 +9,9 @@ use Rattle.guard.specs.declared.scope.Scope.{Scope}
 use Rattle.guard.specs.State.{State}
 use Rattle.store_sql.specs.Calls.{IsBare}
 use Rattle.store_sql.specs.Schema.{no_schema}
-use Rattle.guard_sql.specs.Contents.{Kept}
+use Rattle.guard_sql.specs.Contents.{Kept, guard_tables}
 use Rattle.guard_sql.specs.Rows.{guard_contents}
-use Rattle.guard_sql.specs.Transactions.{Has, Rests}
+use Rattle.rows.specs.Transactions.{Has, Rests}
 
 -- a CA's key of 32 bytes, and a range of serials within 1 to 9223372036854775806
 pub record IsScope (scope : Scope) : Type 0 where
@@ -25,7 +25,7 @@ pub record IsGuard (s : State) : Type 0 where
 
 -- no transaction is open, and the tables hold the rows of this state
 abbrev pub HasGuard : State → Connection → Type 0
-HasGuard s c = Rests (Has (guard_contents s)) c
+HasGuard s c = Rests (Has guard_tables (guard_contents s)) c
 
 -- The state is valid, no query has a limit on its steps, no transaction is open, and unless a failed disk has shut the
 -- connection, the tables hold the rows of the state.

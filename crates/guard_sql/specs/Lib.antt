@@ -1,16 +1,10 @@
-pub mod Kinds
-pub mod Granted
 pub mod Schema
 pub mod Cells
 pub mod Contents
 pub mod Damage
 pub mod Changes
-pub mod Calls
 pub mod Refusals
-pub mod Statements
 pub mod Look
-pub mod Transactions
-pub mod Creating
 pub mod Rows
 pub mod Keeping
 pub mod Told

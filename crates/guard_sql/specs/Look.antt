@@ -6,6 +6,7 @@ use Rattle.sqlite_schema.specs.Names.{same_name}
 use Rattle.sqlite.specs.Schema.{Schema}
 use Rattle.sqlite.specs.Table.{Table}
 use Rattle.store_sql.specs.Schema.{no_schema}
+pub use Rattle.rows.specs.Look.{is_empty, none_is_empty}
 use Rattle.guard_sql.specs.declared.opening_fault.OpeningFault.{OpeningFault}
 use Rattle.guard_sql.specs.declared.opening_fault.OpeningFault.TheVariants.{AlreadyAGuard, NotAGuard}
 use Rattle.guard_sql.specs.Schema.{whole}
@@ -13,10 +14,6 @@ use Rattle.guard_sql.specs.Schema.{whole}
 -- whether a table has the name of one of a guard's, in any case
 abbrev pub is_guard_name : Table → Bool
 is_guard_name t = same_name t.name (codes "guard") || same_name t.name (codes "approved")
-
--- whether a database has no table, no index and no view
-abbrev pub is_empty : Schema → Bool
-is_empty s = (length s.tables == 0) && ((length s.indexes == 0) && (length s.views == 0))
 
 -- Why no guard is made in a database: it has a table with a name of a guard's, or it isn't empty otherwise. A database
 -- in which one is tried, and that then fails, is empty.
@@ -49,6 +46,3 @@ whole_has_tables = refl
 -- a database without tables is no guard's
 pub none_is_guard : list_any is_guard_table no_schema.tables ≡ false
 none_is_guard = refl
-
-pub none_is_empty : is_empty no_schema ≡ true
-none_is_empty = refl

@@ -12,10 +12,10 @@ use Rattle.store_sql.specs.Faults.{HasFailed as SqlFailed}
 use Rattle.guard_sql.specs.declared.guards.GuardRow.{GuardRow}
 use Rattle.guard_sql.specs.declared.opening_fault.OpeningFault.{OpeningFault}
 use Rattle.guard_sql.specs.declared.opening_fault.OpeningFault.TheVariants as fault
-use Rattle.guard_sql.specs.Contents.{HasGuards, Means}
+use Rattle.guard_sql.specs.Contents.{HasGuards, Means, guard_tables}
 use Rattle.guard_sql.specs.Keeping.{HasFailed, HasGuard, IsBlank, IsGuard, Stores}
 use Rattle.guard_sql.specs.Rows.{guard_contents}
-use Rattle.guard_sql.specs.Transactions.{Leaves as LeavesAfter}
+use Rattle.rows.specs.Transactions.{Leaves as LeavesAfter}
 
 -- ---- the scope in a row
 
@@ -89,4 +89,4 @@ FoundsNone old new e = IsBlank old → IsExcused new e × (IsTrue new.is_open �
 -- a crash leaves no table, or all of them with the rows of the new guard
 abbrev pub LeavesNew : Scope → Connection → Trees → Type 0
 LeavesNew scope old trees =
-    LeavesAfter (λ _. IsBare no_schema) (λ (_ : Unit {0}). guard_contents (opened scope)) old trees
+    LeavesAfter guard_tables (λ _. IsBare no_schema) (λ (_ : Unit {0}). guard_contents (opened scope)) old trees

@@ -20,7 +20,3 @@ RefusesLast last c = HasOne (λ g. (g.id ≡ 1) × IsTooLong (guard_cells (endin
 -- the row's serial is taken, or the row is too long
 abbrev pub RefusesApproval : ApprovalRow → Contents → Type 0
 RefusesApproval a c = HasOne (λ b. b.serial ≡ a.serial) c.approved ⊎ IsTooLong (approval_cells a)
-
--- over tables with contents a fault is a lack of memory, a failure of the database, or what these contents refuse
-abbrev pub RefusedFor : {X : Type 0} → (Contents → Type 0) → State → State → Result X Fault → Type 0
-RefusedFor Refuses old new r = IfErr r (λ f. (c : Contents) → Means old.now c → HasCauseOr (Refuses c) old new f)

@@ -7,7 +7,7 @@ use Rattle.guard.specs.declared.register.RegisterFault.{RegisterFault}
 use Rattle.guard.specs.Judged.{HasCause}
 use Rattle.guard.specs.State.{State}
 use Rattle.guard_sql.specs.Keeping.{HasFailed, Keeps, Leaves}
-use Rattle.guard_sql.specs.Transactions.{IsAsBefore}
+use Rattle.rows.specs.Transactions.{IsAsBefore}
 
 -- A reading call returns this of the state that is kept. Whatever is kept, it changes nothing.
 pub record Shows {X : Type 0} (Shown : State → X → Type 0) (old new : Connection) (r : Result X RegisterFault) : Type 0

@@ -1,18 +1,16 @@
 //! The table of approved bodies.
 
 ghost use Rattle.store_sql.specs.Honest.{On};
-ghost use Rattle.guard_sql.specs.Calls.{FindsOne, FindsSuch};
+ghost use Rattle.rows.specs.Calls.{FindsOne, FindsSuch};
 ghost use Rattle.guard_sql.specs.Changes.{approved_under, with_approval};
 ghost use Rattle.guard_sql.specs.Contents.{IsFirstFrom};
 ghost use Rattle.guard_sql.specs.Damage.{SaysFirstUnless, SaysRowUnless};
 ghost use Rattle.guard_sql.specs.Refusals.{RefusesApproval};
-ghost use Rattle.guard_sql.specs.Statements.{Reads, Writes};
+ghost use Rattle.rows.specs.Statements.{Reads, Writes};
+ghost use Rattle.guard_sql.specs.Contents.{guard_tables};
 
-use crate::columns::{Columns, found_first};
-use crate::done::done;
-use crate::kind::{Kind, blob_at, is_row_of, number_at, value_of};
-use crate::memory::Memory;
 use crate::sql::{FIND_APPROVED, FROM_APPROVED, INSERT_APPROVED};
+use rows::{Columns, Kind, Memory, blob_at, done, found_first, is_row_of, number_at, value_of};
 use sqlite::types::ValueRef;
 use sqlite::{Alter, Connection, Row};
 use std::alloc::Global;
@@ -48,7 +46,7 @@ impl ApprovalRow {
 
 impl Columns for ApprovalRow {
     ghost use Rattle.std.specs.Prelude.{refl};
-    ghost use Rattle.guard_sql.specs.Kinds.{has_kinds};
+    ghost use Rattle.rows.specs.Kinds.{has_kinds};
     ghost use Rattle.guard_sql.specs.Cells.{approval_cells, approval_kinds};
 
     ghost cells = { approval_cells };
@@ -75,7 +73,7 @@ pub(crate) fn insert_approval<S: Alter>(
     conn: &mut Connection<S>,
     approval: &ApprovalRow,
 ) -> Result<(), Fault>
-    ensures { Writes S.Store (with_approval approval.now) (RefusesApproval approval.now) conn.old conn.new result }
+    ensures { Writes guard_tables S.Store (with_approval approval.now) (RefusesApproval approval.now) conn.old conn.new result }
 {
     done(conn.execute(INSERT_APPROVED, &approval.values()))
 }
@@ -86,7 +84,7 @@ pub(crate) fn find_approval<S: Alter>(
     conn: &mut Connection<S>,
     serial: Number,
 ) -> Result<Option<ApprovalRow>, Fault>
-    ensures reads { Reads S.Store (FindsOne (approved_under serial)) conn.old conn.new result }
+    ensures reads { Reads guard_tables S.Store (FindsOne guard_tables (approved_under serial)) conn.old conn.new result }
 
     // Whatever rows the table holds, the answer is what those with the serial say.
     ensures says { On S.Store (SaysRowUnless serial) conn.old conn.new result }
@@ -101,7 +99,7 @@ pub(crate) fn first_approval_from<S: Alter>(
     conn: &mut Connection<S>,
     serial: Number,
 ) -> Result<Option<ApprovalRow>, Fault>
-    ensures reads { Reads S.Store (FindsSuch (λ c. IsFirstFrom serial c.approved)) conn.old conn.new result }
+    ensures reads { Reads guard_tables S.Store (FindsSuch guard_tables (λ c. IsFirstFrom serial c.approved)) conn.old conn.new result }
 
     // Whatever rows the table holds, the answer is what the first one from there on says.
     ensures says { On S.Store (SaysFirstUnless serial) conn.old conn.new result }

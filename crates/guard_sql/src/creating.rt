@@ -4,17 +4,17 @@ ghost use Rattle.std.specs.Prelude.{◌≡◌, ◌<◌, ◌^◌, IfOk};
 ghost use Rattle.store_sql.specs.Honest.{On, OutlivesBy};
 ghost use Rattle.guard.specs.State.{opened};
 ghost use Rattle.guard_sql.specs.Changes.{with_guard};
-ghost use Rattle.guard_sql.specs.Contents.{no_contents};
-ghost use Rattle.guard_sql.specs.Creating.{DoesOnBlank, EndsOnBlank, FailsOnBlank, LeavesOnBlank};
+ghost use Rattle.guard_sql.specs.Contents.{guard_tables, no_contents};
+ghost use Rattle.rows.specs.Creating.{DoesOnBlank, EndsOnBlank, FailsOnBlank, LeavesOnBlank};
 ghost use Rattle.guard_sql.specs.Keeping.{IsScope};
 ghost use Rattle.guard_sql.specs.Refusals.{RefusesGuard};
 ghost use Rattle.guard_sql.specs.Rows.{guard_contents, guard_row};
 
 use crate::creation::create_tables;
 use crate::guards::{GuardRow, insert_guard};
-use crate::transaction::conclude;
 use guard::Scope;
 use lines::key_blob_of;
+use rows::conclude;
 use sqlite::{Alter, Connection};
 use std::alloc::Global;
 use store_sql::{Fault, Number, begin};
@@ -48,7 +48,7 @@ fn guard_row(alloc: Global, scope: &Scope) -> Result<GuardRow, NoMemory>
 }
 
 fn make<S: Alter>(conn: &mut Connection<S>, guard: &GuardRow) -> Result<(), Fault>
-    ensures { DoesOnBlank S.Store (with_guard guard.now no_contents) (RefusesGuard guard.now no_contents)
+    ensures { DoesOnBlank guard_tables S.Store (with_guard guard.now no_contents) (RefusesGuard guard.now no_contents)
         conn.old conn.new result }
 {
     match create_tables(conn) {
@@ -58,9 +58,9 @@ fn make<S: Alter>(conn: &mut Connection<S>, guard: &GuardRow) -> Result<(), Faul
 }
 
 fn make_whole<S: Alter>(conn: &mut Connection<S>, guard: &GuardRow) -> Result<(), Fault>
-    ensures ends { On S.Store (EndsOnBlank (with_guard guard.now no_contents)) conn.old conn.new result }
+    ensures ends { On S.Store (EndsOnBlank guard_tables (with_guard guard.now no_contents)) conn.old conn.new result }
     ensures cause { On S.Store (FailsOnBlank (RefusesGuard guard.now no_contents)) conn.old conn.new result }
-    ensures survives { OutlivesBy S.Store (LeavesOnBlank (with_guard guard.now no_contents)) conn.old conn.new }
+    ensures survives { OutlivesBy S.Store (LeavesOnBlank guard_tables (with_guard guard.now no_contents)) conn.old conn.new }
 {
     match begin(conn) {
         Ok(()) => {
@@ -78,10 +78,10 @@ pub(crate) fn create<S: Alter>(
     scope: &Scope,
 ) -> Result<(), Fault>
     requires { IsScope scope.now }
-    ensures ends { On S.Store (EndsOnBlank (guard_contents (opened scope.now))) conn.old conn.new result }
+    ensures ends { On S.Store (EndsOnBlank guard_tables (guard_contents (opened scope.now))) conn.old conn.new result }
     ensures cause { On S.Store (FailsOnBlank (RefusesGuard (guard_row scope.now) no_contents))
         conn.old conn.new result }
-    ensures survives { OutlivesBy S.Store (LeavesOnBlank (guard_contents (opened scope.now))) conn.old conn.new }
+    ensures survives { OutlivesBy S.Store (LeavesOnBlank guard_tables (guard_contents (opened scope.now))) conn.old conn.new }
 {
     match guard_row(alloc, scope) {
         Ok(guard) => make_whole(conn, &guard),

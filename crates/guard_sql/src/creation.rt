@@ -3,11 +3,13 @@
 ghost use Rattle.std.specs.Prelude.{◌≡◌};
 ghost use Rattle.store_sql.specs.Schema.{no_schema};
 ghost use Rattle.store_sql.specs.Honest.{On, OutlivesBy};
-ghost use Rattle.guard_sql.specs.Calls.{Completes, Creates, FailsWhere, IsBare, Stays, WaitsAt};
+ghost use Rattle.rows.specs.Calls.{Completes};
+ghost use Rattle.store_sql.specs.Calls.{Creates, FailsWhere, IsBare, Stays, WaitsAt};
 ghost use Rattle.guard_sql.specs.Schema.{approved, guard, through_guard};
+ghost use Rattle.guard_sql.specs.Contents.{guard_tables};
 
-use crate::done::done;
 use crate::sql::{CREATE_APPROVED, CREATE_GUARD};
+use rows::done;
 use sqlite::{Alter, Connection};
 use store_sql::Fault;
 
@@ -34,7 +36,7 @@ fn create_approved<S: Alter>(conn: &mut Connection<S>) -> Result<(), Fault>
 /// Makes both tables of a guard in a database without tables. If that fails in a transaction, nothing of it is
 /// committed.
 pub(crate) fn create_tables<S: Alter>(conn: &mut Connection<S>) -> Result<(), Fault>
-    ensures completes { On S.Store (Completes no_schema) conn.old conn.new result }
+    ensures completes { On S.Store (Completes guard_tables no_schema) conn.old conn.new result }
     ensures fault { On S.Store (FailsWhere (λ s. IsBare no_schema s.now)) conn.old conn.new result }
     ensures stays { On S.Store Stays conn.old conn.new result }
     ensures survives { OutlivesBy S.Store (WaitsAt no_schema) conn.old conn.new }

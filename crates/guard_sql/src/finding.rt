@@ -5,7 +5,8 @@ ghost use Rattle.std.specs.List.{list_any};
 ghost use Rattle.lines.specs.Keys.{key_of};
 ghost use Rattle.office.specs.Openings.{are_serials};
 ghost use Rattle.store_sql.specs.Honest.{On, Outlives, tables_of};
-ghost use Rattle.guard_sql.specs.Calls.{Never, OnlyLooks};
+ghost use Rattle.store_sql.specs.Calls.{Never};
+ghost use Rattle.rows.specs.Calls.{OnlyLooks};
 ghost use Rattle.guard_sql.specs.Look.{is_guard_table};
 ghost use Rattle.guard_sql.specs.Opening.{FindsScope, SaysUnless, scope_in, scope_with};
 

@@ -3,13 +3,11 @@
 ghost use Rattle.guard_sql.specs.Contents.{HasGuards};
 ghost use Rattle.guard_sql.specs.Changes.{with_guard, with_last};
 ghost use Rattle.guard_sql.specs.Refusals.{RefusesGuard, RefusesLast};
-ghost use Rattle.guard_sql.specs.Statements.{ReadsIn, Writes};
+ghost use Rattle.rows.specs.Statements.{ReadsIn, Writes};
+ghost use Rattle.guard_sql.specs.Contents.{guard_tables};
 
-use crate::columns::{Columns, found};
-use crate::done::done;
-use crate::kind::{Kind, blob_at, is_row_of, number_at, value_of};
-use crate::memory::Memory;
 use crate::sql::{EVERY_GUARD, INSERT_GUARD, LOWER_GUARD};
+use rows::{Columns, Kind, Memory, blob_at, done, found, is_row_of, number_at, value_of};
 use sqlite::types::ValueRef;
 use sqlite::{Alter, Connection, Row};
 use std::alloc::Global;
@@ -52,7 +50,7 @@ impl GuardRow {
 
 impl Columns for GuardRow {
     ghost use Rattle.std.specs.Prelude.{refl};
-    ghost use Rattle.guard_sql.specs.Kinds.{has_kinds};
+    ghost use Rattle.rows.specs.Kinds.{has_kinds};
     ghost use Rattle.guard_sql.specs.Cells.{guard_cells, guard_kinds};
 
     ghost cells = { guard_cells };
@@ -90,7 +88,7 @@ pub(crate) fn insert_guard<S: Alter>(
     conn: &mut Connection<S>,
     guard: &GuardRow,
 ) -> Result<(), Fault>
-    ensures { Writes S.Store (with_guard guard.now) (RefusesGuard guard.now) conn.old conn.new result }
+    ensures { Writes guard_tables S.Store (with_guard guard.now) (RefusesGuard guard.now) conn.old conn.new result }
 {
     done(conn.execute(INSERT_GUARD, &guard.values()))
 }
@@ -107,7 +105,7 @@ pub(crate) fn every_guard<S: Alter>(
 
 /// Sets the last serial of the guard, in the row with id 1, if there is one. `Device` also if the row is then too long.
 pub(crate) fn update_last<S: Alter>(conn: &mut Connection<S>, last: Number) -> Result<(), Fault>
-    ensures { Writes S.Store (with_last last) (RefusesLast last) conn.old conn.new result }
+    ensures { Writes guard_tables S.Store (with_last last) (RefusesLast last) conn.old conn.new result }
 {
     done(conn.execute(LOWER_GUARD, &[value_of(last)]))
 }

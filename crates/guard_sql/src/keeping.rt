@@ -2,11 +2,12 @@
 
 ghost use Rattle.guard_sql.specs.Changes.{with_approval, with_last};
 ghost use Rattle.guard_sql.specs.Refusals.{RefusesApproval, RefusesLast};
-ghost use Rattle.guard_sql.specs.Transactions.{WritesWhole};
+ghost use Rattle.rows.specs.Transactions.{WritesWhole};
+ghost use Rattle.guard_sql.specs.Contents.{guard_tables};
 
 use crate::approvals::{ApprovalRow, insert_approval};
 use crate::guards::update_last;
-use crate::transaction::conclude;
+use rows::conclude;
 use sqlite::{Alter, Connection};
 use store_sql::{Fault, Number, begin};
 
@@ -15,7 +16,7 @@ pub(crate) fn keep_approval<S: Alter>(
     conn: &mut Connection<S>,
     approval: &ApprovalRow,
 ) -> Result<(), Fault>
-    ensures { WritesWhole S.Store (with_approval approval.now) (RefusesApproval approval.now)
+    ensures { WritesWhole guard_tables S.Store (with_approval approval.now) (RefusesApproval approval.now)
         conn.old conn.new result }
 {
     match begin(conn) {
@@ -29,7 +30,7 @@ pub(crate) fn keep_approval<S: Alter>(
 
 /// Sets the last serial.
 pub(crate) fn end_at<S: Alter>(conn: &mut Connection<S>, last: Number) -> Result<(), Fault>
-    ensures { WritesWhole S.Store (with_last last) (RefusesLast last) conn.old conn.new result }
+    ensures { WritesWhole guard_tables S.Store (with_last last) (RefusesLast last) conn.old conn.new result }
 {
     match begin(conn) {
         Ok(()) => {

@@ -5,25 +5,20 @@
 #![tactic(auto)]
 
 mod approvals;
-mod columns;
 mod creating;
 mod creation;
-mod done;
 mod faults;
 mod finding;
 mod guards;
 mod keeping;
-mod kind;
 mod laws;
 mod look;
-mod memory;
 mod opening_fault;
 mod register;
 mod rows;
 mod serving;
 mod sql;
 mod store;
-mod transaction;
 
 pub use laws::a_serial_has_one_body;
 pub use opening_fault::OpeningFault;

@@ -11,7 +11,7 @@ ghost use Rattle.guard.specs.Retiring.{IsRowFrom};
 ghost use Rattle.guard.specs.State.{State, body_of};
 ghost use Rattle.guard_sql.specs.Damage.{SaysApprovedUnless, SaysBodyUnless};
 ghost use Rattle.guard_sql.specs.Keeping.{HasFailed, Keeps, Leaves};
-ghost use Rattle.guard_sql.specs.Transactions.{IsAsBefore};
+ghost use Rattle.rows.specs.Transactions.{IsAsBefore};
 
 use crate::serving::{body_of, keep, row_from, set_last};
 use crate::store::GuardStore;
@@ -34,7 +34,7 @@ impl<S: Alter> Register for GuardStore<S> {
     ghost is_as_before = { λ old new. (new.scope ≡ old.scope)
         × IsAsBefore (state S.Store old.conn) (state S.Store new.conn) };
 
-    #[tactic(auto, using(crate::proofs::Before::same_before))]
+    #[tactic(auto, using(rows::proofs::Before::same_before))]
     fn scope(&mut self) -> Result<Scope, RegisterFault> {
         Ok(self.scope)
     }

@@ -5,7 +5,7 @@ ghost use Rattle.std.specs.List.{list_any};
 ghost use Rattle.sqlite.specs.Held.{state};
 ghost use Rattle.store_sql.specs.Honest.{Between, IsOutside, IsUnlimited, On, Outlives, OutlivesBy, StaysClean};
 ghost use Rattle.store_sql.specs.Honest.{tables_of};
-ghost use Rattle.guard_sql.specs.Calls.{Never};
+ghost use Rattle.store_sql.specs.Calls.{Never};
 ghost use Rattle.guard_sql.specs.Keeping.{IsScope};
 ghost use Rattle.guard_sql.specs.Look.{IsRefused, is_empty, is_guard_name, is_guard_table};
 ghost use Rattle.guard_sql.specs.Opening.{Finds, Founds, FoundsNone, LeavesNew, Misses, SaysUnless};
@@ -13,9 +13,10 @@ ghost use Rattle.guard_sql.specs.Opening.{Finds, Founds, FoundsNone, LeavesNew, 
 use crate::creating::create;
 use crate::faults::opening_fault;
 use crate::finding::find_scope;
-use crate::look::{has_any_table, is_empty};
+use crate::look::has_any_table;
 use crate::opening_fault::OpeningFault;
 use guard::{RegisterFault, Scope};
+use rows::is_empty;
 use sqlite::{Alter, Connection};
 use std::alloc::Global;
 

@@ -11,13 +11,13 @@ use Rattle.store_sql.specs.declared.table_fault.Fault.TheVariants.{Damaged, Devi
 use Rattle.list_guard.specs.Judged.{HasCause}
 use Rattle.list_guard.specs.declared.register.RegisterFault.TheVariants as register
 use Rattle.list_guard.specs.State.{State}
-use Rattle.list_sql.specs.Contents.{Contents, Kept}
+use Rattle.list_sql.specs.Contents.{Contents, Kept, list_tables}
 use Rattle.list_sql.specs.Keeping.{HasFailed, HasList, IsFilled, Keeps, Leaves}
-use Rattle.list_sql.specs.Refusals.{HasCauseOr}
+use Rattle.store_sql.specs.Refusals.{HasCauseOr}
 use Rattle.list_sql.specs.Registering.{Leads}
 use Rattle.list_sql.specs.Rows.{list_contents}
 use Rattle.list_sql.specs.Told.{register_fault, told}
-use Rattle.list_sql.specs.Transactions.{Has, Rests, Whole}
+use Rattle.rows.specs.Transactions.{Has, Rests, Whole}
 
 -- ---- failures
 
@@ -51,21 +51,21 @@ module _ (Room : Type 0) (next : State) (after : Contents → Contents) (refused
     (lawful : IsFilled next) (same : (s : State) → after (list_contents s) ≡ list_contents next)
     (fits : (s : State) → Room → refused (list_contents s) → ⊥) (old new : Connection)
     (settled : (trees : Trees) → IsTrue new.is_open → new.may_leave trees → trees ≡ new.committed.trees) where
-  cut_off : (r : Result (Unit {0}) Fault) → Whole after refused old new r → HasCleanDisk new → (s : State)
+  cut_off : (r : Result (Unit {0}) Fault) → Whole list_tables after refused old new r → HasCleanDisk new → (s : State)
       → Keeps old s → Leaves old s s → Leaves new s next
   cut_off r whole clean s keeps left trees may = elim (whole.survives.crash clean trees may) [
     | inl was ↦ widened old s next left trees was
     | inr more ↦ inr (subst (Kept trees) (same s) (more.1 (list_contents s) (keeps.rows more.0)))
   ]
 
-  pub leads_whole : (r : Result (Unit {0}) Fault) → Whole after refused old new r
+  pub leads_whole : (r : Result (Unit {0}) Fault) → Whole list_tables after refused old new r
       → Leads Room next old new (told (λ x. x) r)
   leads_whole (Ok x) whole = record {
     honest = λ clean. omega (arith, whole.survives.clean);
     kept = λ clean s keeps.
         let e = whole.ends clean in
         let rests : HasList next new =
-        subst (λ c. Rests (Has c) new) (same s) (e.2 (list_contents s) (keeps.rows e.0)).1 in
+        subst (λ c. Rests (Has list_tables c) new) (same s) (e.2 (list_contents s) (keeps.rows e.0)).1 in
         record {
           filled = lawful;
           unlimited = whole.survives.limit ∙ keeps.unlimited;
@@ -76,7 +76,7 @@ module _ (Room : Type 0) (next : State) (after : Contents → Contents) (refused
     durable = λ clean s keeps trees left.
         let e = whole.ends clean in
         let rests : HasList next new =
-        subst (λ c. Rests (Has c) new) (same s) (e.2 (list_contents s) (keeps.rows e.0)).1 in
+        subst (λ c. Rests (Has list_tables c) new) (same s) (e.2 (list_contents s) (keeps.rows e.0)).1 in
         inl (subst (λ (t : Trees). Kept t (list_contents next)) (sym (settled trees e.1 left)) rests.committed.kept);
     crash = λ clean s keeps left. cut_off (Ok x) whole clean s keeps left;
     cause = λ clean s keeps room. tt;

@@ -11,12 +11,12 @@ use Rattle.krl.specs.Published.{published_text}
 use Rattle.list_guard.specs.Judged.{IsKeepable}
 use Rattle.list_guard.specs.State.{State, with_last}
 use Rattle.list_sql.specs.Changes.{with_rows}
-use Rattle.list_sql.specs.Contents.{no_contents}
+use Rattle.list_sql.specs.Contents.{list_tables, no_contents}
 use Rattle.list_sql.specs.Refusals.{RefusesList, RefusesNone}
 use Rattle.list_sql.specs.Registering.{Leads}
 use Rattle.list_sql.specs.Rows.{empty_row, list_contents}
 use Rattle.list_sql.specs.Told.{told}
-use Rattle.list_sql.specs.Transactions.{Whole}
+use Rattle.rows.specs.Transactions.{Whole}
 use Rattle.store_sql.specs.declared.table_fault.Fault.{Fault}
 use Rattle.list_sql.proofs.Answering.{leads_whole}
 
@@ -49,7 +49,7 @@ some_there list b is h none = clash b (is ∙ ap (λ (l : List ℕ). length l ==
 pub list_kept : (old new : Connection)
     → ((trees : Trees) → IsTrue new.is_open → new.may_leave trees → trees ≡ new.committed.trees)
     → (r : Result (Unit {0}) Fault) (list : List ℕ) → list ≢ []
-    → Whole (with_rows list) RefusesNone old new r
+    → Whole list_tables (with_rows list) RefusesNone old new r
     → Leads (IsKeepable list) (with_last list) old new (told (λ x. x) r)
 list_kept old new settled r list some = leads_whole (IsKeepable list) (with_last list) (with_rows list) RefusesNone some
     (rows_same list) (λ s room never. never) old new settled r

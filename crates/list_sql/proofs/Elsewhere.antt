@@ -1,13 +1,30 @@
 -- The table after a statement on it; and structs with equal columns are equal.
-use Rattle.list_sql.proofs.Words.{AllByRecursion, Contents, Holds, List, ListRow, Lists, Row, Trees, ap, blob_in}
-use Rattle.list_sql.proofs.Words.{column, list_cells, list_places, number_in, whole, ℕ, ◌≡◌, ◌≢◌}
+use Rattle.rows.proofs.Words.{AllByRecursion, Bool, List, Lists, Row, Trees, ap, arith, blob_in, column, false, joined}
+use Rattle.rows.proofs.Words.{number_in, references_fit, refl, same_name, true, ◌≡◌}
+use Rattle.list_sql.proofs.Words.{Contents, Holds, ListRow, list_cells, list_places, whole}
+use Rattle.std.proofs.Common.{rules}
+use Rattle.rows.proofs.Edits.{Spares}
+use Rattle.rows.proofs.Reasons.{IsSimple}
 
--- the trees of all other tables are unchanged
-abbrev pub Spares : ℕ → Trees → Trees → Type 0
-Spares tree db after = AllByRecursion (λ t. t.tree ≢ tree → after t.tree ≡ db t.tree) whole.tables
+-- ---- what the table is
+
+pub simple : IsSimple whole
+unfolding same_name joined
+simple = record {
+  apart = search (rules, arith);
+  fit = fits;
+  no_works = λ tree olds news. refl;
+  none_refer = λ ref. ((λ none. none), tt);
+}
+  where
+    fits : (adds removes : Bool) → AllByRecursion (λ t. references_fit whole t adds removes ≡ true) whole.tables
+    fits true true = (refl, tt)
+    fits true false = (refl, tt)
+    fits false true = (refl, tt)
+    fits false false = (refl, tt)
 
 -- the contents after a change of the table
-pub in_list : (db after : Trees) (c : Contents) → Holds db c → (xs : List ListRow) → Spares 0 db after
+pub in_list : (db after : Trees) (c : Contents) → Holds db c → (xs : List ListRow) → Spares whole 0 db after
     → Lists list_cells list_places (after 0) xs → Holds after (record { lists = xs })
 in_list db after c h xs o now = record { lists = now }
 

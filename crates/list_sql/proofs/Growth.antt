@@ -1,7 +1,9 @@
 -- Making the table.
-use Rattle.list_sql.proofs.Words.{Completes, Creates, Err, Fault, IsPermutation-refl, IsSound, List, Lists, Ok}
-use Rattle.list_sql.proofs.Words.{Result, Row, State, [], list, list_cells, list_places, no_schema, subst, sym, ℕ, ◌≡◌}
+use Rattle.rows.proofs.Words.{Completes, Creates, Err, Fault, IsPermutation-refl, IsSound, List, Lists, Ok, Result, Row}
+use Rattle.rows.proofs.Words.{State, no_schema, subst, sym, [], ℕ, ◌≡◌}
+use Rattle.list_sql.proofs.Words.{list, list_cells, list_places}
 use Rattle.store_sql.proofs.Later.{stops}
+use Rattle.list_sql.specs.Contents.{list_tables}
 
 -- a table without rows has no structs
 pub lists_none : {X : Type 0} (cells : X → Row) (places : List ℕ) (rows : List Row) → rows ≡ []
@@ -9,7 +11,7 @@ pub lists_none : {X : Type 0} (cells : X → Row) (places : List ℕ) (rows : Li
 lists_none cells places rows is = subst (λ rs. Lists cells places rs []) (sym is)
     (record { same = IsPermutation-refl []; apart = tt })
 
-pub completed : (a d : State) (r : Result (Unit {0}) Fault) → Creates no_schema list a d r → Completes no_schema a d r
+pub completed : (a d : State) (r : Result (Unit {0}) Fault) → Creates no_schema list a d r → Completes list_tables no_schema a d r
 completed a d (Ok x) one = λ bare.
     let p = one bare.0 in
     record {

@@ -20,21 +20,21 @@ use Rattle.list_guard.specs.State.{State}
 use Rattle.list_sql.specs.declared.lists.ListRow.{ListRow}
 use Rattle.list_sql.specs.declared.opening_fault.OpeningFault.{OpeningFault}
 use Rattle.list_sql.specs.declared.opening_fault.OpeningFault.TheVariants as fault
-use Rattle.list_sql.specs.Calls.{Fails, Never}
+use Rattle.store_sql.specs.Calls.{Fails, Never}
 use Rattle.list_sql.specs.Cells.{list_cells}
-use Rattle.list_sql.specs.Contents.{Contents, HasRows, Kept, Means, list_places}
+use Rattle.list_sql.specs.Contents.{Contents, HasRows, Kept, Means, list_places, list_tables}
 use Rattle.list_sql.specs.Keeping.{HasList, IsFilled, Stores}
 use Rattle.list_sql.specs.Opening.{FindsLast, IsExcused, IsUnlessRefused, Misses, Says, is_known, joined, last_in}
 use Rattle.list_sql.specs.Opening.{listed}
-use Rattle.list_sql.specs.Refusals.{HasCauseOr}
+use Rattle.store_sql.specs.Refusals.{HasCauseOr}
 use Rattle.list_sql.specs.Rows.{bytes_of, list_contents, list_rows}
 use Rattle.list_sql.specs.Told.{opening_fault}
-use Rattle.list_sql.specs.Transactions.{Has}
+use Rattle.rows.specs.Transactions.{Has}
 use Rattle.list_sql.proofs.Answering.{has_failed}
 use Rattle.list_sql.proofs.Elsewhere.{list_apart}
 use Rattle.list_sql.proofs.Lookups.{AreApart, in_order}
 use Rattle.list_sql.proofs.PieceLemmas.{list_again}
-use Rattle.list_sql.proofs.Wholes.{rests_still}
+use Rattle.rows.proofs.Wholes.{rests_still}
 
 -- ---- the rows of a table
 
@@ -101,8 +101,8 @@ pub opened_stores : (old new : Connection) (s : State)
 opened_stores old new s settled same survives unlimited filled has =
     let rests : HasList s new = record {
       autocommit = same.0.mode ∙ has.autocommit;
-      now = subst (Has (list_contents s)) (sym same.0.now_is) has.now;
-      committed = subst (Has (list_contents s)) (sym same.0.committed_is) has.committed;
+      now = subst (Has list_tables (list_contents s)) (sym same.0.now_is) has.now;
+      committed = subst (Has list_tables (list_contents s)) (sym same.0.committed_is) has.committed;
     } in
     made_stores new s settled same.0.is_open filled (survives.limit ∙ unlimited) rests
 

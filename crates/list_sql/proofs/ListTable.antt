@@ -1,14 +1,14 @@
 -- The statements on the table of the list, and the causes of a refusal.
-use Rattle.list_sql.proofs.Words.{AllByRecursion, Applies, Blob, Contents, DELETE_LISTS, Database, Delete, Does}
-use Rattle.list_sql.proofs.Words.{EVERY_LIST, Edit, Enforced, FailsBy, Fault, Given, Has, HasRows, Holds, INSERT_LIST}
-use Rattle.list_sql.proofs.Words.{Insert, Int, IsAnswer, IsPermutation, IsPermutation-map, IsPermutation-trans}
-use Rattle.list_sql.proofs.Words.{IsTooLong, List, ListRow, Lists, Means, None, Null, Ok, Option, Program, Query}
-use Rattle.list_sql.proofs.Words.{RefusedFor, RefusesList, RefusesNone, Result, Row, State, Tally, Term, Trees, Values}
-use Rattle.list_sql.proofs.Words.{[], accepts_program, ap, arith, codes, col, column, drop, edit_of, everything, false}
-use Rattle.list_sql.proofs.Words.{filter, id_in, ids_of, inl, inr, is_int, list_at, list_cells, list_places, lit}
-use Rattle.list_sql.proofs.Words.{lt-ltb, map, map-map, overlay, pos, refl, rowid, statement_of, subst, true}
-use Rattle.list_sql.proofs.Words.{understood, whole, with_list, with_tree, without_rows, ℕ, ◌++◌, ◌<◌, ◌^◌, ◌∙◌, ◌∷◌}
-use Rattle.list_sql.proofs.Words.{◌≡◌}
+use Rattle.rows.proofs.Words.{AllByRecursion, Applies, Blob, Database, Delete, Does, Edit, Enforced, FailsBy, Fault}
+use Rattle.rows.proofs.Words.{Given, Has, Insert, Int, IsAnswer, IsPermutation, IsPermutation-map, IsPermutation-trans}
+use Rattle.rows.proofs.Words.{IsTooLong, List, Lists, None, Null, Ok, Option, Program, Query, RefusedFor, Result, Row}
+use Rattle.rows.proofs.Words.{State, Tally, Term, Trees, Values, accepts_program, ap, arith, codes, col, column, drop}
+use Rattle.rows.proofs.Words.{edit_of, everything, false, filter, id_in, ids_of, inl, inr, is_int, lit, lt-ltb, map}
+use Rattle.rows.proofs.Words.{map-map, overlay, pos, refl, rowid, statement_of, subst, true, understood, with_tree, []}
+use Rattle.rows.proofs.Words.{ℕ, ◌++◌, ◌<◌, ◌^◌, ◌∙◌, ◌∷◌, ◌≡◌}
+use Rattle.list_sql.proofs.Words.{Contents, DELETE_LISTS, EVERY_LIST, HasRows, Holds, INSERT_LIST, ListRow, Means}
+use Rattle.list_sql.proofs.Words.{RefusesList, RefusesNone, list_at, list_cells, list_places, whole, with_list}
+use Rattle.list_sql.proofs.Words.{without_rows}
 use Rattle.std.proofs.lemmas.List.Sorted.{IsPermutation-to_front}
 use Rattle.sqlite_rules.specs.Edit.{edited}
 use Rattle.store_sql.proofs.CallLemmas.{FindIn, IsSelect}
@@ -22,13 +22,14 @@ use Rattle.store_sql.proofs.Statements.{deletes, mode}
 use Rattle.store_sql.proofs.Stops.{delete_halts}
 use Rattle.store_sql.proofs.Texts.{query, statement}
 use Rattle.store_sql.proofs.Inserts.{taken_number}
-use Rattle.list_sql.proofs.CallLemmas.{Write}
-use Rattle.list_sql.proofs.Elsewhere.{in_list, list_apart}
-use Rattle.list_sql.proofs.FaultLemmas.{HasWriteCause, IsStatement, Stops, refused_for}
+use Rattle.rows.proofs.CallLemmas.{Write}
+use Rattle.list_sql.proofs.Elsewhere.{in_list, list_apart, simple}
+use Rattle.rows.proofs.FaultLemmas.{HasWriteCause, IsStatement, Stops, refused_for}
 use Rattle.list_sql.proofs.Growth.{lists_none}
-use Rattle.list_sql.proofs.Inserts.{IsInsert, all_refer, insert, insert_fails, no_works}
-use Rattle.list_sql.proofs.Reasons.{IsPut, unclashed}
-use Rattle.list_sql.proofs.Removals.{keys_hold, removal_halts}
+use Rattle.rows.proofs.Inserts.{IsInsert, all_refer, insert, insert_fails}
+use Rattle.rows.proofs.Reasons.{IsPut, removal_halts, unclashed}
+use Rattle.list_sql.proofs.Removals.{keys_hold}
+use Rattle.list_sql.specs.Contents.{list_tables}
 
 pub tree : IsTreeOf Holds list_cells list_places 0 (λ c. c.lists)
 tree = record { stored = λ trees. refl; held = λ trees c h. h.lists; apart = list_apart }
@@ -50,13 +51,14 @@ at_end rows x xs h = record {
   apart = h.apart;
 }
 
-insert_is : IsStatement INSERT_LIST.now (Insert 0 (Values terms 4)) 3
+insert_is : IsStatement list_tables INSERT_LIST.now (Insert 0 (Values terms 4)) 3
 unfolding everything
 insert_is = statement whole INSERT_LIST.now _ 3 refl refl
 
-pub puts : IsInsert INSERT_LIST.now list_cells list_places 0 list_at terms 4 with_list (λ c. c.lists)
+pub puts : IsInsert list_tables INSERT_LIST.now list_cells list_places 0 list_at terms 4 with_list (λ c. c.lists)
     (λ x rows. row_of x)
 puts = record {
+  simple = simple;
   tree = tree;
   found = refl;
   is = λ x. insert_is;
@@ -66,7 +68,7 @@ puts = record {
   held = λ x db after c h o put now. in_list db after c h (c.lists ++ x ∷ []) o (at_end (after 0) x c.lists now);
 }
 
-pub put : (x : ListRow) → Write INSERT_LIST.now (list_cells x) (with_list x)
+pub put : (x : ListRow) → Write list_tables INSERT_LIST.now (list_cells x) (with_list x)
 put = insert puts
 
 -- ---- SELECT of all
@@ -102,7 +104,7 @@ every_row = on_table 0 [] (col 1 0 ∷ []) []
 abbrev removal : Program
 removal = record { lets = []; body = every_row }
 
-delete_is : IsStatement DELETE_LISTS.now (Delete 0 removal) 0
+delete_is : IsStatement list_tables DELETE_LISTS.now (Delete 0 removal) 0
 unfolding everything
 delete_is = statement whole DELETE_LISTS.now _ 0 refl refl
 
@@ -132,37 +134,37 @@ delete_does : (limit : Option ℕ) (db next : Database) (tally : Tally) (c : Con
     (Ok (tally, next)) → (next.schema ≡ whole) × Holds next.trees (without_rows c)
 delete_does limit db next tally c means h =
     let did = deletes limit db next tally whole means.schema 0 list_at refl []
-    (statement_of DELETE_LISTS.now (understood whole DELETE_LISTS.now)) removal h (no_works 0) in (
+    (statement_of DELETE_LISTS.now (understood whole DELETE_LISTS.now)) removal h (simple.no_works 0) in (
       did.3,
       in_list db.trees next.trees c means.kept.holds [] did.2.tables
           (left_rows db.trees next.trees c did.0 means.kept.holds (did.1.answer Null) did.2),
     )
 
-pub delete : Write DELETE_LISTS.now [] without_rows
+pub delete : Write list_tables DELETE_LISTS.now [] without_rows
 delete = record { command = Delete 0 removal; is = delete_is; on_rows = tt; does = delete_does }
 
 delete_typed : accepts_program whole [] every_row [] ≡ true
 delete_typed = refl
 
 -- it is never refused
-unrefused : (s : State) (c : Contents) → Means s.now c → Stops DELETE_LISTS.now [] (Delete 0 removal) s → ⊥
+unrefused : (s : State) (c : Contents) → Means s.now c → Stops list_tables DELETE_LISTS.now [] (Delete 0 removal) s → ⊥
 unrefused s c means stops =
     let db = s.now.trees in
     let kept = delete_halts s.now whole means.schema 0 list_at refl []
-    (statement_of DELETE_LISTS.now (understood whole DELETE_LISTS.now)) (no_works 0) removal delete_typed
+    (statement_of DELETE_LISTS.now (understood whole DELETE_LISTS.now)) (simple.no_works 0) removal delete_typed
     (λ h. elim h [ inl over ↦ over | inr fold ↦ none_overflows _ fold ]) stops.0 stops.1 in
     let edit : Edit = record { table = list_at; gone = ids_of kept.0; news = [] } in
-    removal_halts db list_at (ids_of kept.0) (inl refl) (keys_hold (with_tree db 0 (edited db edit)))
-    (λ next did. all_refer next) kept.2
+    removal_halts whole simple db list_at (ids_of kept.0) (inl refl) (keys_hold (with_tree db 0 (edited db edit)))
+    (λ next did. all_refer whole simple next) kept.2
 
 pub delete_fails : {X : Type 0} (old new : State) (r : Result X Fault)
-    → FailsBy (HasWriteCause DELETE_LISTS.now []) old new r → RefusedFor RefusesNone old new r
+    → FailsBy list_tables (HasWriteCause list_tables DELETE_LISTS.now []) old new r → RefusedFor list_tables RefusesNone old new r
 delete_fails old new r h =
-    refused_for DELETE_LISTS.now [] (Delete 0 removal) delete_is.0 delete_is.2 RefusesNone unrefused old new r h
+    refused_for list_tables DELETE_LISTS.now [] (Delete 0 removal) delete_is.0 delete_is.2 RefusesNone unrefused old new r h
 
 -- ---- why a row is refused
 
-pub is_put : (x : ListRow) → IsPut list_at (row_of x)
+pub is_put : (x : ListRow) → IsPut whole list_at (row_of x)
 is_put x = record {
   listed = inl refl;
   formed = (refl, refl, refl, refl);
@@ -177,9 +179,9 @@ list_long : (x : ListRow) → 10 ^ 9 < size (row_of x) → IsTooLong (list_cells
 list_long x long = omega (arith, long)
 
 pub list_fails : {X : Type 0} (x : ListRow) → x.id < 2 ^ 63 → (old new : State) (r : Result X Fault)
-    → FailsBy (HasWriteCause INSERT_LIST.now (list_cells x)) old new r → RefusedFor (RefusesList x) old new r
+    → FailsBy list_tables (HasWriteCause list_tables INSERT_LIST.now (list_cells x)) old new r → RefusedFor list_tables (RefusesList x) old new r
 list_fails x below = insert_fails puts x (RefusesList x) (λ s. is_put x)
     (λ s c means out. never (lt-ltb x.id (2 ^ 63) below) out)
     (λ s c means taken. inl (taken_number (λ y. y.id) x.id (drop 1 (row_of x)) (λ y r is. ap (λ v. column v 0) is)
-    means.kept.holds.lists taken)) (λ s c means clash. absurd (unclashed s.now.trees list_at [] (row_of x) tt clash))
+    means.kept.holds.lists taken)) (λ s c means clash. absurd (unclashed whole simple s.now.trees list_at [] (row_of x) tt clash))
     (λ s c long. inr (list_long x long))

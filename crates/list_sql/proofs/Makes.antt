@@ -1,6 +1,7 @@
 -- The table of a list guard, as it is made.
-use Rattle.list_sql.proofs.Words.{CREATE_LIST, CreateTable, Ok, ap, everything, list, no_schema, refl, same_name}
-use Rattle.list_sql.proofs.Words.{statement_of, table_defined_by, value_cmp, ◌≡◌}
+use Rattle.list_sql.proofs.Words.{CREATE_LIST, list}
+use Rattle.rows.proofs.Words.{CreateTable, Ok, ap, everything, no_schema, refl, same_name, statement_of}
+use Rattle.rows.proofs.Words.{table_defined_by, value_cmp, ◌≡◌}
 use Rattle.sqlite_resolve.specs.Compile.{compiled}
 use Rattle.sqlite_trees.specs.Sound.{begins, fits_kind, is_free_name, same_name as same_letters}
 use Rattle.std.specs.Str.{is_utf8, chars}

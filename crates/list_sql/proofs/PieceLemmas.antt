@@ -16,14 +16,14 @@ use Rattle.store_sql.proofs.Staying.{stays_then}
 use Rattle.store_sql.specs.declared.table_fault.Fault.{Fault}
 use Rattle.list_sql.specs.declared.lists.ListRow.{ListRow}
 use Rattle.list_sql.specs.Changes.{with_list, with_pieces}
-use Rattle.list_sql.specs.Contents.{Contents}
+use Rattle.list_sql.specs.Contents.{Contents, list_tables}
 use Rattle.list_sql.specs.Opening.{add_row, has_schema, is_known, joined, last_in, listed, row_with}
 use Rattle.list_sql.specs.Refusals.{RefusesList, RefusesNone}
 use Rattle.list_sql.specs.Rows.{bytes_of, first_rows, list_in, list_rows, piece_count, piece_row, piece_size}
-use Rattle.list_sql.specs.Transactions.{Has as HasContents, Part, Waits}
-use Rattle.list_sql.proofs.Causes.{fails_then}
+use Rattle.rows.specs.Transactions.{Has as HasContents, Part, Waits}
+use Rattle.rows.proofs.Causes.{fails_then}
 use Rattle.list_sql.proofs.Lookups.{AreApart, found_is, some_rows}
-use Rattle.list_sql.proofs.Steps.{Leads, answers_then, waits_then}
+use Rattle.rows.proofs.Steps.{Leads, answers_then, waits_then}
 
 -- ---- places
 
@@ -44,7 +44,7 @@ below from (suc n) at (inr later) = let lower = below (from + 1) n at later in o
 -- the rows of the first pieces have been written
 abbrev pub Written : List ℕ → ℕ → State → State → Type 0
 Written list count old new =
-    Part {X = Unit {0}} HasContents (with_pieces list count) RefusesNone old new (Ok tt)
+    Part list_tables {X = Unit {0}} (HasContents list_tables) (with_pieces list count) RefusesNone old new (Ok tt)
 
 abbrev of_rows : List ListRow → Contents
 of_rows rows = record { lists = rows }
@@ -60,8 +60,8 @@ free list at c (inr long) =
     let short = length-take piece_size (drop (at * piece_size) list) in omega (arith, long, short)
 
 module _ (list : List ℕ) (at : ℕ) (old mid new : State) (r : Result (Unit {0}) Fault) (before : Written list at old mid)
-    (wrote : Part HasContents (with_list (piece_row list at)) (RefusesList (piece_row list at)) mid new r) where
-  leads_on : HasCleanDisk mid → Leads HasContents HasContents (with_pieces list at) old mid
+    (wrote : Part list_tables (HasContents list_tables) (with_list (piece_row list at)) (RefusesList (piece_row list at)) mid new r) where
+  leads_on : HasCleanDisk mid → Leads list_tables (HasContents list_tables) (HasContents list_tables) (with_pieces list at) old mid
   leads_on clean c means = let it = before.makes clean c means in (with_pieces list at c, it.1, it.1.means)
 
   still : HasCleanDisk new → HasCleanDisk mid
@@ -71,23 +71,23 @@ module _ (list : List ℕ) (at : ℕ) (old mid new : State) (r : Result (Unit {0
   more c = ap of_rows (sym (map-range_with_len_more (piece_row list) 0 at at (omega arith)))
 
   -- the next piece is written, or fails to be
-  pub one_more : Part HasContents (with_pieces list (at + 1)) RefusesNone old new r
+  pub one_more : Part list_tables (HasContents list_tables) (with_pieces list (at + 1)) RefusesNone old new r
   one_more = record {
-    makes = λ clean. answers_then HasContents (λ _ _. Unit {0}) (with_pieces list (at + 1)) HasContents
+    makes = λ clean. answers_then (HasContents list_tables) (λ _ _. Unit {0}) (with_pieces list (at + 1)) (HasContents list_tables)
         (λ _ _. Unit {0}) (with_list (piece_row list at)) (with_pieces list at) old mid new r (leads_on (still clean))
         (wrote.makes clean) (λ _ _ _. tt) more;
-    fault = λ clean. fails_then HasContents HasContents (RefusesList (piece_row list at)) RefusesNone
-        (with_pieces list at) (Waits HasContents old) old mid new r (leads_on (still clean))
+    fault = λ clean. fails_then (HasContents list_tables) (HasContents list_tables) (RefusesList (piece_row list at)) RefusesNone
+        (with_pieces list at) (Waits (HasContents list_tables) old) old mid new r (leads_on (still clean))
         (λ c means why. free list at c why) before.survives (still clean) wrote.survives.counts (wrote.fault clean);
     stays = λ clean. stays_then {X = Unit {0}} old mid new tt r (before.stays (still clean)) (wrote.stays clean);
-    survives = waits_then HasContents HasContents (with_pieces list at) old mid new leads_on before.survives
+    survives = waits_then (HasContents list_tables) (HasContents list_tables) (with_pieces list at) old mid new leads_on before.survives
         wrote.survives;
   }
 
 -- a part that fails doesn't say what it would have made
 pub failed : {after meant : Contents → Contents} {old new : State} {f : Fault}
-    → Part {X = Unit {0}} HasContents after RefusesNone old new (Err f)
-    → Part {X = Unit {0}} HasContents meant RefusesNone old new (Err f)
+    → Part list_tables {X = Unit {0}} (HasContents list_tables) after RefusesNone old new (Err f)
+    → Part list_tables {X = Unit {0}} (HasContents list_tables) meant RefusesNone old new (Err f)
 failed p = record { makes = p.makes; fault = p.fault; stays = p.stays; survives = p.survives }
 
 -- the place is within the list, as is the length of all whole pieces

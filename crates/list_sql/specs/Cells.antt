@@ -2,8 +2,8 @@
 use Rattle.std.specs.Prelude.{pos, List, [], ◌∷◌}
 use Rattle.sqlite.specs.Order.{Row}
 use Rattle.sqlite.specs.declared.types.Value.TheVariants.{Int, Blob}
-use Rattle.list_sql.specs.declared.kind.Kind.{Kind}
-use Rattle.list_sql.specs.declared.kind.Kind.TheVariants as kind
+use Rattle.rows.specs.declared.kind.Kind.{Kind}
+use Rattle.rows.specs.declared.kind.Kind.TheVariants as kind
 use Rattle.list_sql.specs.declared.lists.ListRow.{ListRow}
 
 abbrev pub list_cells : ListRow → Row

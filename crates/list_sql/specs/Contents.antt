@@ -2,11 +2,12 @@
 use Rattle.std.specs.Prelude.{◌≡◌, ℕ, List, [], ◌∷◌}
 use Rattle.sqlite.specs.Tree.{Trees}
 use Rattle.sqlite.specs.Effect.{Database}
-use Rattle.sqlite_catalog.specs.Listing.{IsSound}
 use Rattle.store_sql.specs.Contents.{Lists}
 use Rattle.list_sql.specs.declared.lists.ListRow.{ListRow}
 use Rattle.list_sql.specs.Cells.{list_cells}
 use Rattle.list_sql.specs.Schema.{whole}
+use Rattle.rows.specs.Tables as rows
+use Rattle.rows.specs.Tables.{Tables}
 
 -- the structs of all rows
 pub record Contents : Type 0 where
@@ -23,15 +24,17 @@ list_places = 0 ∷ 2 ∷ 3 ∷ []
 pub record Holds (trees : Trees) (c : Contents) : Type 0 where
   pub lists : Lists list_cells list_places (trees 0) c.lists
 
+-- the table, for what all tables share
+abbrev pub list_tables : Tables Contents
+list_tables = record { whole = whole; Holds = Holds; none = no_contents }
+
 -- this suffices to find the contents again after an open
-pub record Kept (trees : Trees) (c : Contents) : Type 0 where
-  pub sound : IsSound whole trees
-  pub holds : Holds trees c
+abbrev pub Kept : Trees → Contents → Type 0
+Kept trees c = rows.Kept list_tables trees c
 
 -- this is the database's only table, and it holds these contents
-pub record Means (db : Database) (c : Contents) : Type 0 where
-  pub schema : db.schema ≡ whole
-  pub kept : Kept db.trees c
+abbrev pub Means : Database → Contents → Type 0
+Means db c = rows.Means list_tables db c
 
 -- this is the database's only table, and it holds these rows
 pub record HasRows (rows : List ListRow) (db : Database) : Type 0 where

@@ -5,9 +5,9 @@ use Rattle.sqlite.specs.State.{State as Connection}
 use Rattle.list_guard.specs.State.{State}
 use Rattle.store_sql.specs.Calls.{IsBare}
 use Rattle.store_sql.specs.Schema.{no_schema}
-use Rattle.list_sql.specs.Contents.{Kept}
+use Rattle.list_sql.specs.Contents.{Kept, list_tables}
 use Rattle.list_sql.specs.Rows.{list_contents}
-use Rattle.list_sql.specs.Transactions.{Has, Rests}
+use Rattle.rows.specs.Transactions.{Has, Rests}
 
 -- the table can represent the state: its list has a byte, or there is none
 abbrev pub IsFilled : State → Type 0
@@ -15,7 +15,7 @@ IsFilled s = MatchOption s.last (Unit {0}) (λ list. list ≢ [])
 
 -- no transaction is open, and the table holds the rows of this state
 abbrev pub HasList : State → Connection → Type 0
-HasList s c = Rests (Has (list_contents s)) c
+HasList s c = Rests (Has list_tables (list_contents s)) c
 
 -- The list has a byte, no query has a limit on its steps, no transaction is open, and unless a failed disk has shut the
 -- connection, the table holds the rows of the state.

@@ -1,15 +1,9 @@
-pub mod Kinds
-pub mod Granted
 pub mod Schema
 pub mod Cells
 pub mod Contents
 pub mod Changes
-pub mod Calls
 pub mod Refusals
-pub mod Statements
 pub mod Look
-pub mod Transactions
-pub mod Creating
 pub mod Rows
 pub mod Keeping
 pub mod Told

@@ -11,10 +11,10 @@ use Rattle.store_sql.specs.Faults.{HasFailed as SqlFailed}
 use Rattle.list_sql.specs.declared.lists.ListRow.{ListRow}
 use Rattle.list_sql.specs.declared.opening_fault.OpeningFault.{OpeningFault}
 use Rattle.list_sql.specs.declared.opening_fault.OpeningFault.TheVariants as fault
-use Rattle.list_sql.specs.Contents.{HasRows, Means}
+use Rattle.list_sql.specs.Contents.{HasRows, Means, list_tables}
 use Rattle.list_sql.specs.Keeping.{HasFailed, HasList, IsBlank, IsFilled, Stores}
 use Rattle.list_sql.specs.Rows.{list_contents, list_in}
-use Rattle.list_sql.specs.Transactions.{Leaves as LeavesAfter}
+use Rattle.rows.specs.Transactions.{Leaves as LeavesAfter}
 
 -- ---- the meaning of rows
 
@@ -114,4 +114,4 @@ FoundsNone old new e = IsBlank old → IsExcused new e × (IsTrue new.is_open �
 
 -- a crash leaves no table, or that of the new list guard
 abbrev pub LeavesNew : Connection → Trees → Type 0
-LeavesNew old trees = LeavesAfter (λ _. IsBare no_schema) (λ (_ : Unit {0}). list_contents opened) old trees
+LeavesNew old trees = LeavesAfter list_tables (λ _. IsBare no_schema) (λ (_ : Unit {0}). list_contents opened) old trees

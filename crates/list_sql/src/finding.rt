@@ -3,7 +3,8 @@
 ghost use Rattle.std.specs.Prelude.{◌≡◌, true, false, length, Err, option_copied};
 ghost use Rattle.std.specs.List.{list_all, list_any};
 ghost use Rattle.store_sql.specs.Honest.{On, Outlives, tables_of};
-ghost use Rattle.list_sql.specs.Calls.{Never, OnlyLooks};
+ghost use Rattle.store_sql.specs.Calls.{Never};
+ghost use Rattle.rows.specs.Calls.{OnlyLooks};
 ghost use Rattle.list_sql.specs.Look.{is_list_table};
 ghost use Rattle.list_sql.specs.Opening.{FindsLast, IsUnlessRefused, SaysUnless};
 ghost use Rattle.list_sql.specs.Opening.{has_id, has_schema, is_known, joined, last_in, listed, row_with};

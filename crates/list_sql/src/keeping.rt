@@ -2,17 +2,18 @@
 
 ghost use Rattle.list_sql.specs.Changes.{with_rows};
 ghost use Rattle.list_sql.specs.Refusals.{RefusesNone};
-ghost use Rattle.list_sql.specs.Transactions.{Does, WritesWhole};
+ghost use Rattle.rows.specs.Transactions.{Does, WritesWhole};
+ghost use Rattle.list_sql.specs.Contents.{list_tables};
 
 use crate::lists::delete_lists;
 use crate::pieces::{insert_piece, piece_count};
-use crate::transaction::conclude;
+use rows::conclude;
 use sqlite::{Alter, Connection};
 use store_sql::{Fault, begin};
 
 /// Writes the rows of this list in place of all others.
 fn replace<S: Alter>(conn: &mut Connection<S>, list: &[u8]) -> Result<(), Fault>
-    ensures { Does S.Store (with_rows list.now) RefusesNone conn.old conn.new result }
+    ensures { Does list_tables S.Store (with_rows list.now) RefusesNone conn.old conn.new result }
 {
     match delete_lists(conn) {
         Ok(()) => {}
@@ -29,7 +30,7 @@ fn replace<S: Alter>(conn: &mut Connection<S>, list: &[u8]) -> Result<(), Fault>
 
 /// Writes the rows of this list in place of all others, or none of them.
 pub(crate) fn fill<S: Alter>(conn: &mut Connection<S>, list: &[u8]) -> Result<(), Fault>
-    ensures { WritesWhole S.Store (with_rows list.now) RefusesNone conn.old conn.new result }
+    ensures { WritesWhole list_tables S.Store (with_rows list.now) RefusesNone conn.old conn.new result }
 {
     match begin(conn) {
         Ok(()) => {

@@ -5,24 +5,19 @@
 //! this one.
 #![tactic(auto)]
 
-mod columns;
 mod creating;
 mod creation;
-mod done;
 mod faults;
 mod finding;
 mod keeping;
-mod kind;
 mod lists;
 mod look;
-mod memory;
 mod opening_fault;
 mod pieces;
 mod register;
 mod serving;
 mod sql;
 mod store;
-mod transaction;
 
 pub use opening_fault::OpeningFault;
 pub use store::ListStore;

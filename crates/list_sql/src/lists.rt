@@ -3,13 +3,11 @@
 ghost use Rattle.list_sql.specs.Contents.{HasRows};
 ghost use Rattle.list_sql.specs.Changes.{with_list, without_rows};
 ghost use Rattle.list_sql.specs.Refusals.{RefusesList, RefusesNone};
-ghost use Rattle.list_sql.specs.Statements.{ReadsIn, Writes};
+ghost use Rattle.rows.specs.Statements.{ReadsIn, Writes};
+ghost use Rattle.list_sql.specs.Contents.{list_tables};
 
-use crate::columns::{Columns, found};
-use crate::done::done;
-use crate::kind::{Kind, blob_at, is_row_of, number_at, value_of};
-use crate::memory::Memory;
 use crate::sql::{DELETE_LISTS, EVERY_LIST, INSERT_LIST};
+use rows::{Columns, Kind, Memory, blob_at, done, found, is_row_of, number_at, value_of};
 use sqlite::types::ValueRef;
 use sqlite::{Alter, Connection, Row};
 use std::alloc::Global;
@@ -46,7 +44,7 @@ impl ListRow {
 
 impl Columns for ListRow {
     ghost use Rattle.std.specs.Prelude.{refl};
-    ghost use Rattle.list_sql.specs.Kinds.{has_kinds};
+    ghost use Rattle.rows.specs.Kinds.{has_kinds};
     ghost use Rattle.list_sql.specs.Cells.{list_cells, list_kinds};
 
     ghost cells = { list_cells };
@@ -70,7 +68,7 @@ impl Columns for ListRow {
 
 /// Inserts a row. `Device` also if its id is taken, or the row is too long.
 pub(crate) fn insert_list<S: Alter>(conn: &mut Connection<S>, list: &ListRow) -> Result<(), Fault>
-    ensures { Writes S.Store (with_list list.now) (RefusesList list.now) conn.old conn.new result }
+    ensures { Writes list_tables S.Store (with_list list.now) (RefusesList list.now) conn.old conn.new result }
 {
     done(conn.execute(INSERT_LIST, &list.values()))
 }
@@ -87,7 +85,7 @@ pub(crate) fn every_list<S: Alter>(
 
 /// Deletes all rows. The table never refuses that.
 pub(crate) fn delete_lists<S: Alter>(conn: &mut Connection<S>) -> Result<(), Fault>
-    ensures { Writes S.Store without_rows RefusesNone conn.old conn.new result }
+    ensures { Writes list_tables S.Store without_rows RefusesNone conn.old conn.new result }
 {
     done(conn.execute(DELETE_LISTS, &[]))
 }

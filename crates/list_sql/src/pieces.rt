@@ -7,11 +7,11 @@ ghost use Rattle.list_sql.specs.Cells.{list_cells};
 ghost use Rattle.list_sql.specs.Changes.{with_list};
 ghost use Rattle.list_sql.specs.Refusals.{RefusesList};
 ghost use Rattle.list_sql.specs.Rows.{piece_at, piece_count, piece_row, piece_size};
-ghost use Rattle.list_sql.specs.Statements.{Writes};
+ghost use Rattle.rows.specs.Statements.{Writes};
+ghost use Rattle.list_sql.specs.Contents.{list_tables};
 
-use crate::done::done;
-use crate::kind::value_of;
 use crate::sql::INSERT_LIST;
+use rows::{done, value_of};
 use sqlite::types::ValueRef;
 use sqlite::{Alter, Connection};
 use store_sql::{Fault, Number};
@@ -70,7 +70,7 @@ pub(crate) fn insert_piece<S: Alter>(
 ) -> Result<(), Fault>
     requires inside { at * piece_size ≤ length list.now }
     requires low { at + 1 < 2 ^ 63 }
-    ensures { Writes S.Store (with_list (piece_row list.now at)) (RefusesList (piece_row list.now at))
+    ensures { Writes list_tables S.Store (with_list (piece_row list.now at)) (RefusesList (piece_row list.now at))
         conn.old conn.new result }
 {
     done(conn.execute(INSERT_LIST, &piece_values(list, at)))

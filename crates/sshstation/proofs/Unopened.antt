@@ -27,13 +27,13 @@ use Rattle.store_sql.specs.Calls.{IsBare}
 use Rattle.store_sql.specs.Schema.{no_schema}
 use Rattle.guard.specs.declared.scope.Scope.{Scope}
 use Rattle.guard.specs.State.{State, opened}
-use Rattle.guard_sql.specs.Calls.{Never}
+use Rattle.store_sql.specs.Calls.{Never}
 use Rattle.guard_sql.specs.Contents.{Kept}
 use Rattle.guard_sql.specs.Keeping.{HasGuard, IsGuard, IsScope}
 use Rattle.guard_sql.specs.Look.{is_empty}
 use Rattle.guard_sql.specs.Opening.{LeavesNew}
 use Rattle.guard_sql.specs.Rows.{guard_contents}
-use Rattle.guard_sql.specs.Transactions.{Rests}
+use Rattle.rows.specs.Transactions.{Rests}
 use Rattle.restart.specs.Images.{HoldsNone}
 use Rattle.restart.proofs.HalfMade.{found_nothing}
 use Rattle.restart.specs.declared.open_fault.OpenFault.{OpenFault}

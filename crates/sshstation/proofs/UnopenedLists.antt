@@ -16,13 +16,13 @@ use Rattle.sqlite.specs.Files.{HoldsDatabase, file_state}
 use Rattle.store_sql.specs.Calls.{IsBare}
 use Rattle.store_sql.specs.Schema.{no_schema}
 use Rattle.list_guard.specs.State.{State, opened}
-use Rattle.list_sql.specs.Calls.{Never}
+use Rattle.store_sql.specs.Calls.{Never}
 use Rattle.list_sql.specs.Contents.{Kept}
 use Rattle.list_sql.specs.Keeping.{HasList}
 use Rattle.list_sql.specs.Look.{is_empty}
 use Rattle.list_sql.specs.Opening.{LeavesNew}
 use Rattle.list_sql.specs.Rows.{list_contents}
-use Rattle.list_sql.specs.Transactions.{Rests}
+use Rattle.rows.specs.Transactions.{Rests}
 use Rattle.list_restart.specs.Images.{Holds, Standing}
 use Rattle.station_jobs.specs.declared.station_fault.StationFault.{StationFault}
 use Rattle.sshstation.specs.ListFiles.{OpensLists}

@@ -1,5 +1,5 @@
 use Rattle.guard_sql.proofs.ApprovalTable.{approval_fails, put}
-use Rattle.guard_sql.proofs.CallLemmas.{wrote}
+use Rattle.rows.proofs.CallLemmas.{wrote}
 use Rattle.guard_sql.proofs.approvals.insert_approval.Goals as goal
 
 pub returns : goal.returns

@@ -1,55 +1,27 @@
-use Rattle.std.proofs.Common.{arith}
-use Rattle.std.proofs.lemmas.Result.{IfErr-weaker}
-use Rattle.sqlite.specs.Effect.{Database}
 use Rattle.sqlite.specs.Held.{state}
-use Rattle.sqlite.specs.State.{HasCleanDisk}
-use Rattle.store_sql.specs.Schema.{no_schema}
-use Rattle.guard_sql.specs.Calls.{IsBare}
 use Rattle.guard_sql.specs.Changes.{with_guard}
-use Rattle.guard_sql.specs.Contents.{no_contents}
+use Rattle.guard_sql.specs.Contents.{guard_tables, no_contents}
 use Rattle.guard_sql.specs.Refusals.{RefusesGuard}
-use Rattle.guard_sql.specs.Transactions.{Waits}
-use Rattle.guard_sql.proofs.Causes.{stops_for}
-use Rattle.guard_sql.proofs.Steps.{ends, left}
+use Rattle.rows.proofs.Blanks.{blank_ends, blank_fails, blank_left}
 use Rattle.guard_sql.proofs.creating.make_whole.Goals as goal
 
 pub returns-in-Ok-clause-ends : goal.returns-in-Ok-clause-ends
-returns-in-Ok-clause-ends g c clean =
-    let old = state g.S.Store c.args.conn.now in
-    let first = state g.S.Store c.begin.new.conn in
-    let last = state g.S.Store c.make-made.new.conn in
-    let new = state g.S.Store c.conclude.new.conn in
-    let part = c.make-made.ensures in
-    let end = c.conclude.ensures in
-    let late : HasCleanDisk last = omega (arith, end.survives.clean) in
-    let early : HasCleanDisk first = omega (arith, part.survives.clean, late) in
-    ends (λ (_ : Unit {0}) (db : Database). IsBare no_schema db) (λ _ _. Unit {0})
-    (λ (_ : Unit {0}). with_guard c.args.guard.now no_contents) old first last new c.make-made.result
-    c.conclude.result (c.in-Ok.ensures.begins early) (part.makes late) (end.concludes clean)
+returns-in-Ok-clause-ends g c = blank_ends guard_tables (with_guard c.args.guard.now no_contents)
+    (RefusesGuard c.args.guard.now no_contents) (state g.S.Store c.args.conn.now) (state g.S.Store c.begin.new.conn)
+    (state g.S.Store c.make-made.new.conn) (state g.S.Store c.conclude.new.conn) c.make-made.result c.conclude.result
+    c.in-Ok.ensures.begins c.begin.ensures.survives c.make-made.ensures c.conclude.ensures.concludes
+    c.conclude.ensures.cause c.conclude.ensures.survives
 
 pub returns-in-Ok-clause-cause : goal.returns-in-Ok-clause-cause
-returns-in-Ok-clause-cause g c clean rests =
-    let old = state g.S.Store c.args.conn.now in
-    let first = state g.S.Store c.begin.new.conn in
-    let last = state g.S.Store c.make-made.new.conn in
-    let new = state g.S.Store c.conclude.new.conn in
-    let part = c.make-made.ensures in
-    let end = c.conclude.ensures in
-    let q = c.conclude.result in
-    let Bare = λ (_ : Unit {0}) (db : Database). IsBare no_schema db in
-    let late : HasCleanDisk last = omega (arith, end.survives.clean) in
-    let early : HasCleanDisk first = omega (arith, part.survives.clean, late) in
-    IfErr-weaker q _ _ (λ f stops. stops tt (λ _. rests)) (stops_for Bare (λ _ _. Unit {0})
-    (λ (_ : Unit {0}). with_guard c.args.guard.now no_contents) (λ _. RefusesGuard c.args.guard.now no_contents)
-    (Waits Bare first) old first last new c.begin.ensures.survives part.survives early late end.survives.counts
-    c.make-made.result q (c.in-Ok.ensures.begins early) (part.makes late) (part.fault late) (end.concludes clean)
-    (end.cause clean))
+returns-in-Ok-clause-cause g c = blank_fails guard_tables (with_guard c.args.guard.now no_contents)
+    (RefusesGuard c.args.guard.now no_contents) (state g.S.Store c.args.conn.now) (state g.S.Store c.begin.new.conn)
+    (state g.S.Store c.make-made.new.conn) (state g.S.Store c.conclude.new.conn) c.make-made.result c.conclude.result
+    c.in-Ok.ensures.begins c.begin.ensures.survives c.make-made.ensures c.conclude.ensures.concludes
+    c.conclude.ensures.cause c.conclude.ensures.survives
 
 pub returns-in-Ok-clause-survives : goal.returns-in-Ok-clause-survives
-returns-in-Ok-clause-survives g c =
-    let part = c.make-made.ensures in
-    left (λ (_ : Unit {0}) (db : Database). IsBare no_schema db) (λ _ _. Unit {0})
-    (λ (_ : Unit {0}). with_guard c.args.guard.now no_contents) (state g.S.Store c.args.conn.now)
-    (state g.S.Store c.begin.new.conn) (state g.S.Store c.make-made.new.conn) (state g.S.Store c.conclude.new.conn)
-    c.make-made.result c.in-Ok.ensures.begins part.makes c.begin.ensures.survives part.survives
-    c.conclude.ensures.survives
+returns-in-Ok-clause-survives g c = blank_left guard_tables (with_guard c.args.guard.now no_contents)
+    (RefusesGuard c.args.guard.now no_contents) (state g.S.Store c.args.conn.now) (state g.S.Store c.begin.new.conn)
+    (state g.S.Store c.make-made.new.conn) (state g.S.Store c.conclude.new.conn) c.make-made.result c.conclude.result
+    c.in-Ok.ensures.begins c.begin.ensures.survives c.make-made.ensures c.conclude.ensures.concludes
+    c.conclude.ensures.cause c.conclude.ensures.survives

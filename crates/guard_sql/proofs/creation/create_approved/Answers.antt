@@ -1,4 +1,5 @@
-use Rattle.guard_sql.proofs.Words.{Creates, HasCause, approved, state, through_guard}
+use Rattle.rows.proofs.Words.{Creates, HasCause, state}
+use Rattle.guard_sql.proofs.Words.{approved, through_guard}
 use Rattle.store_sql.proofs.FoundLemmas.{done_as, fault_done}
 use Rattle.store_sql.proofs.Makes.{create_faults, create_stays, creates, creates_left}
 use Rattle.store_sql.proofs.Statements.{survives_as}

@@ -1,4 +1,5 @@
-use Rattle.guard_sql.proofs.Words.{Creates, HasCause, guard, no_schema, state}
+use Rattle.rows.proofs.Words.{Creates, HasCause, no_schema, state}
+use Rattle.guard_sql.proofs.Words.{guard}
 use Rattle.store_sql.proofs.FoundLemmas.{done_as, fault_done}
 use Rattle.store_sql.proofs.Makes.{create_faults, create_stays, creates, creates_left}
 use Rattle.store_sql.proofs.Statements.{survives_as}

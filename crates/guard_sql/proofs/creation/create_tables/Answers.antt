@@ -1,4 +1,4 @@
-use Rattle.guard_sql.proofs.Words.{state}
+use Rattle.rows.proofs.Words.{state}
 use Rattle.store_sql.proofs.Later.{stops}
 use Rattle.guard_sql.proofs.Growth.{completed, fails, outlive, stay}
 use Rattle.guard_sql.proofs.creation.create_tables.Goals as goal

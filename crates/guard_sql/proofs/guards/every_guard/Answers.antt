@@ -1,5 +1,5 @@
 use Rattle.guard_sql.specs.Contents.{HasGuards}
-use Rattle.guard_sql.proofs.CallLemmas.{found_in}
+use Rattle.rows.proofs.CallLemmas.{found_in}
 use Rattle.guard_sql.proofs.GuardTable.{every, known}
 use Rattle.guard_sql.proofs.guards.every_guard.Goals as goal
 

@@ -1,4 +1,4 @@
-use Rattle.guard_sql.proofs.CallLemmas.{wrote}
+use Rattle.rows.proofs.CallLemmas.{wrote}
 use Rattle.guard_sql.proofs.GuardTable.{guard_fails, put}
 use Rattle.guard_sql.proofs.guards.insert_guard.Goals as goal
 

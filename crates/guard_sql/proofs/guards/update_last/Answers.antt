@@ -1,4 +1,4 @@
-use Rattle.guard_sql.proofs.CallLemmas.{wrote}
+use Rattle.rows.proofs.CallLemmas.{wrote}
 use Rattle.guard_sql.proofs.GuardTable.{end, last_fails}
 use Rattle.guard_sql.proofs.guards.update_last.Goals as goal
 

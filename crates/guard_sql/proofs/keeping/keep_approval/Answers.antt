@@ -1,8 +1,9 @@
-use Rattle.guard_sql.proofs.Wholes.{begun, not_begun}
+use Rattle.rows.proofs.TransactionParts.{written}
+use Rattle.rows.proofs.Wholes.{begun, not_begun}
 use Rattle.guard_sql.proofs.keeping.keep_approval.Goals as goal
 
 pub returns-in-Ok : goal.returns-in-Ok
-returns-in-Ok g c = begun c.in-Ok.ensures.begins c.begin.ensures.survives c.insert_approval-kept.ensures c.conclude.ensures.concludes
+returns-in-Ok g c = begun c.in-Ok.ensures.begins c.begin.ensures.survives (written c.insert_approval-kept.ensures) c.conclude.ensures.concludes
     c.conclude.ensures.cause c.conclude.ensures.survives
 
 pub returns-in-Err : goal.returns-in-Err

@@ -1,4 +1,4 @@
-use Rattle.guard_sql.proofs.Words.{length, sym, ◌∙◌, ◌≡◌}
+use Rattle.rows.proofs.Words.{length, sym, ◌∙◌, ◌≡◌}
 use Rattle.store_sql.proofs.KindLemmas.{same_names}
 use Rattle.guard_sql.proofs.look.has_guard_columns.Goals as goal
 

@@ -1,4 +1,5 @@
-use Rattle.list_sql.proofs.Words.{Creates, HasCause, list, no_schema, state}
+use Rattle.rows.proofs.Words.{Creates, HasCause, no_schema, state}
+use Rattle.list_sql.proofs.Words.{list}
 use Rattle.store_sql.proofs.FoundLemmas.{done_as, fault_done}
 use Rattle.store_sql.proofs.Makes.{create_faults, create_stays, creates, creates_left}
 use Rattle.store_sql.proofs.Statements.{survives_as}

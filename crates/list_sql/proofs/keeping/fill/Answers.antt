@@ -1,4 +1,4 @@
-use Rattle.list_sql.proofs.Wholes.{begun, not_begun}
+use Rattle.rows.proofs.Wholes.{begun, not_begun}
 use Rattle.list_sql.proofs.keeping.fill.Goals as goal
 
 pub returns-in-Ok : goal.returns-in-Ok

@@ -1,7 +1,7 @@
 use Rattle.std.proofs.Common.{◌≡◌, Err, Ok, arith, subst, ◌∙◌}
 use Rattle.sqlite.specs.Held.{state}
 use Rattle.list_sql.proofs.PieceLemmas.{Written, failed, one_more}
-use Rattle.list_sql.proofs.TransactionParts.{written}
+use Rattle.rows.proofs.TransactionParts.{written}
 use Rattle.list_sql.proofs.keeping.replace.Goals as goal
 
 pub returns-in-Err : goal.returns-in-Err

@@ -1,4 +1,4 @@
-use Rattle.list_sql.proofs.CallLemmas.{wrote}
+use Rattle.rows.proofs.CallLemmas.{wrote}
 use Rattle.list_sql.proofs.ListTable.{delete, delete_fails}
 use Rattle.list_sql.proofs.lists.delete_lists.Goals as goal
 

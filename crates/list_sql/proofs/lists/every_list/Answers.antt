@@ -1,5 +1,5 @@
 use Rattle.list_sql.specs.Contents.{HasRows}
-use Rattle.list_sql.proofs.CallLemmas.{found_in}
+use Rattle.rows.proofs.CallLemmas.{found_in}
 use Rattle.list_sql.proofs.ListTable.{every, known}
 use Rattle.list_sql.proofs.lists.every_list.Goals as goal
 

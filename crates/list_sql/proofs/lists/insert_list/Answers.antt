@@ -1,4 +1,4 @@
-use Rattle.list_sql.proofs.CallLemmas.{wrote}
+use Rattle.rows.proofs.CallLemmas.{wrote}
 use Rattle.list_sql.proofs.ListTable.{list_fails, put}
 use Rattle.list_sql.proofs.lists.insert_list.Goals as goal
 

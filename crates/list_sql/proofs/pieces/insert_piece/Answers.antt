@@ -1,5 +1,5 @@
 use Rattle.list_sql.specs.Rows.{piece_row}
-use Rattle.list_sql.proofs.CallLemmas.{wrote}
+use Rattle.rows.proofs.CallLemmas.{wrote}
 use Rattle.list_sql.proofs.ListTable.{list_fails, put}
 use Rattle.list_sql.proofs.pieces.insert_piece.Goals as goal
 

@@ -1,6 +1,6 @@
-use Rattle.guard_sql.proofs.Words.{Blob, refl, ◌∙◌}
+use Rattle.rows.proofs.Words.{Blob, refl, ◌∙◌}
 use Rattle.guard_sql.specs.Cells.{guard_kinds}
-use Rattle.guard_sql.proofs.KindLemmas.{cell, fits, number}
+use Rattle.rows.proofs.KindLemmas.{cell, fits, number}
 use Rattle.guard_sql.proofs.guards.GuardRowColumns.copied_from.Goals as goal
 
 pub returns : goal.returns

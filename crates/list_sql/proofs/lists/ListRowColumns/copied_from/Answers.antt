@@ -1,6 +1,6 @@
-use Rattle.list_sql.proofs.Words.{Blob, refl, ◌∙◌}
+use Rattle.rows.proofs.Words.{Blob, refl, ◌∙◌}
 use Rattle.list_sql.specs.Cells.{list_kinds}
-use Rattle.list_sql.proofs.KindLemmas.{cell, fits, number}
+use Rattle.rows.proofs.KindLemmas.{cell, fits, number}
 use Rattle.list_sql.proofs.lists.ListRowColumns.copied_from.Goals as goal
 
 pub returns : goal.returns

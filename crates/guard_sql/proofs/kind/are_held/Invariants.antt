@@ -1,7 +1,0 @@
-use Rattle.guard_sql.proofs.Words.{◌≡◌}
-use Rattle.guard_sql.proofs.KindLemmas.{held_from}
-use Rattle.guard_sql.proofs.kind.are_held.Given as goal
-
--- the columns before this one hold values of their kinds
-abbrev pub invariant-loop-at : goal.invariant-loop-at
-invariant-loop-at l = held_from l.kinds l.columns 0 ≡ held_from l.kinds l.columns l.at

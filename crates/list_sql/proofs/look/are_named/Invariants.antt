@@ -1,7 +1,0 @@
-use Rattle.list_sql.proofs.Words.{◌≡◌}
-use Rattle.store_sql.proofs.KindLemmas.{named_from}
-use Rattle.list_sql.proofs.look.are_named.Given as goal
-
--- the columns up to this one have their names
-abbrev pub invariant-loop-at : goal.invariant-loop-at
-invariant-loop-at l = named_from l.columns l.names 0 ≡ named_from l.columns l.names l.at

@@ -1,0 +1,14 @@
+pub mod KindLemmas
+pub mod Words
+pub mod Before
+pub mod Steps
+pub mod Causes
+pub mod TransactionParts
+pub mod Wholes
+pub mod FaultLemmas
+pub mod FoundLemmas
+pub mod CallLemmas
+pub mod Edits
+pub mod Reasons
+pub mod Inserts
+pub mod Blanks
