@@ -6,7 +6,7 @@ import socket
 import tempfile
 
 from recording import Recorder, whole_request
-from running import EXAMPLES, run
+from running import command, run
 
 
 def response(body, status="200 OK", length=None):
@@ -47,8 +47,8 @@ def silent(address):
 
 
 def script(name, *words, **how):
-    """Status, output, and the lines of errors of a script of examples/."""
-    done = run([EXAMPLES / name, *words], **how)
+    """Status, output, and the lines of errors of a command of programs/ or examples/."""
+    done = run([command(name), *words], **how)
     return done.returncode, done.stdout.decode(), done.stderr.decode(errors="replace").splitlines()
 
 

@@ -1,4 +1,4 @@
-"""An office behind nginx with examples/front."""
+"""An office behind nginx with programs/front."""
 import contextlib
 import functools
 import os
@@ -12,19 +12,19 @@ import ssl
 
 import requests
 
-from running import EXAMPLES, end, free_port, is_listening, rest, run, until
+from running import PROGRAMS, end, free_port, is_listening, rest, run, until
 
 # The clients of whom `front` has a certificate.
 CLIENTS = (("caller", "ana"), ("root",), ("station",), ("reader", "watch"))
 # The bytes of memory that a connection may take.
 MOST_OF_A_CONNECTION = 115_000
 # How many processes of nginx serve.
-WORKERS = int(re.search(r"^worker_processes (\d+);$", (EXAMPLES / "front/nginx.conf").read_text(), re.M)[1])
+WORKERS = int(re.search(r"^worker_processes (\d+);$", (PROGRAMS / "front/nginx.conf").read_text(), re.M)[1])
 
 
 def new_authority(folder):
     """Makes the authority of a front, and a certificate for each of the clients."""
-    authority = EXAMPLES / "front/authority"
+    authority = PROGRAMS / "front/authority"
     run([authority, "new", folder, "localhost", "127.0.0.1"], check=True)
     for job, *name in CLIENTS:
         run([authority, job, folder, *name], check=True)
@@ -39,7 +39,7 @@ def has_ipv6():
 
 
 class Front:
-    """nginx before an office, as examples/front sets it up.
+    """nginx before an office, as programs/front sets it up.
 
     `authority` is the folder of its certificates, `conf` the folder of its configuration, and `state` where nginx
     writes. `edits` are texts of nginx.conf, each with what takes its place. A front `beside` another has its port
@@ -61,13 +61,13 @@ class Front:
                        ("server 127.0.0.1:8022 max_conns", f"server 127.0.0.1:{office_port} max_conns"),
                        ("listen 8443", f"listen {address}:{self.port}"), ("listen [::]:8443", by_ipv6),
                        ("/etc/vethlumi/front;", f"{self.conf};"),
-                       ("/usr/local/share/office/page", str(EXAMPLES / "page")), *edits)
+                       ("/usr/local/share/office/page", str(PROGRAMS / "front/page")), *edits)
         self.begin()
 
     def configure(self, *edits):
         """Writes nginx.conf anew, with a text in the place of another, which has to stand there once."""
         file = self.conf / "nginx.conf"
-        text = (file if file.exists() else EXAMPLES / "front/nginx.conf").read_text()
+        text = (file if file.exists() else PROGRAMS / "front/nginx.conf").read_text()
         for old, new in edits:
             assert text.count(old) == 1, f"{old} stands {text.count(old)} times in nginx.conf"
             text = text.replace(old, new)
@@ -108,7 +108,7 @@ class Front:
 
     def make(self, job, *name):
         """Has the authority make a certificate, such as `make("caller", "bob")`, or take one back."""
-        return run([EXAMPLES / "front/authority", job, self.authority, *name], check=True).stdout.decode().strip()
+        return run([PROGRAMS / "front/authority", job, self.authority, *name], check=True).stdout.decode().strip()
 
     def session(self, name=None):
         """A session of the client of this name, or of one without a certificate."""

@@ -18,8 +18,13 @@ import pytest
 from asking import Response, answers, exchanges_of, get, post, write_exchanges
 
 TOP = pathlib.Path(__file__).resolve().parent.parent
-EXAMPLES = TOP / "examples"
-ROWS = EXAMPLES / "rows"
+EXAMPLES, PROGRAMS, ROWS = TOP / "examples", TOP / "programs", TOP / "tests/rows"
+
+
+def command(name):
+    """The file of a command of programs/ or examples/, by its name."""
+    [found] = [*PROGRAMS.glob(f"*/{name}"), *EXAMPLES.glob(name)]
+    return found
 
 
 def rows(name):
@@ -28,7 +33,7 @@ def rows(name):
 
 
 def worked(name):
-    """The exchanges of a row of examples/rows, and the answers that are due to them."""
+    """The exchanges of a row of tests/rows, and the answers that are due to them."""
     asked, due = ((ROWS / f"{name}.{it}").read_bytes() for it in ("exchange", "expected"))
     return exchanges_of(asked), answers(due)
 
@@ -266,7 +271,7 @@ class Office:
         if ca is None:
             self.ca_key = self.db.with_suffix(".ca.pem")
             run(["openssl", "genpkey", "-algorithm", "ed25519", "-out", self.ca_key], check=True)
-            ca = run([EXAMPLES / "ca-line", self.ca_key], check=True).stdout.decode()
+            ca = run([PROGRAMS / "station/ca-line", self.ca_key], check=True).stdout.decode()
         self.ca.write_text(ca.rstrip("\n") + "\n")
         self.opened = self.must(*init(self.db, self.ca, first=first, **opening))
 

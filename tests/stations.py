@@ -1,11 +1,11 @@
-"""The signing station of examples/station, with the guard beside its key."""
+"""The signing station of programs/station/station, with the guard beside its key."""
 import os
 import pathlib
 import signal
 import subprocess
 
 from asking import LAST_SERIAL, LATEST, department
-from running import EXAMPLES, end, run, until
+from running import PROGRAMS, end, run, until
 
 EVERY_OPTION = ("force-command", "source-address", "verify-required")
 EVERY_EXTENSION = ("no-touch-required", "permit-X11-forwarding", "permit-agent-forwarding", "permit-port-forwarding",
@@ -86,7 +86,7 @@ class Station:
     def __init__(self, guard, url, key, *, certificate=None, trusted=None, other_cas=(), ahead=LATEST,
                  lists=None):
         self.guard, self.url = guard, url
-        self.words = [EXAMPLES / "station", "--db", guard.db, "--policy", guard.policy, "--ahead", ahead, *key]
+        self.words = [PROGRAMS / "station/station", "--db", guard.db, "--policy", guard.policy, "--ahead", ahead, *key]
         if certificate:
             self.words += ["--cert", certificate, "--cacert", trusted]
         for it in other_cas:

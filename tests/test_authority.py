@@ -14,9 +14,9 @@ import time
 import pytest
 
 from asking import department
-from running import EXAMPLES, run
+from running import PROGRAMS, run
 
-AUTHORITY = EXAMPLES / "front/authority"
+AUTHORITY = PROGRAMS / "front/authority"
 # Run by this interpreter: another python3 on the PATH may take longer to begin than the script's own work.
 RUN = [sys.executable, AUTHORITY]
 REFUSED = "front: the certificate is another authority's, has expired or was revoked\n"

@@ -1,4 +1,4 @@
-"""The page of examples/page in headless Chromium: an office, the front before it, and what the browser then shows.
+"""The page in headless Chromium: an office, the front before it, and what the browser then shows.
 
 What is to be shown is read from the office's routes, as docs/FORMATS.md gives their forms, and compared with the page's
 elements. A relay carries the browser's requests to the front with a reader's certificate.
@@ -22,7 +22,7 @@ from asking import CA, LATEST, OTHER_CA, deliver, department, exchange, issue, p
 from asking import revoke_serial, rollover
 from browsing import Relay, new_browser
 from fronts import Front
-from running import EXAMPLES, Office, Programs, free_port, until
+from running import PROGRAMS, Office, Programs, free_port, until
 
 pytestmark = [pytest.mark.front, pytest.mark.browser, pytest.mark.slow, pytest.mark.xdist_group("page")]
 
@@ -377,7 +377,7 @@ def test_the_front_gives_the_files_of_the_page(browsed, path, kind, file):
     answer = session.get(url)
     assert (200, [f"{kind}; charset=utf-8", POLICY, "nosniff", "no-cache"]) == (
         answer.status_code, [answer.headers[it] for it in HEAD])
-    assert (EXAMPLES / "page" / file).read_bytes() == answer.content
+    assert (PROGRAMS / "front/page" / file).read_bytes() == answer.content
     answer = session.get(url, headers={"If-None-Match": answer.headers["ETag"]})
     assert (304, b"", POLICY) == (answer.status_code, answer.content, answer.headers["Content-Security-Policy"])
 

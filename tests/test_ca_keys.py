@@ -15,7 +15,7 @@ import pytest
 
 from asking import key_blob, string
 from fetching import Web, around, folder_of_nobody, response, script, shown, small_disk
-from running import EXAMPLES, free_port, run
+from running import PROGRAMS, free_port, run
 
 
 def key(number):
@@ -298,7 +298,7 @@ def test_root_runs_as_the_user_whose_folder_it_is(web, names, room):
     """Also if that user can't read the script."""
     web.answer = response(body(A))
     room.chmod(0o700)
-    shutil.copy(EXAMPLES / "fetch-ca-keys", room / "script")
+    shutil.copy(PROGRAMS / "server/fetch-ca-keys", room / "script")
     with folder_of_nobody() as folder:
         done = run([room / "script", "--fingerprint", names[A], web.url, f"{folder}/keys"], cwd="/")
         assert (0, b"") == (done.returncode, done.stderr)
@@ -363,7 +363,7 @@ def test_many_at_once(fetch, web, names, room):
 @pytest.mark.once
 def test_a_kill_at_any_moment_leaves_the_old_or_the_new(web, names, room):
     web.answer = response(body(A, B))
-    words = [EXAMPLES / "fetch-ca-keys", "--fingerprint", names[A], "--fingerprint", names[B], web.url, "keys"]
+    words = [PROGRAMS / "server/fetch-ca-keys", "--fingerprint", names[A], "--fingerprint", names[B], web.url, "keys"]
     for number in range(12):
         (room / "keys").write_text(text(A))
         process = subprocess.Popen(words, stdout=subprocess.DEVNULL, stderr=subprocess.DEVNULL, start_new_session=True)
@@ -427,7 +427,7 @@ def test_the_keys_of_the_front(front, names, room):
     assert (0, "", []) == script("fetch-ca-keys", *words)
     assert " ".join(line.split()[:2]) + "\n" == of(room / "keys")
     # A front that isn't the one whose authority was given.
-    run([EXAMPLES / "front/authority", "new", "other", "localhost"], check=True)
+    run([PROGRAMS / "front/authority", "new", "other", "localhost"], check=True)
     status, _, errors = script("fetch-ca-keys", "--cacert", "other/ca.crt", *words[2:])
     assert (1, f"fetch-ca-keys: no keys came from {front.url}") == (status, errors[-1])
 
@@ -546,7 +546,7 @@ def test_bad_words_trust_nobody(words, room):
 
 
 def test_the_unit_copies_as_root_what_was_fetched_also_if_that_failed():
-    unit = (EXAMPLES / "systemd/office-ca-keys.service").read_text()
+    unit = (PROGRAMS / "units/office-ca-keys.service").read_text()
     assert "\nUser=office-list\n" in unit
     step = "trust-cas --named /etc/vethlumi/ca-fingerprints /var/lib/office-list/cas.pub /etc/vethlumi/trusted-cas"
     assert f"\nExecStopPost=+/usr/local/bin/{step}\n" in unit

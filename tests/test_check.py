@@ -245,7 +245,8 @@ def test_what_is_waited_for_meanwhile_is_a_part(tmp_path):
 @pytest.mark.parametrize("script, shortest, longest", [("pass", 0, 20), ("import time; time.sleep(600)", 1, 100)])
 def test_the_making_of_machines_is_a_part_that_ends_with_the_check(check, tmp_path, script, shortest, longest):
     def run(made, check):
-        (tmp_path / "tests/boxes.py").write_text(script)
+        (tmp_path / "tests/machines").mkdir()
+        (tmp_path / "tests/machines/boxes.py").write_text(script)
         with made.machines_for_tests(check.measure, False):
             until = time.time() + 1
             while time.time() < until or (script == "pass" and not check.measure.parts):

@@ -89,7 +89,7 @@ class SetUp:
 
     def __init__(self, room, monkeypatch, capsys):
         self.room, self.capsys = room, capsys
-        self.script = it = loaded(TOP / "setup/vethlumi-office-setup")
+        self.script = it = loaded(TOP / "programs/setup/vethlumi-office-setup")
         (room / "etc").mkdir()
         (room / "office.db").touch()
         for name, value in (("ETC", room / "etc"), ("DATABASE", room / "office.db"), ("DOOR", room / "door"),
@@ -370,7 +370,7 @@ def test_a_new_office_begins_with_the_serial_that_is_named(room, door, set_up, m
     (room / "office.db").unlink()
     monkeypatch.setattr(set_up.script.setting_up, "put_database", lambda user, path, make: make(f"{path}.new"))
     monkeypatch.setattr(set_up.script.setting_up, "as_user", lambda *words: made.append(words))
-    monkeypatch.setattr(set_up.script, "run", lambda words, **how: loaded(TOP / "setup/setting_up.py").run(
+    monkeypatch.setattr(set_up.script, "run", lambda words, **how: loaded(TOP / "programs/setup/setting_up.py").run(
         words, **how) if words[0] == "ssh-keygen" else "")
     told = set_up(A, first=7)
     assert f"make an office, with serials from 7 on, in {room}/office.db\n" in told
@@ -449,7 +449,7 @@ LIMITS = [
 
 @pytest.mark.parametrize("word, value, is_valid", LIMITS, ids=[f"{it[0]} {it[1][:30]}" for it in LIMITS])
 def test_the_limits_of_each_line(word, value, is_valid):
-    policies = loaded(TOP / "setup/policies.py")
+    policies = loaded(TOP / "programs/setup/policies.py")
     number, line = [(number, it) for number, it in enumerate(A.splitlines(), 1) if it.startswith(word)][0]
     text = A.replace("extensions permit-pty", "extensions").replace(line, f"{word} {value}".rstrip(" "))
     assert (0 if is_valid else number) == line_of(policies, text)
@@ -458,7 +458,7 @@ def test_the_limits_of_each_line(word, value, is_valid):
 def test_random_policies_have_the_bad_lines_that_the_guard_of_python_finds():
     """But for texts of other messages, of which the line is told that should be the department's, and the second text
     of a name, which may come with the policy of another key."""
-    policies, lines, some = loaded(TOP / "setup/policies.py"), (A + HOSTS).splitlines(True), random.Random(8)
+    policies, lines, some = loaded(TOP / "programs/setup/policies.py"), (A + HOSTS).splitlines(True), random.Random(8)
     odd = ["\n", "# a comment\n", "kind user\n", "maxlife 0\n", "options \n", "namespaces file", "admins a,b\n", " \n"]
     bad = 0
     for _ in range(3000):
@@ -473,7 +473,7 @@ def test_random_policies_have_the_bad_lines_that_the_guard_of_python_finds():
 
 
 def test_what_the_guard_does_not_take_is_explained():
-    policies = loaded(TOP / "setup/policies.py")
+    policies = loaded(TOP / "programs/setup/policies.py")
     assert 9 == line_that_the_guard_refuses(A + B)
     assert "line 9, 'department people': another department has this name already" == policies.explain(A + B, 9)
     text = f"issue people\n{A}"

@@ -9,10 +9,10 @@ import pytest
 from test_packages import ADMIN, base, fleet, installed, marked, on_boxes, packages
 
 POLICY = "/etc/vethlumi/station/first.policy"
-STATION = "setup/vethlumi-install station station.example.org --yes"
-OFFICE = "setup/vethlumi-install office office.example.org --station station.example.org --yes"
-CLIENT = ("setup/vethlumi-install client client.example.org --office office.example.org --station station.example.org "
-          "--caller carol --yes")
+STATION = "programs/setup/vethlumi-install station station.example.org --yes"
+OFFICE = "programs/setup/vethlumi-install office office.example.org --station station.example.org --yes"
+CLIENT = ("programs/setup/vethlumi-install client client.example.org --office office.example.org "
+          "--station station.example.org --caller carol --yes")
 
 
 class Policies:

@@ -18,7 +18,7 @@ from fetching import Web, around, folder_of_nobody, response, script, shown, sma
 from lists import runs_of
 from publishing import (CA, HIGHEST, LIST, NEWER, OTHER_CA, Signer, bitmaps, is_signed, key_line, krl, section,
                         statement)
-from running import EXAMPLES, free_port, run
+from running import PROGRAMS, free_port, run
 
 UNSIGNED = ["--unsigned", "--ca", "ca.pub"]
 
@@ -405,7 +405,7 @@ def metrics():
 
 def later(minutes, web, signer, *options):
     """fetch-list by a clock that goes ahead."""
-    done = run(["faketime", "-f", f"+{minutes}m", EXAMPLES / "fetch-list", "--signers", signer.allowed, *options,
+    done = run(["faketime", "-f", f"+{minutes}m", PROGRAMS / "server/fetch-list", "--signers", signer.allowed, *options,
                 web.url, "list"])
     return done.returncode, done.stderr.decode().splitlines()
 
@@ -689,7 +689,7 @@ def test_root_runs_as_the_user_whose_folder_it_is(web, signer):
     lock there once."""
     web.answer = response(signer.published(LIST))
     with folder_of_nobody() as folder:
-        for it in (EXAMPLES / "fetch-list", signer.allowed):
+        for it in (PROGRAMS / "server/fetch-list", signer.allowed):
             shutil.copy(it, folder)
         pathlib.Path(folder, ".list.lock").touch(0o600)
         words = [f"{folder}/fetch-list", "--signers", f"{folder}/{signer.allowed.name}", web.url, f"{folder}/list"]
@@ -718,7 +718,7 @@ def test_links_that_race_with_root_reach_no_file_of_root_s(web, signer, room):
     victim.write_text("victim\n")
     victim.chmod(0o600)
     with folder_of_nobody() as folder:
-        for it in (EXAMPLES / "fetch-list", signer.allowed):
+        for it in (PROGRAMS / "server/fetch-list", signer.allowed):
             shutil.copy(it, folder)
 
         def race():
@@ -746,7 +746,7 @@ def test_a_kill_at_any_moment_leaves_the_old_or_the_new(either, web, room):
     """Neither is lost, and each statement that is found beside it is of one of them."""
     old = either.of(LIST)
     web.answer = response(old)
-    words = [EXAMPLES / "fetch-list", *either.words, "--metrics", "metrics", web.url, "list"]
+    words = [PROGRAMS / "server/fetch-list", *either.words, "--metrics", "metrics", web.url, "list"]
     assert 0 == run(words).returncode
     web.answer = response(either.of(NEWER))
     for number in range(20):

@@ -1,4 +1,4 @@
-"""What the front of examples/front sends on to the office, and for whom, and what it answers itself.
+"""What the front of programs/front sends on to the office, and for whom, and what it answers itself.
 
 The office behind it is one that records what it is sent."""
 import collections
@@ -18,7 +18,7 @@ pytestmark = [pytest.mark.front, pytest.mark.xdist_group("front")]
 # ---- a front before a recorder, and certificates that nobody should take
 
 def made_by_openssl(folder, name, subject, ca, days=()):
-    """A client's key and certificate in one file, which examples/front/authority would not make."""
+    """A client's key and certificate in one file, which programs/front/authority would not make."""
     file = folder / name
     run(["openssl", "req", "-new", "-newkey", "ec", "-pkeyopt", "ec_paramgen_curve:P-256", "-nodes", "-utf8", "-keyout",
          f"{file}.key", "-subj", subject, "-out", f"{file}.csr"], check=True)

@@ -1,4 +1,4 @@
-"""What the front of examples/front does under load: many requests of one client, a slow office, and full logs.
+"""What the front of programs/front does under load: many requests of one client, a slow office, and full logs.
 
 The office behind it is one that records what it is sent."""
 import concurrent.futures
@@ -17,7 +17,7 @@ import pytest
 
 from fronts import MOST_OF_A_CONNECTION
 from recording import Recorder, getting, posting, staying, statuses
-from running import EXAMPLES, free_port, rest, run, until
+from running import PROGRAMS, free_port, rest, run, until
 
 pytestmark = [pytest.mark.front, pytest.mark.xdist_group("front_load")]
 MESSAGE = "/v1/requests/k-1"
@@ -461,7 +461,7 @@ def has_open(front, name):
 def test_logs_are_rotated_and_no_line_is_lost(make_front, recorder, room):
     front = make_front(recorder.port)
     user = pwd.getpwuid(os.getuid()).pw_name
-    text = (EXAMPLES / "front/logrotate").read_text().replace("/var/lib/office-front", str(front.state))
+    text = (PROGRAMS / "front/logrotate").read_text().replace("/var/lib/office-front", str(front.state))
     (room / "logrotate").write_text(text.replace("su office-front office-front", f"su {user} {user}")
                                     .replace("=office-front", f"={user}"))
     for turn in range(3):
@@ -488,7 +488,7 @@ def test_the_rotation_reaches_no_process_of_another_user(programs):
         os.chmod(name, 0o755)
         for path in (state, *state.iterdir()):
             shutil.chown(path, "nobody", "nogroup")
-        text = (EXAMPLES / "front/logrotate").read_text().replace("/var/lib/office-front", str(state))
+        text = (PROGRAMS / "front/logrotate").read_text().replace("/var/lib/office-front", str(state))
         text = text.replace("su office-front office-front", "su nobody nogroup")
         settings = pathlib.Path(name, "logrotate")
         settings.write_text(text.replace("reuid=office-front", "reuid=nobody").replace("=office-front", "=nogroup"))

@@ -17,8 +17,8 @@ HOST, BEFORE, NAME = "db.example.org", "db-example-org", "host-db-example-org"
 def setting(room, monkeypatch, capsys):
     """The set-up without nginx and units: a function of its words that returns its steps, and what it tells. The steps
     after those numbered `up_to` aren't done, as if it had been killed."""
-    monkeypatch.setenv("PATH", f"{TOP}/examples/front:{os.environ['PATH']}")
-    front = loaded(TOP / "setup/vethlumi-front-setup")
+    monkeypatch.setenv("PATH", f"{TOP}/programs/front:{os.environ['PATH']}")
+    front = loaded(TOP / "programs/setup/vethlumi-front-setup")
     changed = []
     monkeypatch.setattr(front, "front_steps", lambda given, steps, folder: changed.append({*steps.changed}) or 8443)
 

@@ -11,7 +11,7 @@ import pytest
 from asking import department
 from running import TOP, left_out, loaded, run, until
 
-HOST = TOP / "setup/vethlumi-host"
+HOST = TOP / "programs/server/vethlumi-host"
 SETTINGS = "KEYID=db/db.example.org\nPRINCIPALS=db.example.org\nLIFE={life}\nKEY={key}\n"
 
 

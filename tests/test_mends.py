@@ -26,5 +26,5 @@ def test_each_row_of_the_table_has_a_mend_and_its_tests():
     rows = {int(number): rest for number, rest in re.findall(r"^\| (\d+) \| (.*) \|$", text, re.M)}
     assert {*rows} == {it["row"] for it in MENDS.values()} == {*range(1, len(rows) + 1)}
     for mend in MENDS.values():
-        files = {it.partition(".py")[0] for it in mend["tests"]}
+        files = {it.partition(".py")[0].rpartition("/")[2] for it in mend["tests"]}
         assert [] == sorted(it for it in files if f"`{it}`" not in rows[mend["row"]]), mend

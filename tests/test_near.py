@@ -148,10 +148,11 @@ def test_the_sources_of_crates_alone_are_checked(repository):
 @pytest.mark.parametrize("path, some, first", [
     ("tests/test_krl.py", {"test_krl.py"}, "test_krl.py"),
     ("tests/lists.py", {"test_krl.py", "test_lists.py", "test_fetch_list.py"}, None),
-    ("examples/fetch-list", {"test_fetch_list.py", "test_published.py", "test_scripts.py"}, "test_fetch_list.py"),
-    ("client/vethlumi/none.py", {"test_vethlumi.py"}, "test_vethlumi.py"),
+    ("programs/server/fetch-list", {"test_fetch_list.py", "test_published.py", "test_scripts.py"},
+     "test_fetch_list.py"),
+    ("programs/client/vethlumi/none.py", {"test_vethlumi.py"}, "test_vethlumi.py"),
     ("tests/conftest.py", {"test_frame.py"}, "test_frame.py"),
-    ("docs/OPERATING.md", {"test_operating.py", "test_boxes.py"}, None),
+    ("docs/OPERATING.md", {"test_operating.py", "machines/test_boxes.py"}, None),
     ("crates/guard/src/lib.rt", set(), None)])
 def test_which_tests_are_run(path, some, first):
     found = script("near").tests_of([path])

@@ -8,7 +8,7 @@ import pytest
 
 from fetching import Web, response
 from publishing import LIST, Signer
-from running import EXAMPLES, new_key, run
+from running import EXAMPLES, PROGRAMS, new_key, run
 from test_clients import ISSUED, certificate
 from test_clients import Office as Answering
 from test_vethlumi import Client
@@ -73,32 +73,33 @@ def list_of(room):
     """The list of an office, by a page that has no revocations, and the words that fetch it."""
     new_key("ca")
     web = Web(response(b"SSHKRL\n\0\0\0\0\1" + (0).to_bytes(8) + bytes(24)))
-    return web, [EXAMPLES / "fetch-list", "--unsigned", "--ca", "ca.pub", web.url, "list"], ["list"]
+    return web, [PROGRAMS / "server/fetch-list", "--unsigned", "--ca", "ca.pub", web.url, "list"], ["list"]
 
 
 def keys_of(room):
     new_key("ca")
     fingerprint = run(["ssh-keygen", "-l", "-f", "ca.pub"], check=True).stdout.decode().split()[1]
     web = Web(response(pathlib.Path("ca.pub").read_bytes()))
-    return web, [EXAMPLES / "fetch-ca-keys", "--fingerprint", fingerprint, web.url, "cas.pub"], ["cas.pub"]
+    return web, [PROGRAMS / "server/fetch-ca-keys", "--fingerprint", fingerprint, web.url, "cas.pub"], ["cas.pub"]
 
 
 def stated_list_of(room):
     """The same with a statement, which is kept as well."""
     signer = Signer()
     web = Web(response(signer.published(LIST)))
-    return web, [EXAMPLES / "fetch-list", "--signers", signer.allowed, web.url, "list"], ["list", "list.statement"]
+    words = [PROGRAMS / "server/fetch-list", "--signers", signer.allowed, web.url, "list"]
+    return web, words, ["list", "list.statement"]
 
 
 def authority_of(room):
     """What `authority new` and then `caller` make."""
-    run([EXAMPLES / "front/authority", "new", "authority", "office.example.org"], check=True)
-    return contextlib.nullcontext(), [EXAMPLES / "front/authority", "caller", "authority", "ana"], [
+    run([PROGRAMS / "front/authority", "new", "authority", "office.example.org"], check=True)
+    return contextlib.nullcontext(), [PROGRAMS / "front/authority", "caller", "authority", "ana"], [
         "authority/index", "authority/ana.pem"]
 
 
 def new_authority_of(room):
-    return contextlib.nullcontext(), [EXAMPLES / "front/authority", "new", "authority", "office.example.org"], [
+    return contextlib.nullcontext(), [PROGRAMS / "front/authority", "new", "authority", "office.example.org"], [
         f"authority/{it}" for it in ("index", "ca.key", "ca.crt", "crl.pem", "server.key", "server.crt")]
 
 
@@ -133,7 +134,7 @@ def test_office_restore_keeps_the_copy(office, room):
     for name, line in (("passwd", "office:x:54321:54321::/:/bin/false\n"), ("group", "office:x:54321:\n")):
         others = pathlib.Path("/etc", name).read_text().splitlines(keepends=True)
         (room / name).write_text("".join(it for it in others if not it.startswith("office:")) + line)
-    commands = RESTORE.format(program=office.program, restore=EXAMPLES / "office-restore", copy=office.db)
+    commands = RESTORE.format(program=office.program, restore=PROGRAMS / "office/office-restore", copy=office.db)
     trace = traced(["unshare", "--mount", "bash", "-euc", commands])
     assert b"the office serves" in trace.done.stdout
     assert [] == trace.lacks("/var/lib/office/office.db"), trace.text

@@ -1,4 +1,4 @@
-"""An office from its beginning, asked by curl and signed for by examples/station, beside OpenSSH's own programs: what
+"""An office from its beginning, asked by curl and signed for by the station, beside OpenSSH's own programs: what
 ssh-keygen reads in each certificate, which certificates it finds revoked under each list, and which signatures it
 verifies."""
 import dataclasses

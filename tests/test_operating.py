@@ -95,7 +95,7 @@ def commands(program, sshstation, tmp_path_factory):
         (room / name).mkdir()
     (room / "tools/sshoffice").symlink_to(program)
     (room / "tools/sshstation").symlink_to(sshstation)
-    for name in ("examples", "client"):
+    for name in ("examples", "programs"):
         (room / "tools" / name).symlink_to(TOP / name)
     ports = {name: str(free_port()) for name in PORTS}
     with open(room / "log", "w") as log:

@@ -27,14 +27,14 @@ import warnings
 import pytest
 
 from blocks import blocks, lines_of, outside, steps
-from running import TOP
+from running import PROGRAMS, TOP
 
-PLACES = ("*.md", "docs/*.md", "examples/**/*.md", "crates/*/README.md", "tests/README.md", "client/README.md")
+PLACES = ("*.md", "docs/*.md", "examples/*.md", "programs/**/*.md", "crates/*/README.md", "tests/**/*.md")
 PAGES = sorted(str(page.relative_to(TOP)) for place in PLACES for page in TOP.glob(place))
 TEXTS = {page: (TOP / page).read_text() for page in PAGES}
 CRATES = re.findall(r"^(\w+):", (TOP / "crates.txt").read_text(), re.M)
-# What stands behind `sh` where a block is for one of several machines, or for some of them: tests/test_boxes.py and
-# tests/test_three_machines.py type it there.
+# What stands behind `sh` where a block is for one of several machines, or for some of them: test_boxes and
+# test_three_machines type it there.
 MACHINES = ("admin", "office", "station", "server", "client", "spare", "server client", "one", "two", "three",
             "one two", "one two three")
 KINDS = ("sh", "console", "text", *(f"sh {it}" for it in MACHINES))
@@ -47,17 +47,17 @@ ELSEWHERE = {
     "./check": Elsewhere("this test is a part of it", ".ci/run", "exec ./check"),
     "/usr/bin/python3 -m pytest tests/test_rows.py":
         Elsewhere("the check runs it beside this test", "check", '"-m", "pytest"'),
-    "examples/station --once --db guard.db --policy policy --key ca.pem http://127.0.0.1:8022":
-        Elsewhere("it asks an office", "tests/stations.py", 'EXAMPLES / "station"'),
+    "programs/station/station --once --db guard.db --policy policy --key ca.pem http://127.0.0.1:8022":
+        Elsewhere("it asks an office", "tests/stations.py", 'PROGRAMS / "station/station"'),
     "export SOFTHSM2_CONF=/etc/vethlumi/station/softhsm2.conf":
         Elsewhere("it makes a token", "tests/test_station.py", '"softhsm2-util", "--init-token"'),
     "examples/request --cert ana.pem --cacert ca.crt https://office.example.org:8443 web web/alice alice.pub alice 8h":
         Elsewhere(A_FRONT, "tests/test_scripts.py", 'script("request"'),
-    "examples/fetch-list --signers list-signers --cacert ca.crt https://office.example.org:8443 revoked.krl":
+    "programs/server/fetch-list --signers list-signers --cacert ca.crt https://office.example.org:8443 revoked.krl":
         Elsewhere(A_FRONT, "tests/test_published.py", '"--signers", self.allowed'),
-    "examples/fetch-ca-keys --cacert ca.crt --named trusted https://office.example.org:8443 cas.pub":
+    "programs/server/fetch-ca-keys --cacert ca.crt --named trusted https://office.example.org:8443 cas.pub":
         Elsewhere(A_FRONT, "tests/test_ca_keys.py", "fetch-ca-keys"),
-    "examples/trust-cas --named trusted cas.pub trusted-cas":
+    "programs/server/trust-cas --named trusted cas.pub trusted-cas":
         Elsewhere("it copies what was fetched", "tests/test_ca_keys.py", 'script("trust-cas", "--named"'),
     "curl -sSf --cacert ca.crt --cert watch.pem https://office.example.org:8443/v1/table | examples/list-of-table":
         Elsewhere(A_FRONT, "tests/test_scripts.py", "list-of-table"),
@@ -69,18 +69,19 @@ ELSEWHERE = {
     "fetch-list --signers a.signers --cacert ca.crt https://a.example.org:8443 a.krl":
         Elsewhere("it asks two fronts", "tests/test_growing.py", "tail -c"),
     "office-restore /var/backups/office/office.db":
-        Elsewhere("it wants the units in service", "tests/test_boxes.py", "office-restore"),
+        Elsewhere("it wants the units in service", "tests/machines/test_boxes.py", "office-restore"),
     "office-volume copy /root/today":
-        Elsewhere("it wants three machines", "tests/test_three_machines.py", "office-volume copy today"),
+        Elsewhere("it wants three machines", "tests/machines/test_three_machines.py", "office-volume copy today"),
     "systemctl stop office":
-        Elsewhere("it wants three machines", "tests/test_three_machines.py", "office-restore today"),
-    "cat /etc/vethlumi/alert": Elsewhere("it wants the units in service", "tests/test_boxes.py", "etc/vethlumi/alert"),
+        Elsewhere("it wants three machines", "tests/machines/test_three_machines.py", "office-restore today"),
+    "cat /etc/vethlumi/alert":
+        Elsewhere("it wants the units in service", "tests/machines/test_boxes.py", "etc/vethlumi/alert"),
 }
 # Pages of which another test runs the blocks of a shell. What README shows of them is that test's as well.
 PAGES_ELSEWHERE = {"docs/OPERATING.md": "tests/test_operating.py"}
 
 LINK = re.compile(r"\[((?:[^\[\]]|\[[^\]]*\])*)\]\(([^()\s]+)\)")
-PATH = re.compile(r"`(?:\./)?((?:bench|crates|docs|examples|tests|tools)/[\w./-]+)`")
+PATH = re.compile(r"`(?:\./)?((?:bench|crates|docs|examples|programs|tests|tools)/[\w./-]+)`")
 QUOTED = re.compile(r"\bfrom `(crates/[\w/]+\.rt)`:\n\n```text\n(.*?)^```$", re.M | re.S)
 DECLARED = r"(?:pub(?:\([a-z]+\))? )?(?:(?:fn|struct|trait|enum|const|type|abbrev|record|data) (?:pub )?)"
 

@@ -1,6 +1,6 @@
 """Certificates of an office beside other people's programs than OpenSSH: Go's x/crypto/ssh, asyncssh and cryptography.
 
-One office issues the certificates, and examples/station signs them. Each peer reads them, and says for whom, where and
+One office issues the certificates, and the station signs them. Each peer reads them, and says for whom, where and
 when they are good. Then a user's and a host's are shown by two who connect.
 """
 import asyncio

@@ -51,10 +51,10 @@ def test_a_unit_gives_its_programs_the_time_to_end():
         return value
     stop, ending, lists = "^TimeoutStopSec=(.*)$", r"^LONGEST_JUDGING, LONGEST_ENDING = .*, (.*)$", \
         r"^LONGEST_REQUEST, .*LONGEST_STATING, LONGEST_READING = .*, (\d+), \d+$"
-    assert one("examples/systemd/office-station@.service", stop) \
-        > one("examples/station", ending) + one("examples/station", lists)
-    assert one("examples/systemd/office-front.service", stop) \
-        > one("examples/front/nginx.conf", r"^worker_shutdown_timeout (\w+);")
+    assert one("programs/units/office-station@.service", stop) \
+        > one("programs/station/station", ending) + one("programs/station/station", lists)
+    assert one("programs/units/office-front.service", stop) \
+        > one("programs/front/nginx.conf", r"^worker_shutdown_timeout (\w+);")
 
 
 @pytest.mark.parametrize("text, due", [

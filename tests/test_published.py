@@ -20,7 +20,7 @@ from fetching import Web, response, script, silent, small_disk
 from fronts import has_ipv6
 from publishing import HIGHEST, OTHER_CA, Signer, bitmaps, is_signed, key_line, krl, parted, statement
 from recording import getting, statuses, whole_request
-from running import EXAMPLES, free_port, is_listening, left_out, preloaded, run, until, write_secret
+from running import PROGRAMS, free_port, is_listening, left_out, preloaded, run, until, write_secret
 from stations import Lists, Station, begin_agent, new_guard, stopped
 
 pytestmark = [pytest.mark.front, pytest.mark.xdist_group("published")]
@@ -127,7 +127,7 @@ def blob_in(file):
 def new_pem(name="ca"):
     """A CA's private key as openssl makes it, and the file of its line."""
     run(["openssl", "genpkey", "-algorithm", "ed25519", "-out", f"{name}.pem"], check=True)
-    pathlib.Path(f"{name}.pub").write_bytes(run([EXAMPLES / "ca-line", f"{name}.pem"], check=True).stdout)
+    pathlib.Path(f"{name}.pub").write_bytes(run([PROGRAMS / "station/ca-line", f"{name}.pem"], check=True).stdout)
     return pathlib.Path(f"{name}.pem").absolute(), pathlib.Path(f"{name}.pub").absolute()
 
 
@@ -646,7 +646,7 @@ def test_it_takes_the_stations_machine_to_take_a_revocation_back(site, room):
 def test_a_list_that_a_front_keeps_back_is_seen_within_the_hour(site):
     """The station publishes, and the front gives what it had."""
     words = ["--cacert", site.front.authority / "ca.crt", "--signers", site.allowed, "--metrics", "metrics"]
-    done = run(["faketime", "-f", "+61m", EXAMPLES / "fetch-list", *words, site.front.url, "list"])
+    done = run(["faketime", "-f", "+61m", PROGRAMS / "server/fetch-list", *words, site.front.url, "list"])
     assert 3 == done.returncode
     assert re.fullmatch(rb"fetch-list: list is stale: its statement is 3\d\d\d seconds old\n", done.stderr), done.stderr
     assert "office_list_fresh 0\n" in pathlib.Path("metrics").read_text()

@@ -142,7 +142,7 @@ def test_a_renewal_is_refused_where_it_is_served(sshstation, make_office, table)
 
 def test_the_client_knows_each_refusal_by_its_name(table):
     """The client says what a refusal means, and what to do about it, by a table of its own."""
-    known = tomllib.loads((TOP / "client/vethlumi/refusals.toml").read_text(encoding="utf-8"))
+    known = tomllib.loads((TOP / "programs/client/vethlumi/refusals.toml").read_text(encoding="utf-8"))
     assert {str(number): name for number, (name, _) in table.items()} == {it: row[0] for it, row in known.items()}
     for number, row in known.items():
         assert len(row) == 3 and all(row), number

@@ -1,7 +1,7 @@
 """Has three registers answer the same mixed exchanges: the program's lists in memory, its tables in a file, and an
 office in Python that keeps lists.
 
-The office in Python is written from the formats alone. First it has to give the bytes of each row of examples/rows
+The office in Python is written from the formats alone. First it has to give the bytes of each row of tests/rows
 whose requests have good heads. Then hypothesis asks it histories of messages of each kind and of each GET, many of
 which are refused, and makes a history that fails as short as it can. The program has to give the same bytes, in a file
 that is opened again and again; and so once more, with each request at another moment and with another nonce. Then the

@@ -1,4 +1,4 @@
-"""The worked rows of examples/rows: requests in, and bytes out.
+"""The worked rows of tests/rows: requests in, and bytes out.
 
 Each NAME.exchange is applied to the trial office in memory and to an office in a file, and has to print NAME.expected.
 Then each of its records comes to the file again, at another moment and with another nonce: each request has to be given

@@ -1,4 +1,4 @@
-"""The scripts of examples/ that callers, servers and those who watch type: ca-line, request, fetch-list and
+"""The scripts that callers, servers and those who watch type: ca-line, request, fetch-list and
 list-of-table. test_authority.py has those of the front's authority."""
 import functools
 import http.server
@@ -11,14 +11,14 @@ import threading
 import pytest
 
 from asking import department, post, revoke_serial
-from running import EXAMPLES, TOP, is_revoked, new_key, run, until
+from running import PROGRAMS, TOP, command, is_revoked, new_key, run, until
 
 pytestmark = pytest.mark.xdist_group("scripts")
 
 
 def script(name, *words, **environment):
-    """Status, output, and the last line of errors of a script of examples/."""
-    done = run([EXAMPLES / name, *words], env=os.environ | environment)
+    """Status, output, and the last line of errors of a command of programs/ or examples/."""
+    done = run([command(name), *words], env=os.environ | environment)
     errors = done.stderr.decode().splitlines()
     return done.returncode, done.stdout.decode(), errors[-1] if errors else ""
 
@@ -28,15 +28,15 @@ def shown(certificate):
     return [it.strip() for it in run(["ssh-keygen", "-L", "-f", certificate], check=True).stdout.decode().splitlines()]
 
 
-@pytest.mark.parametrize("name", ["front/authority", "request", "ca-line", "list-of-table", "fetch-list"])
+@pytest.mark.parametrize("name", ["authority", "request", "ca-line", "list-of-table", "fetch-list"])
 def test_a_script_says_what_it_wants(name):
     status, out, _ = script(name, "--help")
     assert (0, True, 2) == (status, os.path.basename(name) in out, script(name, "--no-such-word")[0])
 
 
 # What packages install, or pages have people install, as a Python script.
-PYTHON = sorted(str(it.relative_to(TOP)) for folder in ("examples", "examples/front", "setup", "debian")
-                for it in (TOP / folder).iterdir()
+PYTHON = sorted(str(it.relative_to(TOP)) for folder in ("examples", "programs/*", "debian")
+                for it in TOP.glob(f"{folder}/*")
                 if it.is_file() and it.name != "prepare" and re.match(rb"#!.*python", it.read_bytes()))
 
 
@@ -44,7 +44,7 @@ PYTHON = sorted(str(it.relative_to(TOP)) for folder in ("examples", "examples/fr
 def test_a_script_of_python_runs_no_module_that_somebody_has_put_there(room, name):
     """Neither from the script's folder nor from PYTHONPATH: some of them have a private key, or are run by root."""
     copied = shutil.copy(TOP / name, room)
-    for it in (TOP / "setup").glob("*.py"):
+    for it in (PROGRAMS / "setup").glob("*.py"):
         shutil.copy(it, room)
     for it in ("argparse", "datetime", "hashlib", "subprocess"):
         (room / f"{it}.py").write_text("print('planted')\nraise SystemExit(9)\n")
@@ -54,10 +54,11 @@ def test_a_script_of_python_runs_no_module_that_somebody_has_put_there(room, nam
 
 
 def test_python_is_isolated_wherever_it_is_named():
-    assert {"debian/vethlumi", "examples/station", "examples/front/authority", "setup/vethlumi-host"} <= {*PYTHON}
+    assert {"debian/vethlumi", *(f"programs/{it}" for it in ("station/station", "front/authority",
+                                                              "server/vethlumi-host"))} <= {*PYTHON}
     assert {"#!/usr/bin/python3 -I"} == {(TOP / it).read_text().partition("\n")[0] for it in PYTHON}
-    texts = {it: it.read_text(errors="replace") for folder in ("examples", "setup") for it in (TOP / folder).rglob("*")
-             if it.is_file() and it.suffix != ".md"}
+    files = [it for folder in ("examples", "programs") for it in (TOP / folder).rglob("*") if it.is_file()]
+    texts = {it: it.read_text(errors="replace") for it in files if it.suffix != ".md" and it.name != "__main__.py"}
     assert [] == [str(it) for it, text in texts.items() if re.search(r"python3 -[a-zA-HJ-Z]", text)]
 
 

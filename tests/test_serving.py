@@ -2,7 +2,7 @@
 
 `serve` and `selftest` run on this system, and on one that isn't as it should be: preload/strange_system.c has clocks
 that stand still or run, connections that can't be accepted, and sockets that wait a hundredth of the time. The requests
-and the responses are those of examples/rows. A server stands still until all of its clients have connected and written.
+and the responses are those of tests/rows. A server stands still until all of its clients have connected and written.
 """
 import contextlib
 import json

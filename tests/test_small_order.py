@@ -10,10 +10,10 @@ import sys
 import pytest
 
 from fetching import Web, response, script
-from running import TOP, run
+from running import PROGRAMS, run
 from test_vethlumi import Client
 
-sys.path.insert(0, str(TOP / "client"))
+sys.path.insert(0, str(PROGRAMS / "client"))
 from vethlumi import formats  # noqa: E402
 
 P = 2 ** 255 - 19

@@ -1,4 +1,4 @@
-"""examples/station and the guard beside the CA's key: a false office, an old backup, keys in a token and in an agent, a
+"""The station and the guard beside the CA's key: a false office, an old backup, keys in a token and in an agent, a
 rollover, and a guard that is killed. What is signed is tried with ssh-keygen and sshd."""
 import base64
 import contextlib
@@ -25,7 +25,7 @@ from asking import (LAST_SERIAL, LATEST, blob_of, body, department, digest_of, i
                     revoke_range, rollover, string)
 from fetching import Web, response, silent
 from recording import whole_request
-from running import EXAMPLES, TOP, free_port, is_listening, loaded, preloaded, run, until, write_secret
+from running import PROGRAMS, TOP, free_port, is_listening, loaded, preloaded, run, until, write_secret
 from stations import (EVERY_EXTENSION, EVERY_OPTION, Guard, Lists, Station, begin_agent, new_guard, new_station,
                       stopped)
 
@@ -272,7 +272,7 @@ def test_a_body_under_another_serial_uses_none_up(alone):
 
 
 def test_a_body_says_its_serial_if_it_is_long_enough(alone):
-    serial_of, text = loaded(EXAMPLES / "station").serial_of, body(7, ca=alone.blob)
+    serial_of, text = loaded(PROGRAMS / "station/station").serial_of, body(7, ca=alone.blob)
     whole = text.index((7).to_bytes(8, "big")) + 8
     assert {None} == {serial_of(text[:size]) for size in range(whole)}
     assert {7} == {serial_of(text[:size]) for size in range(whole, len(text) + 1)}
@@ -291,7 +291,7 @@ def test_a_signature_of_sshd_is_wanted(alone, sshd, room):
     for other in (bytes(64), signature_of("own.pem", text), signature_of(alone.key_file, text)[::-1]):
         write_certificate("eve", text, other)
         assert not server.grants("eve")
-    own = blob_of(run([EXAMPLES / "ca-line", "own.pem"]).stdout.decode())
+    own = blob_of(run([PROGRAMS / "station/ca-line", "own.pem"]).stdout.decode())
     text = body(ca=own, key=key, **ROOT)
     write_certificate("eve", text, signature_of("own.pem", text))
     assert not server.grants("eve"), "another CA's is none of this server's"
@@ -364,9 +364,9 @@ def test_the_memory_of_the_unit_suffices_for_as_many_rows_as_are_read(alone, pro
         process = station.begin(programs, stderr=subprocess.DEVNULL)
         web.begins_rounds(3, seconds=1400)
         [peak] = re.findall(r"^VmHWM:\s+(\d+) kB$", pathlib.Path(f"/proc/{process.pid}/status").read_text(), re.M)
-    unit = (EXAMPLES / "systemd/office-station@.service").read_text()
+    unit = (PROGRAMS / "units/office-station@.service").read_text()
     [limit] = re.findall(r"^MemoryMax=(\d+)G$", unit, re.M)
-    assert (int(peak) << 10) + 372_000_000 + loaded(EXAMPLES / "station").MOST_MEMORY < int(limit) << 30
+    assert (int(peak) << 10) + 372_000_000 + loaded(PROGRAMS / "station/station").MOST_MEMORY < int(limit) << 30
 
 
 # An answer with a chunk of fewer than no bytes, at which Python's http.client raises a ValueError.
@@ -462,7 +462,7 @@ def test_what_an_office_makes_up_takes_no_place_of_the_guards_reasons(alone):
 @pytest.fixture
 def saying(monkeypatch, capsys):
     """The station's code by a clock that the test moves, and what was said since the last call."""
-    station, clock = loaded(EXAMPLES / "station"), [0.0]
+    station, clock = loaded(PROGRAMS / "station/station"), [0.0]
     monkeypatch.setattr(station, "time", types.SimpleNamespace(monotonic=lambda: clock[0]))
 
     def move(seconds):
@@ -676,13 +676,13 @@ print(*(it > 0 for it in ends))
 def test_an_alarm_at_the_end_of_what_is_limited_is_no_other_fault():
     """In a process of its own, where no test has an alarm. Those that come as the work ends come at each of its steps.
     """
-    done = run([sys.executable, "-c", OFTEN_AT_THE_END, TOP / "tests", EXAMPLES / "station"])
+    done = run([sys.executable, "-c", OFTEN_AT_THE_END, TOP / "tests", PROGRAMS / "station/station"])
     assert (0, b"True True\n", b"") == (done.returncode, done.stdout, done.stderr)
 
 
 def test_what_is_another_text_each_time_is_left_out():
     """So that a reason is reported once: an object's place in memory."""
-    printable = loaded(EXAMPLES / "station").printable
+    printable = loaded(PROGRAMS / "station/station").printable
     for said, due in {"<Connection object at 0x7f00ab> failed": "<Connection> failed",
                       "/etc/station-key is \x1b[2J": "/etc/station-key is ?[2J"}.items():
         assert due == printable(said)
@@ -815,7 +815,7 @@ def test_what_is_refused_in_the_place_of_another_is_said(alone, programs):
 
 
 def test_a_long_list_of_serials_is_cut_between_two():
-    joined = loaded(EXAMPLES / "station").joined
+    joined = loaded(PROGRAMS / "station/station").joined
     assert ["", "4, 7-9"] == [joined([]), joined([4, 7, 8, 8, 9])]
     shown_serials = joined(range(10 ** 18, 10 ** 18 + 10 ** 9, 2))
     assert shown_serials.endswith(" ..") and 900 < len(shown_serials) <= 1003
@@ -955,7 +955,7 @@ BAD_WORDS = [
 
 @pytest.mark.parametrize("words, why", BAD_WORDS, ids=[" ".join(it[0]) or "nothing" for it in BAD_WORDS])
 def test_bad_words(room, words, why):
-    done = run([EXAMPLES / "station", *words])
+    done = run([PROGRAMS / "station/station", *words])
     assert (2, b"", f"station: error: {why}") == (done.returncode, done.stdout, done.stderr.decode().splitlines()[-1])
 
 
@@ -966,7 +966,7 @@ def test_urls_of_this_machine_and_of_fronts_are_taken(alone, url):
 
 
 def test_help(room):
-    done = run([EXAMPLES / "station", "--help"])
+    done = run([PROGRAMS / "station/station", "--help"])
     assert (0, b"") == (done.returncode, done.stderr)
     assert "station [OPTION..] --db FILE --policy FILE --key PEM OFFICE" in done.stdout.decode().splitlines()
 
@@ -1014,7 +1014,7 @@ def test_a_secret_that_others_can_use_is_refused(alone, room, key, mode):
 ])
 def test_root_may_give_a_service_a_secret_by_its_group(room, monkeypatch, owner, mode, user, is_taken):
     """So systemd does with a credential, by an access list, which shows as the group's mode."""
-    station = loaded(EXAMPLES / "station")
+    station = loaded(PROGRAMS / "station/station")
     write_secret("secret", "")
     found = os.stat_result([stat.S_IFREG | mode, 0, 0, 1, owner, owner, *[0] * 4])
     monkeypatch.setattr(station.os, "stat", lambda path: found)
@@ -1080,7 +1080,7 @@ def test_a_log_that_others_can_change_is_refused_while_the_guard_writes_it(alone
     (0, 0o664, 1000, False), (1000, 0o602, 1000, False), (1001, 0o644, 1000, False), (1000, 0o644, 0, False),
 ])
 def test_root_and_the_stations_user_may_change_its_files(monkeypatch, owner, mode, user, is_taken):
-    station = loaded(EXAMPLES / "station")
+    station = loaded(PROGRAMS / "station/station")
     found = os.stat_result([stat.S_IFREG | mode, 0, 0, 1, owner, owner, *[0] * 4])
     monkeypatch.setattr(station, "os", types.SimpleNamespace(stat=lambda path: found, getuid=lambda: user))
     with contextlib.nullcontext() if is_taken else pytest.raises(station.Fault, match="change it"):
@@ -1337,7 +1337,7 @@ print("it hangs")
 
 
 def test_a_signal_that_is_lost_ends_the_station_at_the_next_round():
-    done = run([sys.executable, "-c", LOST, TOP / "tests", EXAMPLES / "station"])
+    done = run([sys.executable, "-c", LOST, TOP / "tests", PROGRAMS / "station/station"])
     assert (131, b"it goes on True\n") == (done.returncode, done.stdout)
     assert b"SystemExit" in done.stderr
 
@@ -1614,7 +1614,7 @@ def test_a_pin_that_is_refused_ends_the_station(sshstation, make_office, token):
         made = Station(guard, false.url, ["--pkcs11", MODULE, "--id", "01", "--pin-file", "pin"])
         said = ["station: the token refuses the PIN: CKR_PIN_INCORRECT (0x000000A0)"]
         assert (3, [], said, []) == (*made.once(**environment), false.requests)
-    unit = (EXAMPLES / "systemd/office-station@.service").read_text()
+    unit = (PROGRAMS / "units/office-station@.service").read_text()
     assert "RestartPreventExitStatus=3" in unit.splitlines()
 
 
@@ -1704,7 +1704,7 @@ def test_the_longest_body_is_signed_with_each_kind_of_key(sshstation, make_offic
         key = ["--pkcs11", MODULE, "--id", "01", "--pin-file", "pin"]
     else:
         run(["openssl", "genpkey", "-algorithm", "ed25519", "-out", "ca.pem"], check=True)
-        line = run([EXAMPLES / "ca-line", "ca.pem"], check=True).stdout.decode()
+        line = run([PROGRAMS / "station/ca-line", "ca.pem"], check=True).stdout.decode()
         key = ["--key", "ca.pem"]
     if kind == "agent":
         new_key("ca")

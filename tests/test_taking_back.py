@@ -44,7 +44,7 @@ class Machine:
         for it in ("user", "host"):
             make_key(it)
         self.users = {it: certify(it, "user") for it in self.keys}
-        self.server, self.client = (loaded(TOP / f"setup/vethlumi-{it}-setup") for it in ("server", "client"))
+        self.server, self.client = (loaded(TOP / f"programs/setup/vethlumi-{it}-setup") for it in ("server", "client"))
         self.common = self.server.setting_up
         for module in (self.common, self.server, self.client):
             monkeypatch.setattr(module, "ETC", self.etc)

@@ -1,4 +1,4 @@
-"""The units of examples/systemd and examples/volume, as systemd-analyze and systemd-sysusers read them. test_boxes.py
+"""The units of programs/units and programs/volume, as systemd-analyze and systemd-sysusers read them. test_boxes.py
 and test_three_machines.py run them."""
 import os
 import re
@@ -7,9 +7,9 @@ import shutil
 import pytest
 
 from fronts import MOST_OF_A_CONNECTION
-from running import EXAMPLES, TOP, left_out, loaded, run
+from running import PROGRAMS, TOP, left_out, loaded, run
 
-UNITS, VOLUME = EXAMPLES / "systemd", EXAMPLES / "volume"
+UNITS, VOLUME = PROGRAMS / "units", PROGRAMS / "volume"
 NAMES = sorted(it.name for it in UNITS.iterdir() if it.suffix in (".service", ".socket", ".timer"))
 SERVICES = [it for it in NAMES if it.endswith(".service")]
 # The most that systemd may say of a unit: 1.5 of 10.
@@ -59,7 +59,7 @@ def test_each_unit_of_a_volume_is_enabled_by_the_page_and_disabled_again():
     enabled = {word for words in re.findall(r"^systemctl enable --now (.*)$", page, re.M) for word in words.split()}
     [disabled] = re.findall(r"^leave\(\) \{\n.*\n  for it in (.*); do$", script, re.M)
     assert 4 == len(wanted) and wanted <= enabled and wanted <= {*disabled.split()}
-    assert "examples/volume/*.{service,timer} /etc/systemd/system" in page
+    assert "programs/volume/*.{service,timer} /etc/systemd/system" in page
 
 
 @pytest.mark.parametrize("unit", SERVICES)
@@ -82,7 +82,7 @@ def test_a_station_goes_on_if_a_program_of_its_own_is_killed_for_memory():
 
 def test_a_station_ends_its_guards_by_itself():
     """systemd tells it alone, and waits longer than the station does for both guards."""
-    station = loaded(EXAMPLES / "station")
+    station = loaded(PROGRAMS / "station/station")
     longest = station.LONGEST_STATING + station.LONGEST_ENDING
     assert ["mixed"] == settings("office-station@.service", "KillMode")
     [patience] = settings("office-station@.service", "TimeoutStopSec")
@@ -130,13 +130,13 @@ def test_only_the_front_has_a_right_of_root(unit):
 
 def test_each_connection_of_the_front_may_have_two_files_open():
     """One to the client, and one to the office while it is asked."""
-    [most] = re.findall(r"^ +worker_connections (\d+);$", (EXAMPLES / "front/nginx.conf").read_text(), re.M)
+    [most] = re.findall(r"^ +worker_connections (\d+);$", (PROGRAMS / "front/nginx.conf").read_text(), re.M)
     assert [True] == [2 * int(most) < int(it) for it in settings("office-front.service", "LimitNOFILE")]
 
 
 def test_all_connections_of_the_front_fit_into_its_memory():
     """Each takes at most what test_front_load measures. A tenth is left for nginx itself."""
-    text = (EXAMPLES / "front/nginx.conf").read_text()
+    text = (PROGRAMS / "front/nginx.conf").read_text()
     [processes], [connections] = (re.findall(rf"^ *{it} (\d+);$", text, re.M) for it in (
         "worker_processes", "worker_connections"))
     assert ["1G"] == settings("office-front.service", "MemoryMax")

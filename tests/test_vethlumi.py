@@ -15,9 +15,9 @@ import pytest
 
 from asking import department
 from fetching import Web, response
-from running import TOP, run, until
+from running import PROGRAMS, run, until
 
-CLIENT = TOP / "client"
+CLIENT = PROGRAMS / "client"
 POLICY = """# people
 department web
 kind user

@@ -1,4 +1,4 @@
-"""The way of examples/volume, on two machines: whose office it asks, by the lease that each machine has, and what
+"""The way of programs/volume, on two machines: whose office it asks, by the lease that each machine has, and what
 waiting takes. And what office-volume does without a volume."""
 import contextlib
 import fcntl
@@ -24,7 +24,7 @@ import pytest
 
 from asking import Response, department, issue, string
 from recording import posting
-from running import EXAMPLES, free_port, is_listening, left_out, rest, until
+from running import PROGRAMS, free_port, is_listening, left_out, rest, until
 
 MODULE = pathlib.Path("/usr/lib/nginx/modules/ngx_http_js_module.so")
 PAGE, MESSAGE = ("GET", "/v1/krl"), ("POST", "/v1/callers/ana/requests/k-1")
@@ -67,7 +67,7 @@ class Machine:
             (self.folder / it).mkdir(parents=True)
 
     def begin(self, programs, other, most, door):
-        """Starts nginx with the files of examples/volume, in this machine's folder. So many messages may wait. The door
+        """Starts nginx with the files of programs/volume, in this machine's folder. So many messages may wait. The door
         of its office is in that folder, or at a port."""
         door = f"127.0.0.1:{door}" if door else f"unix:{self.folder}/door.sock"
         edits = {"way.conf": [("/etc/vethlumi/way", self.folder), ("/run/office-way", self.folder),
@@ -77,7 +77,7 @@ class Machine:
                  "way.js": [("/run/office-volume", self.folder / "run"),
                             ("/run/office-waiting", self.folder / "waiting")]}
         for file, changes in edits.items():
-            text = (EXAMPLES / "volume" / file).read_text()
+            text = (PROGRAMS / "volume" / file).read_text()
             for old, new in changes:
                 assert old in text, f"{file} doesn't have {old}"
                 text = text.replace(old, str(new))
@@ -142,7 +142,7 @@ def make_machines(tmp_path, programs):
     if not MODULE.exists():
         left_out(f"{MODULE} isn't there: the package libnginx-mod-http-js has it")
     made = [Machine(tmp_path, "one", free_port()), Machine(tmp_path, "two", free_port())]
-    subprocess.run([EXAMPLES / "volume/office-volume", "key"], check=True, capture_output=True, cwd=tmp_path)
+    subprocess.run([PROGRAMS / "volume/office-volume", "key"], check=True, capture_output=True, cwd=tmp_path)
 
     def make(most=500, door=None):
         for it, other in zip(made, reversed(made)):
@@ -455,7 +455,7 @@ def volume(tmp_path):
     name = f"machine-{uuid.uuid4().hex}"
     (programs / "hostname").write_text(f"#!/bin/sh\necho {name}\n")
     (programs / "hostname").chmod(0o755)
-    text = (EXAMPLES / "volume/office-volume").read_text()
+    text = (PROGRAMS / "volume/office-volume").read_text()
     functions, last = text.rsplit("\ncase ", 1)
     for old, new in [("mount=/var/lib/office", "mount=/dev/shm"), ("run=/run/office-volume", f"run={run}"),
                      ("named=/run/office-waiting/listening", f"named={named}")]:
@@ -594,7 +594,7 @@ def waiting(tmp_path):
     environment = os.environ | {"PATH": f"{tmp_path / 'bin'}:{os.environ['PATH']}", "RUN": str(tmp_path),
                                 "RUNTIME_DIRECTORY": str(tmp_path / "named")}
     with open(tmp_path / "said", "wb") as said:
-        process = subprocess.Popen([EXAMPLES / "volume/office-waiting", tmp_path / "db", "8022"], env=environment,
+        process = subprocess.Popen([PROGRAMS / "volume/office-waiting", tmp_path / "db", "8022"], env=environment,
                                    stdout=said, stderr=subprocess.STDOUT, start_new_session=True)
     yield process, tmp_path / "named/listening"
     with contextlib.suppress(ProcessLookupError):
@@ -759,7 +759,7 @@ MODULES = {"rados": "class Rados:\n    def __init__(self, **_): pass\n    def co
 def running(tmp_path):
     """What is said of the parts of a machine, of which some run with these settings, and some have ended. The socket of
     one that has ended stays, or is gone."""
-    text = (EXAMPLES / "volume/office-volume").read_text()
+    text = (PROGRAMS / "volume/office-volume").read_text()
     asking = re.search(r"^ask_running='\n(.*?)^'$", text, re.M | re.S)[1]
     assert "/var/run/ceph" in asking
     for name, body in MODULES.items():

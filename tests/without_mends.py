@@ -19,7 +19,7 @@ import xml.etree.ElementTree
 TOP = pathlib.Path(__file__).resolve().parent.parent
 MENDS = TOP / "tests/data/mends.toml"
 # What tests read beside the programs.
-PARTS = "tests examples docs setup client debian package pytest.ini README.md".split()
+PARTS = "tests examples programs docs debian package pytest.ini README.md".split()
 
 
 def mends():
@@ -47,7 +47,7 @@ def take_out(mend, top, program):
 
 
 def failed_tests(top, tests, program, sshstation):
-    """Those of the tests of which a case failed, and what pytest printed."""
+    """Those of the tests of which a case failed, by file and name, and what pytest printed."""
     report = top / "report.xml"
     words = ["/usr/bin/python3", "-B", "-m", "pytest", "-q", "-p", "no:cacheprovider", f"--basetemp={top}/room",
              f"--junitxml={report}", f"--program={program}", f"--sshstation={sshstation}"]
@@ -71,7 +71,7 @@ def without(names, chosen, given):
             program = take_out(chosen[name], top, program)
         tests = [*dict.fromkeys(it for name in names for it in chosen[name]["tests"])]
         failed, said = failed_tests(top, tests, program, given.sshstation)
-    passed = [it for it in tests if it not in failed]
+    passed = [it for it in tests if it.rpartition("/")[2] not in failed]
     print(f"{' '.join(names)}: " + (f"PASSED without the mend: {' '.join(passed)}\n{said[-2000:]}" if passed else
                                     f"{len(tests)} tests fail"), flush=True)
     return len(passed), len(tests) - len(passed)

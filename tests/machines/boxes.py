@@ -1,10 +1,10 @@
 #!/usr/bin/python3
 """Boxes: machines of Debian 12, each with a systemd of its own, for tests of units and of pages.
 
-    tests/boxes.py prepare           makes the folder that every box starts from, unless it is there. This takes some
-                                     minutes
-    tests/boxes.py prepare volume    makes that of boxes with a volume, too
-    tests/boxes.py folder            prints where the first is: $OFFICE_BOXES, or /var/cache/sshoffice-boxes
+    tests/machines/boxes.py prepare           makes the folder that every box starts from, unless it is there. This takes
+                                              some minutes
+    tests/machines/boxes.py prepare volume    makes that of boxes with a volume, too
+    tests/machines/boxes.py folder            prints where the first is: $OFFICE_BOXES, or /var/cache/sshoffice-boxes
 
 The boxes of a `Rack` have a network of their own. They run in namespaces that end with the process that made the rack,
 however it ends: then the kernel ends every box, and their files, which are in memory, are gone.

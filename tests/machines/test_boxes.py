@@ -1,4 +1,4 @@
-"""The units of examples/systemd under a systemd of their own, and the pages that say how to run an office with them.
+"""The units of programs/units under a systemd of their own, and the pages that say how to run an office with them.
 
 Machines are boxes (boxes.py), set up by the commands of docs/OPERATING.md, "In service"."""
 import contextlib
@@ -64,7 +64,8 @@ class Site(boxes.Rack):
                 box.may_log_in()
             place = box.files / "root/vethlumi"
             if not place.exists():
-                shutil.copytree(TOP / "examples", place / "examples")
+                for it in ("examples", "programs"):
+                    shutil.copytree(TOP / it, place / it)
                 for name in PROGRAMS.get(box.name, ()):
                     out = place / f"crates/{name}/out"
                     out.mkdir(parents=True)

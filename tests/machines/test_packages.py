@@ -25,7 +25,7 @@ import pytest
 import boxes
 import pages
 from lists import published
-from running import TOP, left_out, loaded, run
+from running import PROGRAMS, TOP, command, left_out, loaded, run
 
 PAGE = TOP / "docs/INSTALLING.md"
 NAMES = ["vethlumi-office", "vethlumi-front", "vethlumi-station", "vethlumi-client"]
@@ -140,23 +140,23 @@ def test_the_packages_have_the_programs_as_they_were_built(unpacked, program, ss
         assert path.read_bytes() == (unpacked / "usr/bin" / path.name).read_bytes()
 
 
-def test_each_file_of_the_examples_is_as_it_stands_there(unpacked):
+def test_each_file_is_as_it_stands_there(unpacked):
     """Scripts byte for byte, units but for the place of programs."""
-    for name in ("office-restore", "station", "ca-line", "fetch-list", "fetch-ca-keys", "trust-cas", "front/authority"):
-        assert (TOP / "examples" / name).read_bytes() == (unpacked / "usr/bin" / name.rpartition("/")[2]).read_bytes()
+    for name in ("office-restore", "station", "ca-line", "fetch-list", "fetch-ca-keys", "trust-cas", "authority"):
+        assert command(name).read_bytes() == (unpacked / "usr/bin" / name).read_bytes()
     for unit in (unpacked / "lib/systemd/system").iterdir():
-        text = (TOP / "examples/systemd" / unit.name).read_text().replace("/usr/local/bin/", "/usr/bin/")
+        text = (TOP / "programs/units" / unit.name).read_text().replace("/usr/local/bin/", "/usr/bin/")
         assert text.replace("/usr/local/share/office/", "/usr/share/vethlumi-front/") == unit.read_text()
     users = [line for it in (unpacked / "usr/lib/sysusers.d").iterdir() for line in it.read_text().splitlines()]
     assert sorted(users) == sorted(
-        it for it in (TOP / "examples/systemd/sysusers.conf").read_text().splitlines() if it.startswith("u "))
+        it for it in (TOP / "programs/units/sysusers.conf").read_text().splitlines() if it.startswith("u "))
 
 
 def test_alerts_look_at_metrics_that_there_are():
-    text = (TOP / "client/vethlumi/figures.py").read_text() + (TOP / "client/vethlumi/reports.py").read_text()
+    text = "".join((PROGRAMS / f"client/vethlumi/{it}.py").read_text() for it in ("figures", "reports"))
     printed = {f"office_{it}" for it in re.findall(r'"([a-z_]+)", "[A-Z]', text)}
-    printed |= {*re.findall(r"^# TYPE (\w+) gauge$", (TOP / "examples/fetch-list").read_text(), re.M)}
-    rules = re.findall(r"^ +expr: (.*)$", (TOP / "examples/alerts.yml").read_text(), re.M)
+    printed |= {*re.findall(r"^# TYPE (\w+) gauge$", (TOP / "programs/server/fetch-list").read_text(), re.M)}
+    rules = re.findall(r"^ +expr: (.*)$", (TOP / "programs/client/alerts.yml").read_text(), re.M)
     assert 11 == len(rules) and {"office_up", "office_list_taken"} < printed
     assert set() == {it for rule in rules for it in re.findall(r"\boffice_\w+", rule)} - printed
 
@@ -204,7 +204,7 @@ def promtool(tmp_path_factory):
 @pytest.mark.parametrize("otherwise, due", ALERTS, ids=[" ".join(it[1]) or "none" for it in ALERTS])
 def test_prometheus_raises_the_alerts(promtool, room, otherwise, due):
     """After 80 minutes."""
-    rules = TOP / "examples/alerts.yml"
+    rules = TOP / "programs/client/alerts.yml"
     assert b"SUCCESS: 11 rules found" in run([promtool, "check", "rules", rules], check=True).stdout
     raised = {"expr": 'count by (alertname) (ALERTS{alertstate="firing"})', "eval_time": "80m",
               "exp_samples": [{"labels": f'{{alertname="{it}"}}', "value": 1} for it in due]}
@@ -295,7 +295,7 @@ def test_there_is_a_completion_of_each_command_for_both_shells(unpacked):
 
 def load(name):
     """A set-up command as a module."""
-    return loaded(TOP / "setup" / name)
+    return loaded(PROGRAMS / "setup" / name)
 
 
 CA = "ssh-ed25519 AAAAC3NzaC1lZDI1NTE5AAAAI" + "A" * 43
@@ -393,7 +393,7 @@ def authority(room, monkeypatch):
     """What a front's set-up does with the authority: a function of its words that returns what it did."""
     front = load("vethlumi-front-setup")
     monkeypatch.setattr(front, "front_steps", lambda *_: 8443)
-    monkeypatch.setenv("PATH", f"{TOP}/examples/front:{os.environ['PATH']}")
+    monkeypatch.setenv("PATH", f"{TOP}/programs/front:{os.environ['PATH']}")
 
     def do(*words):
         parser = argparse.ArgumentParser()
@@ -484,7 +484,7 @@ def test_a_front_without_a_certificate_gets_one(room, authority):
 
 @pytest.mark.parametrize("hosts", [["a b"], ["a", "b,email:c"], ["a", "-b"], ["a", ""], ["a", "*"], ["*.a"]], ids=str)
 def test_what_is_no_host_of_a_front(room, hosts):
-    done = run_as_root(TOP / "setup/vethlumi-front-setup", "--yes", "--authority", "authority", "--", *hosts)
+    done = run_as_root(TOP / "programs/setup/vethlumi-front-setup", "--yes", "--authority", "authority", "--", *hosts)
     assert (2, True) == (done.returncode, b"no name of a host" in done.stderr), done.stderr
     assert [] == [*room.iterdir()]
 
@@ -506,7 +506,7 @@ def test_what_is_no_host_of_a_front(room, hosts):
 ], ids=str)
 def test_bad_words_set_nothing_up(room, command, words, why):
     """They are refused before anything is asked or done."""
-    done = run_as_root(TOP / f"setup/vethlumi-{command}-setup", *words)
+    done = run_as_root(TOP / f"programs/setup/vethlumi-{command}-setup", *words)
     assert (2, True) == (done.returncode, why in done.stderr.decode()), done.stderr.decode()
     assert [] == [*room.iterdir()]
 
@@ -521,7 +521,7 @@ def test_bad_words_set_nothing_up(room, command, words, why):
 def test_a_bundle_of_another_sets_nothing_up(room, command, text, why):
     if text is not None:
         (room / "bundle").write_bytes(text if isinstance(text, bytes) else text.encode())
-    done = run_as_root(TOP / f"setup/vethlumi-{command}-setup", "--yes", "bundle")
+    done = run_as_root(TOP / f"programs/setup/vethlumi-{command}-setup", "--yes", "bundle")
     assert (1, True) == (done.returncode, why in done.stderr.decode()), done.stderr.decode()
     assert ["bundle"] * (text is not None) == [it.name for it in room.iterdir()]
 
@@ -597,7 +597,7 @@ def keeping(room, monkeypatch):
     monkeypatch.setattr(station.setting_up, "as_user", lambda user, *words: station.run(words))
     (room / "bin").mkdir()
     (room / "bin/sshstation").symlink_to(TOP / "tests/plain_guard.py")
-    monkeypatch.setenv("PATH", f"{room}/bin:{TOP}/examples:{os.environ['PATH']}")
+    monkeypatch.setenv("PATH", f"{room}/bin:{PROGRAMS}/station:{os.environ['PATH']}")
     (room / "first.policy").touch()
     (room / "first.db").touch()
 
@@ -734,7 +734,7 @@ class FirstList:
 
     def begin(self, hangs="nothing"):
         environment = os.environ | {"PATH": f"{self.room}/bin:{os.environ['PATH']}", "HANGS": hangs}
-        words = ["/usr/bin/python3", "-B", "-c", BEGIN_LISTS, TOP / "setup/vethlumi-station-setup", self.room]
+        words = ["/usr/bin/python3", "-B", "-c", BEGIN_LISTS, TOP / "programs/setup/vethlumi-station-setup", self.room]
         return subprocess.Popen(words, env=environment, stderr=subprocess.PIPE, text=True, start_new_session=True)
 
     def run(self):
@@ -1125,7 +1125,7 @@ def test_a_host_s_key_is_one_that_the_client_takes(room, monkeypatch):
     """It refuses keys for which everybody has signatures, and may learn of others."""
     server = load("vethlumi-server-setup")
     run(["ssh-keygen", "-q", "-t", "ed25519", "-N", "", "-f", room / "host"], check=True)
-    monkeypatch.syspath_prepend(TOP / "client")
+    monkeypatch.syspath_prepend(PROGRAMS / "client")
     from vethlumi import formats
     server.check_key(room / "host.pub")
     said = []
@@ -1206,7 +1206,7 @@ def test_a_bundle_without_a_key_or_a_certificate_sets_nothing_up(room, command, 
     common = load("setting_up.py")
     with pytest.raises(common.Fault, match=f"has no {lacks}, and needs" if lacks else r"no part \[certificate\]"):
         common.certificate_of(common.read_bundle(room / "bundle"))
-    assert "setting_up.certificate_of(parts)" in (TOP / f"setup/vethlumi-{command}-setup").read_text()
+    assert "setting_up.certificate_of(parts)" in (TOP / f"programs/setup/vethlumi-{command}-setup").read_text()
 
 
 @pytest.mark.parametrize("kind", ["PRIVATE KEY", "EC PRIVATE KEY", "ENCRYPTED PRIVATE KEY"])
@@ -1249,7 +1249,7 @@ def test_a_set_up_asks_or_wants_yes(room):
     common = load("setting_up.py")
     steps = common.Steps(argparse.Namespace(yes=False), "set-up")
     steps.file(room / "file", "one\n")
-    done = run(["/usr/bin/python3", "-B", "-c", SET_UP_ALONE, TOP / "setup", room / "file"])
+    done = run(["/usr/bin/python3", "-B", "-c", SET_UP_ALONE, PROGRAMS / "setup", room / "file"])
     assert (2, False) == (done.returncode, (room / "file").exists())
     assert b"write" in done.stderr and b"give --yes" in done.stderr
 
@@ -1258,7 +1258,7 @@ def test_a_set_up_asks_or_wants_yes(room):
                          ids=["y", "nothing", "yes", "the end"])
 def test_a_set_up_asks_at_a_terminal(room, typed_, due):
     ours, theirs = pty.openpty()
-    words = ["/usr/bin/python3", "-B", "-c", SET_UP_ALONE, TOP / "setup", room / "file"]
+    words = ["/usr/bin/python3", "-B", "-c", SET_UP_ALONE, PROGRAMS / "setup", room / "file"]
     with subprocess.Popen(words, stdin=theirs, stdout=subprocess.PIPE, stderr=subprocess.PIPE) as asking:
         os.write(ours, typed_.encode())
         out, told = asking.communicate(timeout=60)
@@ -1398,7 +1398,7 @@ class Installing:
         for name in NAMES:
             (room / f"{name}_1.0.0_{'all' if name in ('vethlumi-front', 'vethlumi-client') else 'amd64'}.deb").touch()
 
-    def __call__(self, *words, command=TOP / "setup/vethlumi-install", **answers):
+    def __call__(self, *words, command=TOP / "programs/setup/vethlumi-install", **answers):
         """The status, what was told, and what the programs were told: the program, its words, its input."""
         answers |= {form: it for form, it in ANSWERS.items() if form not in answers}
         (self.room / "answers").write_text(json.dumps(answers))
@@ -1454,11 +1454,11 @@ def test_where_the_packages_are(installing, room):
     (room / name).rename(room / "a:b" / name)
     status, told, said = installing("station", "s", "--packages", "a:b", "--yes")
     assert (0, (f"{room}/a:b/{name}", "root@s:")) == (status, said[1]), told
-    shutil.copytree(TOP / "setup", room / "clone/setup")
+    shutil.copytree(PROGRAMS / "setup", room / "clone/programs/setup")
     (room / "a:b").rename(room / "clone/out")
     for it in room.glob("*.deb"):
         it.unlink()
-    status, told, said = installing("station", "s", "--yes", command=room / "clone/setup/vethlumi-install")
+    status, told, said = installing("station", "s", "--yes", command=room / "clone/programs/setup/vethlumi-install")
     assert (0, (f"{room}/clone/out/{name}", "root@s:")) == (status, said[1]), told
 
 
@@ -1928,7 +1928,7 @@ class Fleet(boxes.Rack):
         (clone / "out").mkdir(parents=True, exist_ok=True)
         for name in NAMES:
             shutil.copy(of(self.packages, name), clone / "out")
-        shutil.copytree(TOP / "setup", clone / "setup", dirs_exist_ok=True)
+        shutil.copytree(PROGRAMS / "setup", clone / "programs/setup", dirs_exist_ok=True)
         box.write("root/.ssh/id_ed25519", self.key, 0o600)
         box.write("root/.ssh/config", "StrictHostKeyChecking yes\n", 0o600)
         key = (box.files / "etc/ssh/ssh_host_ed25519_key.pub").read_text()
@@ -2191,7 +2191,7 @@ def test_with_a_machine_down_nothing_is_done_and_the_same_command_goes_on_later(
     """A server is set up again while the office's machine is off, and then the front."""
     fleet.add(ADMIN)
     office, server, admin = fleet.boxes["office"], fleet.boxes["server"], fleet.shell(ADMIN)
-    install = ("setup/vethlumi-install server server.example.org --office office.example.org "
+    install = ("programs/setup/vethlumi-install server server.example.org --office office.example.org "
                "--station station.example.org --account bob --yes")
     office.pull_the_plug()
     told = admin.run(f"{install} || echo status $?\n").splitlines()
@@ -2217,7 +2217,7 @@ def test_a_lost_ca_is_not_passed_on(fleet):
     fleet.add(ADMIN)
     station, office, admin = fleet.boxes["station"], fleet.boxes["office"], fleet.shell(ADMIN)
     station.run("systemctl disable -q --now office-station@first")
-    install = "setup/vethlumi-install {} {}.example.org {} --yes\n".format
+    install = "programs/setup/vethlumi-install {} {}.example.org {} --yes\n".format
     told = admin.run(install("station", "station", "--name second --principals alice --first 1000"))
     second = station.says("cat /etc/vethlumi/station/second.pub")
     assert f"CA {station.says('ssh-keygen -l -f /etc/vethlumi/station/second.pub').split()[1]}" in told.splitlines()
@@ -2287,7 +2287,7 @@ def test_a_rollover_reaches_servers_and_clients_and_what_is_taken_back_opens_not
 
     def install(machine, *cas, more=""):
         named = " ".join(f"--ca {it}" for it in cas)
-        return admin.run(f"setup/vethlumi-install {machine} {machine}.example.org --office office.example.org "
+        return admin.run(f"programs/setup/vethlumi-install {machine} {machine}.example.org --office office.example.org "
                          f"--station station.example.org {named} {more} --yes || echo status $?\n")
 
     def granted():

@@ -48,7 +48,7 @@ LOG = "/run/office-way/way.log"
 LINE = re.compile(r'(\d+\.\d+) (?:200|4[0-8]\d) "(\w+) [^"]*" "(?:[^"]*, )?' + DOOR
                   + r'" "(?:[^"]*, )?(\d+\.\d+)"')
 LISTENING = re.compile(r"^(\d+\.\d+) \S+ office-waiting\[\d+\]: listening 8022$", re.M)
-# For how many seconds after a sign the office of a machine is asked (examples/volume/office-volume).
+# For how many seconds after a sign the office of a machine is asked (programs/volume/office-volume).
 LEASE = 5
 # The journal has the line of a server that began to listen a moment later, on a busy machine some seconds.
 LAG = 10
@@ -88,7 +88,8 @@ class Site(boxes.Rack):
         # The packages are in the folder that every box starts from.
         box.write("usr/local/bin/apt-get", "#!/bin/sh\nexit 0\n", 0o755)
         place = box.files / "root/vethlumi"
-        shutil.copytree(TOP / "examples", place / "examples")
+        for it in ("examples", "programs"):
+            shutil.copytree(TOP / it, place / it)
         if box.name in ("one", "two"):
             out = place / "crates/sshoffice/out"
             out.mkdir(parents=True)
@@ -472,7 +473,7 @@ LONGEST = {"server killed": 10, "mount killed": 10, "mount frozen": 40, "machine
            "rebooted": 40}
 # What fails stays so for these seconds after the other machine took over, or after it failed.
 STAYS = 3
-# For how many seconds the way asks the offices for a caller (examples/volume/way.js).
+# For how many seconds the way asks the offices for a caller (programs/volume/way.js).
 LONGEST_WAIT = 120
 
 
@@ -895,7 +896,7 @@ def asked(site):
 
 def leave(site, box):
     """Has a machine leave the volume."""
-    box.run("vethlumi/examples/volume/office-volume leave")
+    box.run("vethlumi/programs/volume/office-volume leave")
     assert not box.says("find /srv/office-brick /var/lib/ceph/mon /etc/ceph -mindepth 1 ! -name rbdmap")
 
 
@@ -943,7 +944,7 @@ def test_the_program_is_updated(site, request):
     """The page's commands, first on the machine that waits and then on the one that serves. The other takes over, or
     the one that is updated begins again before that."""
     until_well(site, site.is_well)
-    programs = "crates/sshoffice/out/sshoffice examples/volume/office-{volume,waiting}"
+    programs = "crates/sshoffice/out/sshoffice programs/volume/office-{volume,waiting}"
     with asked(site) as calling:
         serving = until(site.serving, seconds=60)
         for box in (site.other(serving), serving):

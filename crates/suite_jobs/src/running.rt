@@ -7,7 +7,7 @@ use std::alloc::Alloc;
 use std::test::Fail;
 use wire::FromWrite;
 
-/// The CA of the test cases in `examples/rows`.
+/// The CA of the test cases in `tests/rows`.
 const CA: &[u8] =
     b"ssh-ed25519 AAAAC3NzaC1lZDI1NTE5AAAAIBERERERERERERERERERERERERERERERERERERERERER office\n";
 
@@ -27,7 +27,7 @@ issue web\nkeyid web/alice\nkey ssh-ed25519 \
 AAAAC3NzaC1lZDI1NTE5AAAAICIiIiIiIiIiIiIiIiIiIiIiIiIiIiIiIiIiIiIiIiIi\n\
 principals alice\nafter 1000\nbefore 2000\nextensions\n";
 
-/// The department of `examples/rows/the-department-of-the-trial-office.exchange`.
+/// The department of `tests/rows/the-department-of-the-trial-office.exchange`.
 const DEPARTMENT: &[u8] =
     b"POST /v1/callers/root/requests/trial-web HTTP/1.1\r\ncontent-length: 191\r\n\r\n\
 department web\nkind user\nadmins ana\nprincipals alice,*@example.org\noptions force-command\n\

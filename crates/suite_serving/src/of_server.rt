@@ -12,14 +12,14 @@ const DEPARTMENT: &[u8] =
 department web\nkind user\nadmins ana\nprincipals alice,*@example.org\noptions force-command\n\
 extensions permit-X11-forwarding,permit-agent-forwarding,permit-pty\nmaxlife 86400\nnamespaces file,git\n";
 
-/// The response of `examples/rows/the-department-of-the-trial-office.expected`.
+/// The response of `tests/rows/the-department-of-the-trial-office.expected`.
 const ACCEPTED: &[u8] = b"HTTP/1.1 200 OK\r\ncontent-type: text/plain\r\n\
 content-length: 15\r\nconnection: close\r\n\r\ndepartment web\n";
 
 /// The beginning of a head, without its end.
 const HALF: &[u8] = b"GET /v1/k";
 
-/// The issue message of the test cases in `examples/rows`, and the certificate that is pending after it.
+/// The issue message of the test cases in `tests/rows`, and the certificate that is pending after it.
 const ISSUE: &[u8] = b"POST /v1/callers/ana/requests/i1 HTTP/1.1\r\ncontent-length: 162\r\n\r\n\
 issue web\nkeyid web/alice\nkey ssh-ed25519 \
 AAAAC3NzaC1lZDI1NTE5AAAAICIiIiIiIiIiIiIiIiIiIiIiIiIiIiIiIiIiIiIiIiIi\n\

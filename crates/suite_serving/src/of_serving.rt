@@ -23,12 +23,12 @@ AAAAC3NzaC1lZDI1NTE5AAAAICIiIiIiIiIiIiIiIiIiIiIiIiIiIiIiIiIiIiIiIiIi\n\
 principals alice\nafter 1000\nbefore 2000\nextensions\n\
 GET /v1/krl HTTP/1.1\r\n\r\n";
 
-/// The response made from the register's reply: that of `examples/rows/repeat-gets-the-kept-reply.expected`.
+/// The response made from the register's reply: that of `tests/rows/repeat-gets-the-kept-reply.expected`.
 const ISSUED: &[u8; 165] = b"HTTP/1.1 200 OK\r\ncontent-type: text/plain\r\n\
 content-length: 81\r\nconnection: close\r\n\r\n\
 issued 1\ndigest 82e0c34fe67da3fc3dc1be6682073994ec021449271b641cdd36180e95572e79\n";
 
-/// A list that revokes nothing: the first response of `examples/rows/a-revoked-serial-is-listed.expected`.
+/// A list that revokes nothing: the first response of `tests/rows/a-revoked-serial-is-listed.expected`.
 const LISTED: &[u8] = b"HTTP/1.1 200 OK\r\ncontent-type: application/octet-stream\r\n\
 content-length: 44\r\nconnection: close\r\n\r\n\
 SSHKRL\n\0\0\0\0\x01\0\0\0\0\0\0\0\0\0\0\0\0\0\0\0\0\0\0\0\0\0\0\0\0\0\0\0\0\0\0\0\0";
