@@ -1,0 +1,61 @@
+"""What two crates have alike stands once: tools/equal-lines finds runs of lines that stand in both."""
+import shutil
+
+import pytest
+
+from running import TOP, run
+
+pytestmark = pytest.mark.early
+TOOL = "tools/equal-lines"
+LINES = [f"step{it} = refl" for it in range(30)]
+
+
+def test_the_crates_of_both_guards_share_no_run_of_twenty_lines():
+    done = run([TOP / TOOL])
+    assert (0, b"0 runs of 20 equal lines or more in guard_sql and list_sql\n") == (done.returncode, done.stdout)
+
+
+@pytest.fixture
+def found(room):
+    """Says which runs are found in two crates of these lines."""
+    (room / "tools").mkdir()
+    shutil.copy(TOP / TOOL, room / TOOL)
+
+    def find(one, other, place="proofs/Same.antt"):
+        for name, lines in (("one", one), ("other", other)):
+            file = room / f"crates/{name}/{place}"
+            file.parent.mkdir(parents=True, exist_ok=True)
+            (room / f"crates/{name}/src").mkdir(exist_ok=True)
+            file.write_text("".join(f"{it}\n" for it in lines))
+        done = run([room / TOOL, "one", "other"])
+        return done.returncode, done.stdout.decode().splitlines()
+    return find
+
+
+@pytest.mark.parametrize("one, other, size", [
+    (LINES[:20], LINES[:20], 20), (["a", *LINES[:20]], [*LINES[:20], "b"], 20), (LINES, ["x", *LINES, "y"], 30),
+    (["-- one", "", *LINES[:20]], [*LINES[:9], "-- other", "", *LINES[9:20]], 20),
+    ([f"  {it}" for it in LINES[:20]], LINES[:20], 20),
+])
+def test_a_run_is_found_without_comments_blank_lines_and_indentation(found, one, other, size):
+    status, said = found(one, other)
+    assert 1 == status and said[0].startswith(f"{size} equal lines: crates/one/proofs/Same.antt:"), said
+    assert "1 runs of 20 equal lines or more in one and other" == said[1]
+
+
+@pytest.mark.parametrize("one, other", [
+    (LINES[:19], LINES[:19]), ([*LINES[:19], "a", *LINES[19:]], [*LINES[:19], "b", *LINES[19:]]), ([], LINES),
+])
+def test_a_shorter_run_is_none(found, one, other):
+    assert (0, ["0 runs of 20 equal lines or more in one and other"]) == found(one, other)
+
+
+@pytest.mark.parametrize("place, status", [("src/lib.rt", 1), ("specs/Same.antt", 1), ("out/Same.antt", 0),
+                                           ("proofs/notes.txt", 0)])
+def test_where_lines_are_looked_for(found, place, status):
+    assert status == found(LINES, LINES, place)[0]
+
+
+@pytest.mark.parametrize("words", [["one"], ["guard_sql", "nothing"], ["--lines", "0"]])
+def test_words_that_name_no_two_crates(words):
+    assert 2 == run([TOP / TOOL, *words]).returncode
