@@ -9,9 +9,9 @@ import time
 import pytest
 
 from asking import department
-from running import TOP, left_out, loaded, run, until
+from running import PROGRAMS, left_out, loaded, run, until
 
-HOST = TOP / "programs/server/vethlumi-host"
+HOST = PROGRAMS / "server/vethlumi-host"
 SETTINGS = "KEYID=db/db.example.org\nPRINCIPALS=db.example.org\nLIFE={life}\nKEY={key}\n"
 
 
@@ -54,7 +54,7 @@ class Host:
 
 # ---- with an office and its station
 
-CLIENT = f'#!/bin/sh\nPYTHONPATH={TOP}/client exec /usr/bin/python3 -B -m vethlumi "$@"\n'
+CLIENT = f'#!/bin/sh\nPYTHONPATH={PROGRAMS}/client exec /usr/bin/python3 -B -m vethlumi "$@"\n'
 
 
 @pytest.fixture
