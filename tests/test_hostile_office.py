@@ -21,7 +21,7 @@ import pytest
 
 from fetching import Web, response
 from recording import whole_request
-from running import PROGRAMS, TOP, run
+from running import PROGRAMS, TOP, preloaded, run
 from test_vethlumi import POLICY, SIGNERS, Client
 
 # Bytes of memory, and seconds for a command that may wait for two: far above what it takes on a machine that does other
@@ -314,6 +314,25 @@ def test_a_page_that_no_office_gives_does_no_harm(room, line, often, name):
     assert pairs
     for it in done(often, [Case(room / str(number), line, *pair, hostile) for number, pair in enumerate(pairs)]):
         it.is_harmless(3)
+
+
+@pytest.mark.slow
+def test_a_silent_name_server_is_given_up(room, line):
+    """The C library waits for one that takes a connection and sends nothing, also after a signal."""
+    client = Client(room / "home", "https://front.test")
+    silent_name = {"LD_PRELOAD": str(preloaded("strange_library.c", room)), "SILENT_NAME": "front.test"}
+    for words in ("status", "doctor --krl none", "revoke 1 --yes"):
+        done = run(client.words("--wait", "2", *words.split()), env=client.environment() | silent_name, timeout=100)
+        assert b"no whole answer came within " in done.stdout + done.stderr and done.returncode in (1, 3), done
+    assert 1 == len(client.kept())
+
+
+@pytest.mark.parametrize("host, due", [("localhost", 0), ("name.invalid", 3)])
+def test_a_name_is_looked_up(room, line, host, due):
+    with Office(line.read_bytes()) as office:
+        status, _, told = Client(room / "home", f"http://{host}:{office.port}")("--wait", "1", "status")
+    assert due == status, told
+    assert not due or f"the name {host} has no address" in told
 
 
 # ---- pages that an office may give, as long as they may be

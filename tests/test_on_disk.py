@@ -3,14 +3,16 @@ a message before the first byte goes out to the office. strace shows the order."
 import contextlib
 import pathlib
 import re
+import shutil
 
 import pytest
 
 from fetching import Web, response
 from publishing import LIST, Signer
-from running import EXAMPLES, PROGRAMS, new_key, run
+from running import EXAMPLES, PROGRAMS, TOP, fingerprint, new_key, run
 from test_clients import ISSUED, certificate
 from test_clients import Office as Answering
+from test_host import GIVES, HOST, Host, certify
 from test_vethlumi import Client
 from tracing import Trace, events
 
@@ -78,9 +80,9 @@ def list_of(room):
 
 def keys_of(room):
     new_key("ca")
-    fingerprint = run(["ssh-keygen", "-l", "-f", "ca.pub"], check=True).stdout.decode().split()[1]
     web = Web(response(pathlib.Path("ca.pub").read_bytes()))
-    return web, [PROGRAMS / "server/fetch-ca-keys", "--fingerprint", fingerprint, web.url, "cas.pub"], ["cas.pub"]
+    words = ["--fingerprint", fingerprint("ca.pub"), web.url, "cas.pub"]
+    return web, [PROGRAMS / "server/fetch-ca-keys", *words], ["cas.pub"]
 
 
 def stated_list_of(room):
@@ -103,8 +105,52 @@ def new_authority_of(room):
         f"authority/{it}" for it in ("index", "ca.key", "ca.crt", "crl.pem", "server.key", "server.crt")]
 
 
+def trusted_cas_of(room):
+    """What trust-cas makes of the keys that were fetched."""
+    web, _, _ = keys_of(room)
+    (room / "named").write_text(fingerprint("ca.pub"))
+    return web, [PROGRAMS / "server/trust-cas", "--named", "named", "ca.pub", "trusted"], ["trusted"]
+
+
+# ---- what a host and set-up commands keep
+
+def host_of(room):
+    """A host whose certificate is due, and a client that gives another one. The old one is kept beside it."""
+    host = Host(room, GIVES.format(room=room, renews=1))
+    shutil.copy(certify(room, "host.pub", "old", days="-9d:+1d"), host.present)
+    certify(room, "host.pub")
+    return contextlib.nullcontext(), ["env", *(f"{it}={value}" for it, value in host.environment().items()), HOST], [
+        host.present, host.old]
+
+
+# Has a module, or a script as one, put a file in place.
+PUT = """
+import pathlib, sys
+sys.path[:0] = {tests!r}, {folder!r}
+from running import loaded
+loaded(pathlib.Path({folder!r}, {name!r})).{call}
+"""
+
+
+def putting(folder, name, call):
+    text = PUT.format(tests=str(TOP / "tests"), folder=str(PROGRAMS / folder), name=name, call=call)
+    return ["/usr/bin/python3", "-B", "-c", text]
+
+
+def root_copy_of(room):
+    """The copy for sshd, once what is to become it has been looked at."""
+    words = putting("server", "vethlumi-host", "put_copy(b'line', lambda path: None)")
+    return contextlib.nullcontext(), ["env", f"VETHLUMI_ETC={room}", *words], ["host-cert.pub"]
+
+
+def set_up_of(room):
+    words = putting("setup", "setting_up.py", "put('settings', 'a line', 0o600)")
+    return contextlib.nullcontext(), words, ["settings"]
+
+
 KEPT = {"fetch-list": list_of, "fetch-list --signers": stated_list_of, "fetch-ca-keys": keys_of,
-        "authority new": new_authority_of, "authority caller": authority_of}
+        "authority new": new_authority_of, "authority caller": authority_of, "trust-cas": trusted_cas_of,
+        "vethlumi-host": host_of, "vethlumi-host --reload": root_copy_of, "set-up": set_up_of}
 
 
 @pytest.mark.parametrize("name", KEPT)
@@ -113,6 +159,26 @@ def test_a_script_keeps_what_it_puts_in_place(room, name):
     with web:
         trace = traced(words)
     assert {it: [] for it in paths} == {it: trace.lacks(it) for it in paths}, trace.text
+
+
+def test_a_new_authority_s_folder_stays(room):
+    """With those above it that were missing."""
+    trace = traced([PROGRAMS / "front/authority", "new", "some/more/authority", "office.example.org"])
+    made = {path for it in trace.events if it.name == "mkdir" for path in it.paths}
+    assert {str(room / it) for it in ("some", "some/more", "some/more/authority")} <= made
+    assert [] == [it for it in trace.unsynced_folders() if pathlib.Path(it).exists()], trace.text
+
+
+# What makes a database by set-up, as one user.
+MAKE = """setting_up.as_user = lambda user, *words: setting_up.run(words)
+setting_up.put_database('office', 'a.db', lambda new: setting_up.run(['sqlite3', new, 'CREATE TABLE it(a)']))"""
+
+
+def test_set_up_keeps_a_database(room):
+    """sqlite3 syncs its file itself."""
+    text = f"import sys; sys.path.insert(0, {str(PROGRAMS / 'setup')!r})\nimport setting_up\n{MAKE}"
+    trace = traced(["/usr/bin/python3", "-B", "-c", text])
+    assert [] == trace.lacks("a.db"), trace.text
 
 
 # Programs that stand for those of the machine; an office of the user `office`, in a /var/lib that ends with it.

@@ -3,10 +3,13 @@
 Whoever holds the front, or the way to it, answers what they like. So nothing is read beyond a limit, no redirect is
 followed, nothing is decompressed, and what isn't of the form that an office writes is no answer.
 """
+import contextlib
 import http.cookiejar
 import io
 import re
 import signal
+import socket
+import subprocess
 import tempfile
 import time
 from typing import NamedTuple
@@ -77,10 +80,33 @@ def at_most(seconds, work):
         signal.signal(signal.SIGALRM, before)
 
 
+LIBRARYS_OWN = socket.getaddrinfo
+
+
+def addresses(host, port, *_):
+    """The addresses of a name, in the form of socket.getaddrinfo, found by a program that can be killed. glibc waits
+    without end for a name server that takes a connection and sends nothing, and until then Python handles no signal."""
+    def look_up(address, **how):
+        return LIBRARYS_OWN(address, port, type=socket.SOCK_STREAM, **how)
+    with contextlib.suppress(socket.gaierror):
+        return look_up(host, flags=socket.AI_NUMERICHOST)
+    try:
+        done = subprocess.run(["getent", "ahosts", "--", host], stdin=subprocess.DEVNULL, capture_output=True)
+    except FileNotFoundError:
+        # Not a system of glibc.
+        return look_up(host)
+    found = re.findall(r"^(\S+) +STREAM", done.stdout.decode(errors="replace"), re.MULTILINE)
+    if not found:
+        raise socket.gaierror(socket.EAI_NONAME, f"the name {host} has no address")
+    return [it for address in found for it in look_up(address, flags=socket.AI_NUMERICHOST)]
+
+
 class Office:
     """An office behind its front, or without one. What takes long ends at a time of time.monotonic."""
 
     def __init__(self, settings, ends):
+        # By this name the library looks for the office's addresses.
+        socket.getaddrinfo = addresses
         self.url, self.caller, self.ends = settings.url(), settings.caller, ends
         self.session = requests.Session()
         # Neither proxies nor passwords come from the environment.
