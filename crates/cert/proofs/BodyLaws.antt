@@ -10,7 +10,8 @@ use Rattle.std.proofs.Common.{IfOk, IfErr}
 use Rattle.std.proofs.lemmas.Bool.{false_from_ne_true}
 use Rattle.cert.specs.Reading.{body_at}
 use Rattle.cert.specs.declared.cert_fault.CertFault.TheVariants as fault
-use Rattle.cert.proofs.NestedLaws.{IsBytes_left, IsBytes_string, empty, principals_found}
+use Rattle.cert.proofs.NestedLaws.{IsBytes_string, empty, principals_found}
+use Rattle.text.proofs.ByteLemmas.{IsBytes_left}
 use Rattle.cert.proofs.OptionLaws.{options_of_found}
 use Rattle.cert.proofs.Tails
 use Rattle.cert.proofs.BodyParts.{no_value, none_of, kind_found}
@@ -23,7 +24,7 @@ use Rattle.cert.proofs.BodyAgain.{reads_ca, body_at-again}
 inside : (bytes before rest : List ℕ) (s : List ℕ × List ℕ) → bytes ≡ before ++ rest → string_at rest ≡ Some s
     → IsBytes bytes → IsBytes s.0
 inside bytes before rest s text is fits =
-    let left = IsBytes_left bytes before rest text fits in
+    let left = IsBytes_left bytes before rest fits text in
     IsBytes_string rest s.0 s.1 (string_takes rest s.0 s.1 left is) left
 
 more : (c : CertFields) (rest : List ℕ) → rest ≢ [] → Tails.from_end c rest ≡ Err fault.TrailingBytes

@@ -12,7 +12,8 @@ use Rattle.cert.proofs.Words.{u64_text, w32, w64, wide32, wide64, ℕ, ◌++◌,
 use Rattle.wire.proofs.Laws.{number_takes}
 use Rattle.cert.specs.Reading.{body_at}
 use Rattle.cert.specs.declared.cert_fault.CertFault.TheVariants as fault
-use Rattle.cert.proofs.NestedLaws.{empty, IsBytes_left, IsBytes_string, principals_found, principals_again}
+use Rattle.cert.proofs.NestedLaws.{empty, IsBytes_string, principals_found, principals_again}
+use Rattle.text.proofs.ByteLemmas.{IsBytes_left}
 use Rattle.cert.proofs.OptionLaws.{options_of_found, options_of_again}
 use Rattle.cert.proofs.Tails
 use Rattle.cert.proofs.BodyParts.{option_cases, not_empty, advance, kind_found, kind_again, IsBare, with_key_id}
@@ -68,7 +69,7 @@ module _ (n : ℕ) (small : n < 12) (c : CertFields) (l : IsCertFields c) (bytes
       elim (cases_Bool (test s.0)) [
         | inl passes ↦
             becomes bytes _ (next (value s.0, s.1)) (ap judge passes)
-            (on s.0 s.1 passes (IsBytes_left rest (source s.0) s.1 here fits)
+            (on s.0 s.1 passes (IsBytes_left rest (source s.0) s.1 fits here)
             (advance bytes (front n c) rest (source s.0) s.1 text here))
         | inr fails ↦ becomes bytes _ (Err bad) (ap judge fails) (is_bad here_left s is fails)
       ])
@@ -90,7 +91,7 @@ module _ (n : ℕ) (small : n < 12) (c : CertFields) (l : IsCertFields c) (bytes
       let lawful = found s.0 x s.1 here of_x in
       let same : rest ≡ source (written x) ++ s.1 = here ∙ ap (λ t. source t ++ s.1) lawful.0 in
       becomes bytes _ (next (x, s.1)) (ap judge of_x)
-      (on x s.1 lawful.1 (IsBytes_left rest (source (written x)) s.1 same fits)
+      (on x s.1 lawful.1 (IsBytes_left rest (source (written x)) s.1 fits same)
       (advance bytes (front n c) rest (source (written x)) s.1 text same))))
 
 -- ---- field by field: the bytes begin with valid fields, and are read from the next one on
@@ -120,7 +121,7 @@ ends_here rest fits ends left is =
     option_and_then_some {B = ℕ × ℕ × List ℕ} (λ b. Some (a.0, b.0, b.1)) (u64_at a.1)
     (Tails.flat (ends, left)) more (λ b second same.
     let here = number_takes w64 (2 ^ 64) wide64 rest a.0 a.1 fits first in
-    let fits_behind = IsBytes_left rest (u64_text a.0) a.1 here fits in
+    let fits_behind = IsBytes_left rest (u64_text a.0) a.1 fits here in
     here ∙ ap (λ t. u64_text a.0 ++ t) (number_takes w64 (2 ^ 64) wide64 a.1 b.0 b.1 fits_behind second)
     ∙ sym (append_assoc (u64_text a.0) (u64_text b.0) b.1)
     ∙ ap (λ (x : ℕ × ℕ × List ℕ). ends_text (x.0, x.1) ++ x.2) (same_Some _ _ same)))

@@ -1,40 +1,25 @@
 -- The lists that are read from a field have the field's text, and valid lists are read back from their text.
 use Rattle.cert.proofs.Words.{Bool, IsBytes, List, None, Option, Pair, Some, [], and_from, and_parts, ap, append-nil}
-use Rattle.cert.proofs.Words.{append_assoc, are_networks, are_principals, arith, bytes_eq, bytes_eq-Decides, cases_lt}
-use Rattle.cert.proofs.Words.{codes, cond, eqb, eqb-true, false, flat_map, inl, inr, is_command, is_flag}
+use Rattle.cert.proofs.Words.{append_assoc, are_networks, are_principals, arith, bytes_eq, bytes_eq-Decides}
+use Rattle.cert.proofs.Words.{codes, cond, eqb, eqb-true, false, flat_map, is_command, is_flag}
 use Rattle.cert.proofs.Words.{is_option_value, is_principal, leb, leb-true, length, list_all, option_and_then}
 use Rattle.cert.proofs.Words.{option_and_then_some, option_data, option_map, option_text, pair_at, pair_of}
 use Rattle.cert.proofs.Words.{principals_of, principals_text, refl, same_Some, string_again, string_at, string_takes}
 use Rattle.cert.proofs.Words.{string_text, strings_within, subst, suc, sym, true, u32_text, zero, ℕ, ◌&&◌, ◌++◌, ◌+◌}
 use Rattle.cert.proofs.Words.{◌<◌, ◌^◌, ◌∙◌, ◌∷◌, ◌≡◌, ◌≤◌}
 use Rattle.std.proofs.lemmas.Bool.{cond-true, le-leb}
-use Rattle.std.proofs.lemmas.List.{get_or-append-add, get_or_past}
-use Rattle.std.proofs.Math.ListN.{get_or-append}
+use Rattle.text.proofs.ByteLemmas.{IsBytes_front, IsBytes_left}
 use Rattle.values.specs.Lists.{are_distinct}
 use Rattle.cert.specs.Reading.{value_of}
 use Rattle.cert.proofs.Sizes.{principal-le}
 
 -- ---- steps
 
--- the rest of a list of bytes is a list of bytes
-pub IsBytes_after : (front rest : List ℕ) → IsBytes (front ++ rest) → IsBytes rest
-IsBytes_after front rest h i = subst (λ (n : ℕ). n < 256) (get_or-append-add front rest i 0) (h (length front + i))
-
--- the rest after a front of bytes is a list of bytes
-pub IsBytes_left : (bytes front rest : List ℕ) → bytes ≡ front ++ rest → IsBytes bytes → IsBytes rest
-IsBytes_left bytes front rest e h = IsBytes_after front rest (subst (λ (b : List ℕ). IsBytes b) e h)
-
-IsBytes_front : (front rest : List ℕ) → IsBytes (front ++ rest) → IsBytes front
-IsBytes_front front rest h i = elim (cases_lt i (length front)) [
-  | inl lt ↦ subst (λ (n : ℕ). n < 256) (get_or-append front rest 0 i lt) (h i)
-  | inr ge ↦ rw (get_or_past front i 0 ge) (omega arith)
-]
-
 -- a string at the front of bytes is a list of bytes
 pub IsBytes_string : (bytes s rest : List ℕ) → bytes ≡ string_text s ++ rest → IsBytes bytes → IsBytes s
 IsBytes_string bytes s rest e h =
-    IsBytes_front s rest (IsBytes_left bytes (u32_text (length s)) (s ++ rest) (e
-    ∙ append_assoc (u32_text (length s)) s rest) h)
+    IsBytes_front s rest (IsBytes_left bytes (u32_text (length s)) (s ++ rest) h (e
+    ∙ append_assoc (u32_text (length s)) s rest))
 
 -- a result that passed a test
 pub cond_is : {A : Type 0} (b : Bool) (o : Option A) (y : A) → cond b o None ≡ Some y → (b ≡ true) × (o ≡ Some y)
@@ -75,7 +60,7 @@ strings_found (suc k) test (b ∷ bytes) ss h e =
     let passed = cond_is (test s.0) (option_map (λ others. s.0 ∷ others) (strings_within k test s.1)) ss gives in
     let rest = map_is s.0 (strings_within k test s.1) ss passed.1 in
     let here = string_takes (b ∷ bytes) s.0 s.1 h is in
-    let there = strings_found k test s.1 rest.0 (IsBytes_left (b ∷ bytes) (string_text s.0) s.1 here h) rest.1 in
+    let there = strings_found k test s.1 rest.0 (IsBytes_left (b ∷ bytes) (string_text s.0) s.1 h here) rest.1 in
     subst (λ (l : List (List ℕ)). AreStrings (suc k) test (b ∷ bytes) l) (sym rest.2) (record {
       text = here ∙ ap (λ (t : List ℕ). string_text s.0 ++ t) there.text;
       pass = and_from (test s.0) _ passed.0 there.pass;
@@ -203,7 +188,7 @@ pair_found bytes p rest h e =
       inner.1,
     )) (value_of name.0 inner.0)) (string_at name.1) (p, rest) e2 (λ inner held e3.
     let front = string_takes bytes name.0 name.1 h named in
-    let fits = IsBytes_left bytes (string_text name.0) name.1 front h in
+    let fits = IsBytes_left bytes (string_text name.0) name.1 h front in
     let back = string_takes name.1 inner.0 inner.1 fits held in
     let within = IsBytes_string name.1 inner.0 inner.1 back fits in
     with_value name.0 name.1 inner.0 inner.1 (value_of name.0 inner.0) front back

@@ -6,7 +6,8 @@ use Rattle.cert.proofs.Words.{option_map, option_text, options_of, options_text,
 use Rattle.cert.proofs.Words.{same_Some, subst, suc, sym, true, zero, ℕ, ◌&&◌, ◌++◌, ◌∙◌, ◌∷◌, ◌≡◌, ◌≤◌}
 use Rattle.cert.proofs.Listing.{all_later}
 use Rattle.cert.proofs.Sizes.{name-le, value-le, options-few}
-use Rattle.cert.proofs.NestedLaws.{IsBytes_left, cond_is, map_is, flag_value, empty, pair_found, pair_again}
+use Rattle.cert.proofs.NestedLaws.{cond_is, map_is, flag_value, empty, pair_found, pair_again}
+use Rattle.text.proofs.ByteLemmas.{IsBytes_left}
 
 -- ---- options
 
@@ -47,7 +48,7 @@ options_found (suc k) field previous (b ∷ bytes) ps h e =
     let rest = map_is o.0 (options_within k field o.0.name o.1) ps passed.1 in
     let here = pair_found (b ∷ bytes) o.0 o.1 h is in
     let there = options_found k field o.0.name o.1 rest.0 (IsBytes_left (b ∷ bytes)
-    (option_text o.0) o.1 here h) rest.1 in
+    (option_text o.0) o.1 h here) rest.1 in
     subst (λ (l : List Pair). AreOptions (suc k) field previous (b ∷ bytes) l) (sym rest.2) (record {
       text = here ∙ ap (λ (t : List ℕ). option_text o.0 ++ t) there.text;
       lawful = and_from (is_option field o.0) _ parts.0 there.lawful;

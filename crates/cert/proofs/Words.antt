@@ -43,6 +43,7 @@ pub use Rattle.values.specs.declared.kind.Kind.{Kind}
 pub use Rattle.values.specs.declared.kind.Kind.TheVariants.{Host, User}
 pub use Rattle.values.specs.declared.option_field.OptionField.{OptionField}
 pub use Rattle.values.specs.declared.option_field.OptionField.TheVariants.{CriticalOptions, Extensions}
-pub use Rattle.wire.proofs.Laws.{IsBytes, string_again, string_takes, wide32, wide64}
+pub use Rattle.wire.proofs.Laws.{string_again, string_takes, wide32, wide64}
+pub use Rattle.text.specs.Bytes.{IsBytes}
 pub use Rattle.wire.specs.Reading.{string_at, u32_at, u64_at}
 pub use Rattle.wire.specs.Texts.{string_text, u32_text, u64_text}

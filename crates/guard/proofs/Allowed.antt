@@ -9,10 +9,11 @@ use Rattle.std.proofs.lemmas.List.Folds.{find-append}
 use Rattle.std.proofs.lemmas.Slice.Eq.{bytes_eq-Decides}
 use Rattle.values.specs.Names.{department_of}
 use Rattle.values.specs.declared.kind.Kind.{Kind}
-use Rattle.values.specs.declared.kind.Kind.TheVariants.{User, Host}
 use Rattle.message.specs.declared.department.Department.{Department}
 use Rattle.cert.specs.declared.fields.CertFields.{CertFields}
-use Rattle.office.specs.Refusals.{has_other_kind, is_missing, same_kind}
+use Rattle.values.specs.Kinds.{same_kind}
+use Rattle.values.proofs.KindLemmas.{same_kind_is, same_kind_itself}
+use Rattle.message.specs.Permissions.{has_other_kind, is_missing}
 use Rattle.guard.specs.declared.approved.Approved.{Approved}
 use Rattle.guard.specs.declared.refusal.Refusal.{Refusal}
 use Rattle.guard.specs.declared.refusal.Refusal.TheVariants.{NotABody, OtherCa, OtherSerial}
@@ -48,12 +49,6 @@ found_passes p (y ∷ ys) x e = by_test (found_passes p ys x) (p y) refl e
     by_test : (find p ys ≡ Some x → p x ≡ true) → (b : Bool) → p y ≡ b → cond b (Some y) (find p ys) ≡ Some x → p x ≡ true
     by_test rest true is e = let same : y ≡ x = cc in subst (λ z. p z ≡ true) same is
     by_test rest false is e = rest e
-
-same_kind_is : (a b : Kind) → same_kind a b ≡ true → a ≡ b
-same_kind_is User User e = refl
-same_kind_is Host Host e = refl
-same_kind_is User Host e = absurd cc
-same_kind_is Host User e = absurd cc
 
 -- the department of a body that isn't refused
 department_there : (policy : List Department) (c : CertFields) (o : Option Department) → department_for policy c ≡ o
@@ -216,10 +211,6 @@ signed_again s q c fields scope kept =
     rw (fields, kept, same) scope
 
 -- ---- a body that may be signed isn't refused
-
-same_kind_itself : (k : Kind) → same_kind k k ≡ true
-same_kind_itself User = refl
-same_kind_itself Host = refl
 
 pub approved_if_new : (s : State) (q : Question) (c : CertFields) → MaySign s.scope q c → body_of s c.serial ≡ None
     → refusal_of s q ≡ None

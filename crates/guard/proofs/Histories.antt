@@ -12,7 +12,7 @@ use Rattle.cert.specs.declared.fields.CertFields.{CertFields}
 use Rattle.guard.specs.declared.approved.Approved.{Approved}
 use Rattle.guard.specs.declared.scope.Scope.{Scope}
 use Rattle.guard.specs.Machine.{State, Question, opened, fields_of, body_of, refusal_of, row_of, after}
-use Rattle.office.specs.Permissions.{are_listed, is_life_permitted, meet_rules}
+use Rattle.message.specs.Permissions.{are_listed, is_life_permitted, meet_rules}
 use Rattle.guard.specs.SmallOrder.{has_small_order}
 use Rattle.guard.specs.History.{AddsNoSmallOrder, IsStill, KeyHasNoSmallOrder, MaySign, WasAsked, state}
 use Rattle.guard.proofs.Allowed.{IsInScope, IsNew, kept_with_row, left_by, signed, signed_again}

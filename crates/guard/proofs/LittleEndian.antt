@@ -1,14 +1,15 @@
 -- The number of little-endian bytes.
 use Rattle.std.proofs.Common.{◌≡◌, ℕ, zero, suc, ◌+◌, ◌*◌, ◌^◌, ◌<◌, ◌/◌, ◌%◌, List, [], ◌∷◌, length, true}
-use Rattle.std.proofs.Common.{refl, sym, ap, ◌∙◌, arith, get_or, set, bit_and, map, lit<}
-use Rattle.std.specs.Prelude.{◌==◌, nat_lt}
+use Rattle.std.proofs.Common.{refl, sym, ap, ◌∙◌, arith, get_or, set, bit_and, map}
+use Rattle.std.specs.Prelude.{◌==◌}
 use Rattle.std.specs.List.{list_all, list_any}
 use Rattle.std.specs.Str.{bytes_eq}
 use Rattle.std.proofs.lemmas.Nat.{and_mask, mod-pow-add, shr_high, mod_low}
-use Rattle.std.proofs.lemmas.Bool.{and_parts, eqb-true, ltb-true}
+use Rattle.std.proofs.lemmas.Bool.{and_parts, eqb-true}
 use Rattle.std.proofs.lemmas.Bool.Decides.{same_from_decides, Decides-eqb, Decides-like}
 use Rattle.std.proofs.lemmas.Slice.Eq.{bytes_eq-Decides}
-use Rattle.krl.specs.Reading.{IsBytes}
+use Rattle.text.specs.Bytes.{IsBytes}
+use Rattle.text.proofs.ByteLemmas.{IsBytes_from}
 use Rattle.guard.specs.SmallOrder.{is_encoding, little_endian}
 
 -- a byte before a number, below a power of two
@@ -52,11 +53,6 @@ same_number (x ∷ xs) (b ∷ bs) e is are same =
 
 -- ---- a table of encodings
 
-each_byte : (bs : List ℕ) → list_all (λ b. nat_lt b 256) bs ≡ true → IsBytes bs
-each_byte [] e i = lit< tt
-each_byte (b ∷ bs) e zero = ltb-true b 256 (and_parts _ _ e).0
-each_byte (b ∷ bs) e (suc i) = each_byte bs (and_parts _ _ e).1 i
-
 -- bytes are in a table if their number is among the table's numbers
 pub listed : (es : List (List ℕ)) (bs : List ℕ) → list_all is_encoding es ≡ true → length bs ≡ 32 → IsBytes bs
     → list_any (λ e. bytes_eq e bs) es ≡ list_any (λ n. n == little_endian bs) (map little_endian es)
@@ -65,7 +61,7 @@ listed (e ∷ es) bs table size are =
     let parts = and_parts _ _ table in
     let first = and_parts _ _ parts.0 in
     let sizes : length e ≡ length bs = eqb-true (length e) 32 first.0 ∙ sym size in
-    let back : little_endian e ≡ little_endian bs → e ≡ bs = same_number e bs sizes (each_byte e first.1) are in
+    let back : little_endian e ≡ little_endian bs → e ≡ bs = same_number e bs sizes (IsBytes_from e first.1) are in
     let same : bytes_eq e bs ≡ (little_endian e == little_endian bs) =
     same_from_decides _ _ (bytes_eq-Decides e bs) (Decides-like _ back (λ is. ap little_endian is) (Decides-eqb _ _)) in
     let rest : list_any (λ e. bytes_eq e bs) es ≡ list_any (λ n. n == little_endian bs) (map little_endian es) =

@@ -3,7 +3,7 @@ use Rattle.std.proofs.Common.{◌≡◌, true, false, Some, None, refl}
 use Rattle.std.specs.Prelude.{not}
 use Rattle.message.specs.declared.department.Department.{Department}
 use Rattle.cert.specs.declared.fields.CertFields.{CertFields}
-use Rattle.office.specs.Refusals.{has_other_kind}
+use Rattle.message.specs.Permissions.{has_other_kind}
 use Rattle.guard.specs.declared.refusal.Refusal.TheVariants.{NotPermitted}
 use Rattle.guard.specs.Machine.{State, Question, body_of, department_for, first_holding, permits, refusals_of_new}
 

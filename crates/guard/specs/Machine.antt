@@ -6,8 +6,7 @@ use Rattle.std.specs.Str.{bytes_eq}
 use Rattle.values.specs.Names.{department_of}
 use Rattle.message.specs.declared.department.Department.{Department}
 use Rattle.cert.specs.declared.fields.CertFields.{CertFields}
-use Rattle.office.specs.Permissions.{meet_rules, are_listed, is_life_permitted}
-use Rattle.office.specs.Refusals.{has_other_kind, is_missing}
+use Rattle.message.specs.Permissions.{are_listed, has_other_kind, is_life_permitted, is_missing, meet_rules}
 use Rattle.guard.specs.declared.approved.Approved.{Approved}
 use Rattle.guard.specs.declared.refusal.Refusal.{Refusal}
 use Rattle.guard.specs.declared.refusal.Refusal.TheVariants.{
@@ -26,7 +25,8 @@ pub use Rattle.guard.specs.State.{State, Question, opened, fields_of, department
 
 -- ---- refusals
 
--- in the office's terms: each principal meets a rule, options and extensions are listed, the lifetime isn't too long.
+-- in the terms of departments: each principal meets a rule, options and extensions are listed, the lifetime isn't too
+-- long.
 -- In the guard's own: the key hasn't small order
 abbrev pub permits : Department → CertFields → Bool
 permits d c =

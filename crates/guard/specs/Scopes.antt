@@ -1,6 +1,6 @@
 -- The CA and the serials of a guard.
 use Rattle.std.specs.Prelude.{ℕ, List, if◌then◌else◌, Option, Some, None}
-use Rattle.office.specs.Openings.{are_serials}
+use Rattle.values.specs.Serials.{are_serials}
 use Rattle.guard.specs.declared.scope.Scope.{Scope}
 
 -- the scope, if the serials are valid for an office

@@ -1,7 +1,6 @@
 //! Whether an unsigned certificate (body) may be signed.
 
 ghost use Rattle.std.specs.Prelude.{◌≡◌, ◌+◌, ℕ, List, nat_lt, None, Some, option_copied};
-ghost use Rattle.office.specs.Refusals.{has_other_kind};
 ghost use Rattle.guard.specs.Decided.{Agrees, Decided, question};
 ghost use Rattle.guard.specs.Machine.{
   State,
@@ -17,19 +16,13 @@ use crate::policy::Policy;
 use crate::refusal::Refusal;
 use crate::verdict::{Verdict, View, Window};
 use cert::CertFields;
-use message::Department;
-use values::{Kind, department_of};
+use message::{Department, has_other_kind};
+use values::department_of;
 
 fn is_too_far_ahead(window: Window, after: u64) -> bool
     ensures { result ≡ nat_lt (window.moment + window.ahead) after }
 {
     window.moment < after && window.ahead < after - window.moment
-}
-
-fn has_other_kind(department: &Department, kind: Kind) -> bool
-    ensures { result ≡ has_other_kind (Some department.now) kind }
-{
-    department.kind != kind
 }
 
 /// The department that the key id names.

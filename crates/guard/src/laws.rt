@@ -2,7 +2,7 @@
 
 ghost use Rattle.std.specs.Prelude.{◌≡◌, ◌<◌, ℕ, List, [], ◌∷◌, ◌++◌, All, Contains, true, Some, None, Ok};
 ghost use Rattle.std.specs.Prelude.{fold, is_some, map};
-ghost use Rattle.krl.specs.Reading.{IsBytes};
+ghost use Rattle.text.specs.Bytes.{IsBytes};
 ghost use Rattle.cert.specs.declared.fields.CertFields.{CertFields};
 ghost use Rattle.guard.specs.declared.approved.Approved.{Approved};
 ghost use Rattle.guard.specs.declared.refusal.Refusal.{Refusal};

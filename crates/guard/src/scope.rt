@@ -1,10 +1,10 @@
 //! The CA and the serials of a guard.
 
 ghost use Rattle.std.specs.Prelude.{◌≡◌, IfSome, IsTrue};
-ghost use Rattle.office.specs.Openings.{are_serials};
+ghost use Rattle.values.specs.Serials.{are_serials};
 ghost use Rattle.guard.specs.Scopes.{made_scope};
 
-use values::LAST_SERIAL;
+use values::are_serials;
 
 /// The CA and the serials that a guard answers for.
 #[derive(Clone, Copy)]
@@ -23,7 +23,7 @@ impl Scope {
         ensures made { result ≡ made_scope ca first last }
         ensures lawful { IfSome result (λ s. IsTrue (are_serials s.first s.last)) }
     {
-        if first < 1 || last < first || LAST_SERIAL < last {
+        if !are_serials(first, last) {
             return None;
         }
         Some(Scope { ca, first, last })

@@ -1,5 +1,5 @@
 -- The state after a write: it is valid, its rows are those of the tables, and the tables have room.
-use Rattle.std.proofs.Common.{◌≡◌, ℕ, ◌<◌, ◌≤◌, ◌^◌, [], ◌∷◌, None, Result, IsTrue, inl, inr, ap, sym, ◌∙◌}
+use Rattle.std.proofs.Common.{◌≡◌, ℕ, ◌<◌, ◌^◌, [], ◌∷◌, None, Result, IsTrue, inl, inr, ap, sym, ◌∙◌}
 use Rattle.std.proofs.Common.{refl, arith}
 use Rattle.std.specs.Prelude.{length}
 use Rattle.std.proofs.lemmas.Bool.Decides.{nat_tests}
@@ -7,7 +7,7 @@ use Rattle.sqlite.specs.Tree.{Trees}
 use Rattle.sqlite.specs.State.{State as Connection}
 use Rattle.sqlite_trees.proofs.ListLemmas.{all-append}
 use Rattle.lines.proofs.Blobs.{length-key_blob}
-use Rattle.office.specs.Openings.{are_serials}
+use Rattle.values.proofs.SerialLemmas.{still_serials}
 use Rattle.guard.specs.declared.approved.Approved.{Approved}
 use Rattle.guard.specs.declared.scope.Scope.{Scope}
 use Rattle.guard.specs.Judged.{IsKeepable}
@@ -46,10 +46,6 @@ more_fits row s none room (inl (x, here, same)) =
 more_fits row s none room (inr long) = let short = room.body in omega (arith, long, short)
 
 -- ---- a lower last serial
-
-still_serials : (first last lower : ℕ) → IsTrue (are_serials first last) → first ≤ lower → lower ≤ last
-    → IsTrue (are_serials first lower)
-still_serials first last lower h from to = grind (arith, nat_tests)
 
 pub last_below : (scope : Scope) → IsScope scope → scope.last < 2 ^ 63
 last_below scope is = let h = is.serials in grind (arith, nat_tests)

@@ -3,7 +3,7 @@ use Rattle.std.specs.Prelude.{◌≡◌, ◌==◌, ◌&&◌, ℕ, List, [], ◌�
 use Rattle.sqlite.specs.Tree.{Trees}
 use Rattle.sqlite.specs.State.{State as Connection, IsUnchanged}
 use Rattle.lines.specs.Keys.{key_of}
-use Rattle.office.specs.Openings.{are_serials}
+use Rattle.values.specs.Serials.{are_serials}
 use Rattle.guard.specs.declared.scope.Scope.{Scope}
 use Rattle.guard.specs.State.{State, opened}
 use Rattle.store_sql.specs.Schema.{no_schema}

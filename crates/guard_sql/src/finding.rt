@@ -3,7 +3,6 @@
 ghost use Rattle.std.specs.Prelude.{◌≡◌, false, Err};
 ghost use Rattle.std.specs.List.{list_any};
 ghost use Rattle.lines.specs.Keys.{key_of};
-ghost use Rattle.office.specs.Openings.{are_serials};
 ghost use Rattle.store_sql.specs.Honest.{On, Outlives, tables_of};
 ghost use Rattle.store_sql.specs.Calls.{Never};
 ghost use Rattle.rows.specs.Calls.{OnlyLooks};
@@ -19,13 +18,7 @@ use guard::Scope;
 use lines::read_key_blob;
 use sqlite::{Alter, Connection};
 use std::alloc::Global;
-use values::LAST_SERIAL;
-
-fn are_serials(first: u64, last: u64) -> bool
-    ensures { result ≡ are_serials first last }
-{
-    1 <= first && first <= last && last <= LAST_SERIAL
-}
+use values::are_serials;
 
 /// The scope in a row of this schema.
 fn scope_with(row: &GuardRow) -> Result<Scope, OpeningFault>

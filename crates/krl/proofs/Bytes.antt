@@ -1,22 +1,14 @@
 -- Bytes, and strings at their front.
-use Rattle.krl.proofs.Words.{Bool, IfNone, IfSome, IsBytes, IsString, List, None, Option, Some, [], ap, arith, cond}
-use Rattle.krl.proofs.Words.{drop, false, length, ltb, same_Some, string_text, subst, suc, take, true, w32, ℕ, ◌++◌}
-use Rattle.krl.proofs.Words.{◌<◌, ◌^◌, ◌∷◌, ◌≡◌, ◌≢◌}
+use Rattle.krl.proofs.Words.{Bool, IfNone, IfSome, IsBytes, IsString, List, None, Option, Some, ap, arith, cond}
+use Rattle.krl.proofs.Words.{drop, false, length, ltb, same_Some, string_text, subst, take, true, w32, ℕ, ◌++◌}
+use Rattle.krl.proofs.Words.{◌<◌, ◌^◌, ◌≡◌, ◌≢◌}
 use Rattle.std.proofs.Common.{Bor}
 use Rattle.std.specs.Option.{option_copied}
 use Rattle.std.specs.Int.{from_be_bytes}
 use Rattle.std.proofs.lemmas.List.{length-take}
 use Rattle.std.proofs.lemmas.Option.{option_and_then_some}
 use Rattle.wire.specs.Reading.{Moves, front_of, number_at, string_at}
-use Rattle.wire.proofs.Laws.{IsBytes-take}
-
--- the rest of a list of bytes is a list of bytes
-pub suffix_bytes : (xs front rest : List ℕ) → IsBytes xs → xs ≡ front ++ rest → IsBytes rest
-suffix_bytes xs front rest h e = behind front (subst IsBytes e h)
-  where
-    behind : (front : List ℕ) → IsBytes (front ++ rest) → IsBytes rest
-    behind [] h = h
-    behind (x ∷ front) h = behind front (λ i. h (suc i))
+use Rattle.text.proofs.ByteLemmas.{IsBytes-take}
 
 u32_fits : (bytes : List ℕ) → IsBytes bytes → from_be_bytes w32 bytes < 2 ^ 32
 u32_fits bytes h =

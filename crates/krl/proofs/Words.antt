@@ -9,7 +9,8 @@ pub use Rattle.krl.specs.Lengths.{key_id_length, listed_length, listed_text, ran
 pub use Rattle.krl.specs.Published.{AreShortest, ca_section, fits, is_idle, is_short, key_id_parts, listed, named_set}
 pub use Rattle.krl.specs.Published.{names_serial, part_fits, published_sections, ranges, serial_list, serial_parts}
 pub use Rattle.krl.specs.Published.{serials_of}
-pub use Rattle.krl.specs.Reading.{IsBytes, ReadsList}
+pub use Rattle.krl.specs.Reading.{ReadsList}
+pub use Rattle.text.specs.Bytes.{IsBytes}
 pub use Rattle.krl.specs.Sets.{AreRuns, AreRunsFrom, IsMemberOf, IsRunOf, contains, is_among, is_last_reached}
 pub use Rattle.krl.specs.Sets.{is_within}
 pub use Rattle.krl.specs.declared.ca_part.CaPart.{CaPart}

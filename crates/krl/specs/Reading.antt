@@ -1,5 +1,5 @@
 -- Results of the reader's steps.
-use Rattle.std.specs.Prelude.{◌≡◌, ℕ, ◌<◌, List, ◌++◌, Bool, true, slice_index, MatchOption}
+use Rattle.std.specs.Prelude.{◌≡◌, ℕ, List, ◌++◌, Bool, true, MatchOption}
 use Rattle.std.specs.List.{list_any, flat_map, AllByRecursion}
 use Rattle.krl.specs.declared.krl_fault.KrlFault.{KrlFault}
 use Rattle.krl.specs.declared.krl_fault.KrlFault.TheVariants.{Unsupported, BadSection}
@@ -7,10 +7,6 @@ use Rattle.krl.specs.Format.{Part, part_type, part_data, part_text, names, Secti
 use Rattle.krl.specs.Format.{section_data, section_text, section_revokes, is_supported_section}
 use Rattle.krl.specs.Format.{IsSectionContent, RevocationList, is_supported, revokes, IsCut}
 use Rattle.krl.specs.Faults.{IsReadPart, NoPart, is_part_type, refused_unless, IsReadSection}
-
--- each number is a byte
-abbrev pub IsBytes : List ℕ → Type 0
-IsBytes bytes = (i : ℕ) → slice_index bytes i < 256
 
 -- the bytes are the joined texts of items, and the result is whether one of them passes the test
 abbrev pub AreItems : {X : Type 0} → (X → List ℕ) → (X → Type 0) → (X → Bool) → List ℕ → Bool → Type 0

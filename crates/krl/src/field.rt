@@ -5,7 +5,7 @@ ghost use Rattle.std.specs.Str.{bytes_eq};
 ghost use Rattle.wire.specs.Texts.{string_text};
 ghost use Rattle.krl.specs.Format.{IsString, tagged_text};
 ghost use Rattle.krl.specs.Faults.{HasString, Tagged, text_of};
-ghost use Rattle.krl.specs.Reading.{IsBytes};
+ghost use Rattle.text.specs.Bytes.{IsBytes};
 
 use wire::Cursor;
 

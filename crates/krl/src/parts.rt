@@ -8,7 +8,8 @@ ghost use Rattle.krl.specs.declared.run.Run.{Run};
 ghost use Rattle.krl.specs.Sets.{is_within};
 ghost use Rattle.krl.specs.Format.{IsString, names, part_text};
 ghost use Rattle.krl.specs.Faults.{IsReadPart, IsU64, PartFault, PartsFault};
-ghost use Rattle.krl.specs.Reading.{AreItems, IsBytes, ReadsPart, ReadsPartData, RefusesPartData};
+ghost use Rattle.krl.specs.Reading.{AreItems, ReadsPart, ReadsPartData, RefusesPartData};
+ghost use Rattle.text.specs.Bytes.{IsBytes};
 
 use crate::field::{is_same, next_string, next_tagged};
 use crate::krl_fault::KrlFault;

@@ -7,7 +7,8 @@ ghost use Rattle.krl.specs.Format.{Header, IsCut, IsHeader, IsString, Revocation
 ghost use Rattle.krl.specs.Format.{is_for, is_supported, revokes, section_revokes, section_text};
 ghost use Rattle.krl.specs.Faults.{CertificatesFault, FieldFault, FirstFault, HeaderFault, IsReadSection, IsU32};
 ghost use Rattle.krl.specs.Faults.{IsU64, ItemFault, NothingAfter, SectionFault, accepted, refused_unless};
-ghost use Rattle.krl.specs.Reading.{AreItems, IsBytes, ReadsCertificates, ReadsList, ReadsSection};
+ghost use Rattle.krl.specs.Reading.{AreItems, ReadsCertificates, ReadsList, ReadsSection};
+ghost use Rattle.text.specs.Bytes.{IsBytes};
 
 use crate::field::{is_same, next_string, next_tagged};
 use crate::krl_fault::KrlFault;

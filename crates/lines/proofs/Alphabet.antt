@@ -7,7 +7,8 @@ use Rattle.std.proofs.lemmas.Bool.{agree_below_at, and_from, and_parts, cond-fal
 use Rattle.std.proofs.lemmas.List.Sums.{AllPass-from_list_all}
 use Rattle.std.proofs.lemmas.List.{append-nil, drop_all, drop_more, length-append}
 use Rattle.base64.specs.Engines.{standard}
-use Rattle.base64.specs.GeneralPurpose.{IsBytes, decode_of, encode_of}
+use Rattle.base64.specs.GeneralPurpose.{decode_of, encode_of}
+use Rattle.text.specs.Bytes.{IsBytes}
 use Rattle.base64.specs.Rfc4648.{encode_symbols, padding_len}
 use Rattle.base64.specs.Decode.{decode_error, decode_outcome, decoded_bytes, groups_before_last}
 use Rattle.base64.specs.Decode.{groups_bytes, groups_error, lone_error, no_leftover, or_else}

@@ -1,12 +1,14 @@
 -- The standard base64 engine: it reads back exactly what it writes.
 use Rattle.std.proofs.Common.{◌≡◌, ℕ, zero, suc, ◌+◌, ◌*◌, ◌/◌, ◌<◌, true, false, not, eqb, List}
-use Rattle.std.proofs.Common.{[], ◌∷◌, ◌++◌, length, drop, replicate, get_or, slice_index, Option}
+use Rattle.std.proofs.Common.{[], ◌∷◌, length, drop, replicate, get_or, slice_index, Option}
 use Rattle.std.proofs.Common.{Some, None, Result, Ok, Err, refl, sym, subst, ◌∙◌, ◌⊎◌, arith, inl, inr}
 use Rattle.std.specs.List.{list_all}
 use Rattle.std.proofs.lemmas.Bool.{and_parts, not-true}
 use Rattle.std.proofs.lemmas.List.{length-append, length-replicate}
+use Rattle.text.specs.Bytes.{IsBytes}
+use Rattle.text.proofs.ByteLemmas.{IsBytes-append, IsBytes-drop, IsBytes-take}
 use Rattle.base64.specs.Engines.{standard}
-use Rattle.base64.specs.GeneralPurpose.{IsBytes, IsConsistent, IsStrict, decode_of, encode_of, encoded_size_of}
+use Rattle.base64.specs.GeneralPurpose.{IsConsistent, IsStrict, decode_of, encode_of, encoded_size_of}
 use Rattle.base64.specs.Rfc4648.{encode_symbols, padding_len}
 use Rattle.base64.specs.Decode.{IsDecodeTable, decode_outcome, decode_group, group_bytes, group_error}
 use Rattle.base64.specs.Decode.{groups_before_last, groups_bytes, groups_error, lone_error, no_leftover}
@@ -17,7 +19,6 @@ use Rattle.base64.proofs.Decoding.{IsLeftover, IsLeftover_next, scan-cons_err, s
 use Rattle.base64.proofs.EngineFacts.{decode_of-encode_of, decode_of_strict}
 use Rattle.base64.proofs.RoundTrip.{length-encode_symbols}
 use Rattle.base64.proofs.Tables.{IsDecodeTable_from, are_tables_inverse}
-pub use Rattle.wire.proofs.Laws.{IsBytes-take, IsBytes-drop}
 
 -- The standard engine accepts what it writes.
 pub is_consistent : IsConsistent standard
@@ -47,14 +48,6 @@ length-encode_of bytes =
       length-encode_symbols standard.encode_table bytes,
       length-replicate {A = ℕ} (padding_len (length bytes)) 61,
     )
-
--- ---- bytes
-
--- Bytes followed by bytes are bytes.
-pub IsBytes-append : (a b : List ℕ) → IsBytes a → IsBytes b → IsBytes (a ++ b)
-IsBytes-append [] b fits_a fits_b i = fits_b i
-IsBytes-append (x ∷ a) b fits_a fits_b zero = fits_a 0
-IsBytes-append (x ∷ a) b fits_a fits_b (suc i) = IsBytes-append a b (λ k. fits_a (suc k)) fits_b i
 
 -- ---- decoding yields bytes
 

@@ -7,7 +7,8 @@ use Rattle.std.specs.Result.{result_ok}
 use Rattle.std.proofs.lemmas.Bool.{and_parts, eqb-true, eq-eqb, cases_Bool, cond-true, cond-false}
 use Rattle.std.proofs.lemmas.Option.{cond_some, option_and_then_some}
 use Rattle.base64.specs.Engines.{standard}
-use Rattle.base64.specs.GeneralPurpose.{IsBytes, decode_of, encode_of}
+use Rattle.base64.specs.GeneralPurpose.{decode_of, encode_of}
+use Rattle.text.specs.Bytes.{IsBytes}
 use Rattle.lines.specs.KeyLines.{is_base64_letter, is_base64_word}
 use Rattle.lines.specs.Reading.{blob_of}
 use Rattle.lines.proofs.Alphabet.{word_again, word_found}

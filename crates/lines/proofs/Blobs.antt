@@ -1,19 +1,19 @@
 -- The structure of a blob.
-use Rattle.std.proofs.Common.{◌≡◌, ℕ, zero, suc, ◌+◌, true, eqb, nat_lt, ◌&&◌, List, [], ◌∷◌, ◌++◌}
+use Rattle.std.proofs.Common.{◌≡◌, ℕ, ◌+◌, eqb, nat_lt, ◌&&◌, List, ◌++◌}
 use Rattle.std.proofs.Common.{length, drop, Some, None, refl, sym, ap, subst, ◌∙◌, arith}
 use Rattle.std.specs.Prelude.{IsTrue}
 use Rattle.std.specs.List.{list_all}
 use Rattle.std.specs.Str.{bytes_eq}
-use Rattle.std.proofs.lemmas.Bool.{and_parts, and_from, eqb-true, eq-eqb, lt-ltb}
-use Rattle.std.proofs.lemmas.Bool.{ltb-true, cond-true}
+use Rattle.std.proofs.lemmas.Bool.{and_parts, and_from, eqb-true, eq-eqb}
+use Rattle.std.proofs.lemmas.Bool.{cond-true}
 use Rattle.std.proofs.lemmas.List.{length-drop}
 use Rattle.std.proofs.lemmas.Option.{cond_some}
 use Rattle.std.proofs.lemmas.Slice.Eq.{bytes_eq-Decides}
-use Rattle.base64.specs.GeneralPurpose.{IsBytes}
+use Rattle.text.specs.Bytes.{IsBytes}
+use Rattle.text.proofs.ByteLemmas.{IsBytes-append, IsBytes_from, all_bytes}
 use Rattle.wire.specs.Texts.{string_text, u32_text}
 use Rattle.lines.specs.Keys.{ed25519, key_blob, key_of}
 use Rattle.lines.specs.KeyLines.{is_key}
-use Rattle.lines.proofs.Base64.{IsBytes-append}
 
 -- The key is preceded by 19 bytes.
 pub length-key_blob : (key : List ℕ) → length (key_blob key) ≡ 19 + length key
@@ -33,19 +33,6 @@ key_of_again key len =
     let same = (bytes_eq-Decides (key_blob key) (key_blob key)).1 refl in
     let size : length (key_blob key) ≡ 51 = omega (arith, length-key_blob key) in
     cond-true _ (Some key) None (and_from _ _ same (eq-eqb _ _ size))
-
--- ---- bytes as a test
-
--- bytes pass the test for bytes
-pub all_bytes : (xs : List ℕ) → IsBytes xs → list_all (λ b. nat_lt b 256) xs ≡ true
-all_bytes [] fits = refl
-all_bytes (x ∷ xs) fits = and_from _ _ (lt-ltb x 256 (fits 0)) (all_bytes xs (λ i. fits (suc i)))
-
--- A list that passes the test for bytes consists of bytes.
-pub IsBytes_from : (xs : List ℕ) → list_all (λ b. nat_lt b 256) xs ≡ true → IsBytes xs
-IsBytes_from [] e i = omega arith
-IsBytes_from (x ∷ xs) e zero = ltb-true x 256 (and_parts _ _ e).0
-IsBytes_from (x ∷ xs) e (suc i) = IsBytes_from xs (and_parts _ _ e).1 i
 
 -- 32 bytes are a key.
 pub is_key_from : (key : List ℕ) → length key ≡ 32 → IsBytes key → IsTrue (is_key key)

@@ -1,7 +1,7 @@
 -- From reading by the definitions to the result of a function.
 use Rattle.std.proofs.Common.{◌≡◌, ◌≢◌, ℕ, List, Result, Ok, Err, sym, ap, subst, ◌∙◌}
 use Rattle.std.specs.Prelude.{IsTrue, IsOk, IfErr}
-use Rattle.base64.specs.GeneralPurpose.{IsBytes}
+use Rattle.text.specs.Bytes.{IsBytes}
 use Rattle.lines.specs.KeyLines.{is_key_line, key_line_text}
 use Rattle.lines.specs.Reading.{key_line_at, GivesKeyLine, IsLineFault, IsKeyLineText}
 use Rattle.lines.specs.declared.key_line.KeyLine.{KeyLine}

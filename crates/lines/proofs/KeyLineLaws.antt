@@ -9,7 +9,8 @@ use Rattle.std.proofs.lemmas.List.{take-append-drop}
 use Rattle.std.proofs.lemmas.Option.{cond_some}
 use Rattle.std.proofs.lemmas.Slice.Eq.{bytes_eq-Decides}
 use Rattle.base64.specs.Engines.{standard}
-use Rattle.base64.specs.GeneralPurpose.{IsBytes, encode_of}
+use Rattle.base64.specs.GeneralPurpose.{encode_of}
+use Rattle.text.specs.Bytes.{IsBytes}
 use Rattle.lines.specs.Keys.{key_blob, key_of}
 use Rattle.lines.specs.KeyLines.{is_base64_word, is_key, is_comment, is_comment_or_none}
 use Rattle.lines.specs.KeyLines.{is_key_line, comment_text, key_line_head, key_line_text}
@@ -21,7 +22,7 @@ use Rattle.lines.specs.declared.key_line.KeyLine.{KeyLine}
 use Rattle.lines.specs.declared.key_line.LineFault.{LineFault}
 use Rattle.lines.specs.declared.key_line.LineFault.TheVariants.{WrongType, BadBase64, BadBlob, BadComment, NoMemory}
 use Rattle.lines.proofs.Alphabet.{letters_free, word_again}
-use Rattle.lines.proofs.Base64.{IsBytes-drop, IsBytes-take}
+use Rattle.text.proofs.ByteLemmas.{IsBytes-drop, IsBytes-take}
 use Rattle.lines.proofs.BlobWords.{blob_of_again, blob_of_found, blob_of_none}
 use Rattle.lines.proofs.Blobs.{IsBytes-key_blob, is_key_from, is_key_parts, key_of_again, key_of_found, length-key_blob}
 use Rattle.lines.proofs.Words.{comment_of-text, text_is, word_of-text}

@@ -2,7 +2,8 @@
 
 ghost use Rattle.std.specs.Prelude.{◌≡◌, ◌≢◌, ◌↔◌, List, ℕ, length, IsTrue, MatchResult};
 ghost use Rattle.base64.specs.Engines.{standard};
-ghost use Rattle.base64.specs.GeneralPurpose.{IsBytes, encode_of};
+ghost use Rattle.base64.specs.GeneralPurpose.{encode_of};
+ghost use Rattle.text.specs.Bytes.{IsBytes};
 ghost use Rattle.lines.specs.KeyLines.{is_base64_word, is_key_line, key_line_text};
 ghost use Rattle.lines.specs.Reading.{IsLineFault, key_line_at};
 ghost use Rattle.lines.specs.declared.key_line.KeyLine.{KeyLine};

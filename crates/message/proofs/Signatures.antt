@@ -9,7 +9,8 @@ use Rattle.message.proofs.Words.{◌≡◌}
 use Rattle.std.specs.Option.{option_map}
 use Rattle.base64.specs.GeneralPurpose.{decode_of}
 use Rattle.lines.specs.Keys.{signature_blob, signature_of}
-use Rattle.lines.proofs.Base64.{IsBytes-append, IsBytes-decode_of, base64_again, base64_found, length-encode_of}
+use Rattle.lines.proofs.Base64.{IsBytes-decode_of, base64_again, base64_found, length-encode_of}
+use Rattle.text.proofs.ByteLemmas.{IsBytes-append}
 use Rattle.message.specs.Reading.{signature_after, signature_at}
 use Rattle.message.proofs.Readings.{IsField}
 use Rattle.message.proofs.Fields.{IsHead, value_after}

@@ -1,8 +1,9 @@
 -- The names from the libraries and the definitions that several proof files use.
 pub use Rattle.base64.specs.Engines.{standard}
-pub use Rattle.base64.specs.GeneralPurpose.{IsBytes, encode_of}
-pub use Rattle.lines.proofs.Base64.{IsBytes-drop}
-pub use Rattle.lines.proofs.Blobs.{IsBytes_from, all_bytes}
+pub use Rattle.base64.specs.GeneralPurpose.{encode_of}
+pub use Rattle.text.specs.Bytes.{IsBytes}
+pub use Rattle.text.proofs.ByteLemmas.{IsBytes-drop}
+pub use Rattle.text.proofs.ByteLemmas.{IsBytes_from, all_bytes}
 pub use Rattle.lines.proofs.Cases.{ok_of}
 pub use Rattle.lines.proofs.Words.{comment_of-text, text_is, word_of-text}
 pub use Rattle.lines.specs.KeyLines.{comment_text, is_key_line, key_line_text}

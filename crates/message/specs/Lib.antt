@@ -5,3 +5,4 @@ mod Kinds
 pub mod Reading
 pub mod Parts
 pub mod Faults
+pub mod Permissions

@@ -1,7 +1,7 @@
 //! Theorems about the texts of messages. The functions do nothing: their contracts are the theorems.
 
 ghost use Rattle.std.specs.Prelude.{◌≡◌, ◌↔◌, ℕ, List, IsTrue, Err, Some};
-ghost use Rattle.base64.specs.GeneralPurpose.{IsBytes};
+ghost use Rattle.text.specs.Bytes.{IsBytes};
 ghost use Rattle.message.specs.Belonging.{BelongsTo};
 ghost use Rattle.message.specs.Faults.{IsFirstBad};
 ghost use Rattle.message.specs.Reading.{message_at, message_of};

@@ -14,6 +14,7 @@ mod lists;
 mod message_fault;
 mod message_reader;
 mod option;
+mod permission;
 mod renewal;
 mod serial_range;
 mod single;
@@ -34,6 +35,7 @@ pub use lists::{
 pub use message_fault::MessageFault;
 pub use message_reader::read_message;
 pub use option::is_option;
+pub use permission::{are_listed, has_other_kind, is_life_permitted, meet_rules};
 pub use renewal::Renewal;
 pub use serial_range::SerialRange;
 pub use writing::write_message;

@@ -8,7 +8,7 @@ use Rattle.values.specs.declared.refusal.Refusal.TheVariants.{NotAllowed, NoDepa
 use Rattle.lines.specs.declared.key_line.KeyLine.{KeyLine}
 use Rattle.message.specs.declared.kinds.Message.TheVariants as message
 use Rattle.office.specs.declared.arrival.Outcome.TheVariants.{Repeated}
-use Rattle.office.specs.Permissions.{meet_rules}
+use Rattle.message.specs.Permissions.{meet_rules}
 use Rattle.office.specs.Machine.{State, next_serial}
 use Rattle.office.specs.Publication.{entries_of}
 use Rattle.office.specs.declared.publication.Standing.TheVariants as standing

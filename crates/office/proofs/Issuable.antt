@@ -21,7 +21,8 @@ use Rattle.cert.specs.OptionFaults.{first_fault, options_fault}
 use Rattle.message.specs.Values.{fits_kind, is_department, is_issue, are_principals, is_end}
 use Rattle.message.specs.Values.{are_administrators, are_rules, are_option_names, are_extension_names}
 use Rattle.office.specs.Views.{HasSerial, IsIssuable, IsRenewable}
-use Rattle.office.specs.Permissions.{is_listed, is_permitted}
+use Rattle.office.specs.Permissions.{is_permitted}
+use Rattle.message.specs.Permissions.{is_listed}
 use Rattle.office.proofs.Growth.{opening_order}
 use Rattle.office.specs.Certificates.{IsCertificate}
 

@@ -1,15 +1,12 @@
 -- The initial configuration of an office.
-use Rattle.std.specs.Prelude.{◌≡◌, ℕ, List, length, Bool, false, ◌&&◌, not, nat_le, if◌then◌else◌, IsTrue, Result, Ok}
+use Rattle.std.specs.Prelude.{◌≡◌, ℕ, List, length, false, ◌&&◌, not, if◌then◌else◌, IsTrue, Result, Ok}
 use Rattle.std.specs.Prelude.{Err}
 use Rattle.std.specs.Str.{bytes_eq}
 use Rattle.values.specs.Names.{is_name}
+use Rattle.values.specs.Serials.{are_serials}
 use Rattle.office.specs.declared.opening.Opening.{Opening}
 use Rattle.office.specs.declared.opening.OpeningFault.{OpeningFault}
 use Rattle.office.specs.declared.opening.OpeningFault.TheVariants.{BadName, SameName, BadSerials}
-
--- 1 <= first <= last <= 9223372036854775806
-abbrev pub are_serials : ℕ → ℕ → Bool
-are_serials first last = nat_le 1 first && (nat_le first last && nat_le last 9223372036854775806)
 
 -- the opening, or its first fault
 abbrev pub made_opening : List ℕ → List ℕ → List ℕ → ℕ → ℕ → Result Opening OpeningFault

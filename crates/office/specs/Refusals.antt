@@ -1,13 +1,11 @@
 -- Refusals: for each kind of message, its refusals in order of their numbers, each with its condition.
-use Rattle.std.specs.Prelude.{ℕ, List, [], ◌∷◌, length, Bool, true, false, not, ◌||◌, nat_lt, nat_le, if◌then◌else◌}
+use Rattle.std.specs.Prelude.{ℕ, List, [], ◌∷◌, length, Bool, false, not, ◌||◌, nat_lt, nat_le, if◌then◌else◌}
 use Rattle.std.specs.Prelude.{Option, Some, None, is_none}
 use Rattle.std.specs.Option.{option_map_or}
 use Rattle.std.specs.Str.{bytes_eq}
 use Rattle.lines.specs.declared.signature.Signature.{Signature}
 use Rattle.lines.specs.Digests.{digest_text}
 use Rattle.values.specs.Names.{department_of}
-use Rattle.values.specs.declared.kind.Kind.{Kind}
-use Rattle.values.specs.declared.kind.Kind.TheVariants.{User, Host}
 use Rattle.values.specs.declared.refusal.Refusal.{Refusal}
 use Rattle.values.specs.declared.refusal.Refusal.TheVariants.{
   NotAllowed,
@@ -33,24 +31,11 @@ use Rattle.message.specs.declared.delivery.Delivery.{Delivery}
 use Rattle.message.specs.declared.serial_range.SerialRange.{SerialRange}
 use Rattle.message.specs.declared.kinds.Message.{Message}
 use Rattle.message.specs.declared.kinds.Message.TheVariants as message
+use Rattle.message.specs.Permissions.{has_other_kind, is_missing}
 use Rattle.office.specs.declared.certificate.Certificate.{Certificate}
 use Rattle.office.specs.Permissions.{may_administer, is_permitted_by, is_renewal_permitted_by}
 use Rattle.office.specs.State.{State, next_serial, certificate_of, department_named, department_of_serial, is_ca}
 use Rattle.office.specs.State.{is_key_id_revoked, is_key_id_of_revoked, is_revoked}
-
-abbrev pub same_kind : Kind → Kind → Bool
-same_kind User User = true
-same_kind Host Host = true
-same_kind _ _ = false
-
--- the department exists, and has the other kind
-abbrev pub has_other_kind : Option Department → Kind → Bool
-has_other_kind (Some d) kind = not (same_kind d.kind kind)
-has_other_kind None kind = false
-
-abbrev pub is_missing : Option Department → Bool
-is_missing (Some d) = false
-is_missing None = true
 
 -- the certificate exists and passes the test
 abbrev pub is_one_that : (Certificate → Bool) → Option Certificate → Bool

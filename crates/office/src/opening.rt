@@ -4,7 +4,7 @@ ghost use Rattle.std.specs.Prelude.{◌≡◌, IfOk, string_bytes};
 ghost use Rattle.office.specs.Openings.{IsOpening, made_opening};
 
 use text::Text;
-use values::{LAST_SERIAL, is_name};
+use values::{are_serials, is_name};
 
 /// The initial configuration of an office, which never changes.
 #[derive(Drop)]
@@ -53,7 +53,7 @@ impl Opening {
         if root.is(station.as_slice()) {
             return Err(OpeningFault::SameName);
         }
-        if first < 1 || last < first || LAST_SERIAL < last {
+        if !are_serials(first, last) {
             return Err(OpeningFault::BadSerials);
         }
         Ok(Opening {

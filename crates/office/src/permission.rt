@@ -1,25 +1,19 @@
 //! Who may send, and what a department's profile permits.
 
 ghost use Rattle.std.specs.Prelude.{◌≡◌};
-ghost use Rattle.std.specs.List.{list_any, list_all};
+ghost use Rattle.std.specs.List.{list_all};
 ghost use Rattle.std.specs.Option.{option_copied};
-ghost use Rattle.values.specs.Names.{meets};
+ghost use Rattle.message.specs.Permissions.{is_listed};
 ghost use Rattle.office.specs.Permissions.{
   administers,
-  are_listed,
-  is_life_permitted,
-  is_listed,
   is_permitted,
   is_renewal_permitted,
   may_administer,
-  meet_rules,
 };
 
 use crate::certificate::Certificate;
 use crate::opening::Opening;
-use message::{Department, Issue, Renewal};
-use text::{Pair, Text, Texts};
-use values::meets;
+use message::{Department, Issue, Renewal, are_listed, is_life_permitted, meet_rules};
 
 fn administers(caller: &[u8], department: Option<&Department>) -> bool
     ensures { result ≡ administers caller.now (option_copied department.entry) }
@@ -39,38 +33,6 @@ pub(crate) fn may_administer(
     ensures { result ≡ may_administer opening.now caller.now (option_copied department.entry) }
 {
     opening.root.is(caller) || administers(caller, department)
-}
-
-fn meets_a_rule(department: &Department, principal: &[u8]) -> bool
-    ensures { result ≡ list_any (meets principal.now) department.now.rules }
-{
-    department
-        .rules
-        .as_slice()
-        .iter()
-        .any(|rule| meets(principal, rule.as_slice()))
-}
-
-fn meet_rules(department: &Department, principals: &[Text]) -> bool
-    ensures { result ≡ meet_rules department.now principals.now }
-{
-    principals
-        .iter()
-        .all(|principal| meets_a_rule(department, principal.as_slice()))
-}
-
-fn is_life_permitted(department: &Department, after: u64, before: u64) -> bool
-    ensures { result ≡ is_life_permitted department.now after before }
-{
-    after < before && before - after <= department.longest_life
-}
-
-fn are_listed(names: &Texts, pairs: &[Pair]) -> bool
-    ensures { result ≡ are_listed names.now pairs.now }
-{
-    pairs
-        .iter()
-        .all(|pair| names.contains(pair.name.as_slice()))
 }
 
 fn are_extensions_permitted(department: &Department, issue: &Issue) -> bool

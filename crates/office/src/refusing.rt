@@ -1,28 +1,16 @@
 //! The refusals of department and issue messages.
 
 ghost use Rattle.std.specs.Prelude.{◌≡◌, ◌≤◌, ℕ, None, IfSome, IsSome, IsTrue, option_copied};
-ghost use Rattle.values.specs.declared.kind.Kind.{Kind};
 ghost use Rattle.message.specs.declared.kinds.Message.TheVariants as message;
 ghost use Rattle.office.specs.State.{State};
 ghost use Rattle.office.specs.Permissions.{is_permitted};
-ghost use Rattle.office.specs.Refusals.{department_refusals, first_holding, issue_refusals, same_kind};
+ghost use Rattle.office.specs.Refusals.{department_refusals, first_holding, issue_refusals};
 ghost use Rattle.office.specs.Decided.{Agrees};
 
 use crate::permission::{is_permitted, may_administer};
 use crate::view::View;
-use message::{Department, Issue};
-use values::{Kind, Refusal, department_of};
-
-fn is_same_kind(kind: Kind, other: Kind) -> bool
-    ensures { result ≡ same_kind kind other }
-{
-    match (kind, other) {
-        (Kind::User, Kind::User) => true,
-        (Kind::Host, Kind::Host) => true,
-        (Kind::User, Kind::Host) => false,
-        (Kind::Host, Kind::User) => false,
-    }
-}
+use message::{Department, Issue, has_other_kind};
+use values::{Refusal, department_of};
 
 /// The refusal with the least number for a department message.
 pub(crate) fn refusal_of_department(
@@ -39,7 +27,7 @@ pub(crate) fn refusal_of_department(
     let Some(standing) = view.department else {
         return None;
     };
-    if !is_same_kind(standing.kind, department.kind) {
+    if has_other_kind(standing, department.kind) {
         return Some(Refusal::KindFixed);
     }
     None

@@ -1,7 +1,7 @@
 //! Doing the jobs.
 
 ghost use Rattle.std.specs.Prelude.{◌≡◌, ◌≤◌, IfErr, false, map, string_bytes};
-ghost use Rattle.office.specs.Openings.{are_serials};
+ghost use Rattle.values.specs.Serials.{are_serials};
 ghost use Rattle.station_command.specs.Answers.{AreBad};
 ghost use Rattle.station_jobs.specs.Names.{Takes};
 ghost use Rattle.station_jobs.specs.Whole.{KeepsFiles};

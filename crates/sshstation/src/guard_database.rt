@@ -1,7 +1,7 @@
 //! Guards in the files of databases: finding, making, opening and closing them.
 
 ghost use Rattle.std.specs.Prelude.{◌≡◌, IfErr, IfOk, IsTrue};
-ghost use Rattle.office.specs.Openings.{are_serials};
+ghost use Rattle.values.specs.Serials.{are_serials};
 ghost use Rattle.sqlite_wal.specs.Files.{image_at};
 ghost use Rattle.restart.specs.Images.{HoldsNone};
 ghost use Rattle.guard_restart.specs.Images.{HoldsKept};

@@ -3,7 +3,7 @@ use Rattle.std.specs.Prelude.{◌≡◌, ◌⊎◌, ℕ, List, Bool, IsTrue, fal
 use Rattle.std.specs.Prelude.{Err}
 use Rattle.std.specs.Io.KnownBytes.{Appends}
 use Rattle.wire.specs.Streams.{AppendsBeginning}
-use Rattle.office.specs.Openings.{are_serials}
+use Rattle.values.specs.Serials.{are_serials}
 use Rattle.guard.specs.declared.register.Register as register
 use Rattle.guard.specs.declared.scope.Scope.{Scope}
 use Rattle.station_jobs.specs.declared.guard_file.GuardFile as file

@@ -1,7 +1,7 @@
 //! The file of a guard: making, opening and closing it.
 
 ghost use Rattle.std.specs.Prelude.{ℕ, IsTrue, List, Result};
-ghost use Rattle.office.specs.Openings.{are_serials};
+ghost use Rattle.values.specs.Serials.{are_serials};
 ghost use Rattle.guard.specs.State.{State};
 ghost use Rattle.guard.specs.declared.scope.Scope.{Scope as Made};
 ghost use Rattle.station_jobs.specs.declared.station_fault.StationFault.{StationFault as Fault};

@@ -1,7 +1,7 @@
 //! Whole jobs over the guard in a file.
 
 ghost use Rattle.std.specs.Prelude.{◌≡◌, ℕ, List, IfOk, IsTrue, false};
-ghost use Rattle.office.specs.Openings.{are_serials};
+ghost use Rattle.values.specs.Serials.{are_serials};
 ghost use Rattle.station_jobs.specs.Jobs.{InitsIn, IsLawful, LowersIn, Prints, RunsJob, reads_input};
 ghost use Rattle.station_jobs.specs.Whole.{KeepsFiles};
 

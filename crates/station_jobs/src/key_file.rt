@@ -1,7 +1,7 @@
 //! The CA's key, from a file.
 
 ghost use Rattle.std.specs.Prelude.{IfErr, IfOk, IfSome, IsTrue, Some};
-ghost use Rattle.office.specs.Openings.{are_serials};
+ghost use Rattle.values.specs.Serials.{are_serials};
 ghost use Rattle.station_jobs.specs.KeyFiles.{IsKeyFault, IsKeyText};
 ghost use Rattle.station_jobs.specs.Whole.{Begins};
 

@@ -3,7 +3,7 @@
 //! A guard is opened once, or not at all if a file can't be read. It is closed afterwards.
 
 ghost use Rattle.std.specs.Prelude.{◌≡◌, Err, IfErr, IfOk, IsTrue, Ok, OnErr, false, map, string_bytes};
-ghost use Rattle.office.specs.Openings.{are_serials};
+ghost use Rattle.values.specs.Serials.{are_serials};
 ghost use Rattle.guard.specs.Machine.{State};
 ghost use Rattle.guard.specs.Policies.{policy_at};
 ghost use Rattle.station_jobs.specs.Bodies.{PrintsBody, PrintsRows};

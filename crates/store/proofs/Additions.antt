@@ -16,7 +16,7 @@ use Rattle.lines.specs.Keys.{key_of}
 use Rattle.message.specs.declared.kinds.Message.TheVariants as message
 use Rattle.office.specs.State.{is_ca, department_of_serial}
 use Rattle.office.specs.Machine.{next_serial}
-use Rattle.office.specs.Refusals.{is_missing}
+use Rattle.message.specs.Permissions.{is_missing}
 use Rattle.store.proofs.Ascending.{IsEntry}
 use Rattle.store.proofs.Accepted.{ok_from_is_ok_and}
 use Rattle.store.proofs.Lawful.{of_either}

@@ -21,8 +21,9 @@ use Rattle.office.specs.Machine.{State, certificate_of, department_named, next_s
 use Rattle.office.specs.Machine.{department_of_serial}
 use Rattle.office.specs.Machine.{has_any, opened}
 use Rattle.office.specs.Views.{HasSerial}
-use Rattle.office.specs.Permissions.{are_listed, is_permitted_by, is_life_permitted}
-use Rattle.office.specs.Permissions.{meet_rules}
+use Rattle.office.specs.Permissions.{is_permitted_by}
+use Rattle.message.specs.Permissions.{are_listed, is_life_permitted}
+use Rattle.message.specs.Permissions.{meet_rules}
 use Rattle.office.proofs.Issuable.{issuable_certificate, renewable_certificate}
 use Rattle.office.specs.History.{state}
 use Rattle.store.proofs.Ascending.{IsEntry, entries_put, names_put, texts_put}

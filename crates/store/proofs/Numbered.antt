@@ -1,13 +1,13 @@
 -- The certificate with a given serial among the rows.
 use Rattle.store.proofs.Words.{AreCounted, Certificate, IsCertificate, IsLawful, IsOfHistory, IsSigned, IsSome, Kept}
-use Rattle.store.proofs.Words.{LAST_SERIAL, List, None, Option, Some, State, [], ap, arith, cases_Bool, cases_lt}
+use Rattle.store.proofs.Words.{List, None, Option, Some, State, [], ap, arith, cases_Bool, cases_lt}
 use Rattle.store.proofs.Words.{cert_row, certificate_in, certificate_of, certs_numbered, contents_of, eq-eqb, filter}
-use Rattle.store.proofs.Words.{has_serial, inl, inr, le-ltb, lt-ltb, map, nat_tests, ne_eqb, next_serial, none-some}
-use Rattle.store.proofs.Words.{refl, serial_of_one, slice_get, suc, sym, true, zero, ℕ, ◌+◌, ◌-◌, ◌<◌, ◌^◌, ◌∙◌, ◌∷◌}
+use Rattle.store.proofs.Words.{has_serial, inl, inr, le-ltb, lt-ltb, map, ne_eqb, next_serial, none-some}
+use Rattle.store.proofs.Words.{refl, serial_of_one, slice_get, suc, sym, zero, ℕ, ◌+◌, ◌-◌, ◌<◌, ◌^◌, ◌∙◌, ◌∷◌}
 use Rattle.store.proofs.Words.{◌≡◌, ◌≤◌}
 use Rattle.std.proofs.Common.{ltb}
 use Rattle.sqlite_trees.proofs.ListLemmas.{all-slice_get}
-use Rattle.office.specs.Openings.{are_serials}
+use Rattle.values.proofs.SerialLemmas.{serials_within}
 use Rattle.store.proofs.CertRows.{certificate_again as again}
 use Rattle.store.specs.Finding.{asked_serial}
 use Rattle.store.proofs.OneRow.{rows_of}
@@ -52,10 +52,6 @@ certificate_again serial s c lawful is = elim (cases_Bool (ltb serial s.opening.
 ]
 
 -- ---- the requested serial
-
--- 1 <= first and last <= 2^63 - 2
-pub serials_within : (first last : ℕ) → are_serials first last ≡ true → (1 ≤ first) × (last ≤ LAST_SERIAL)
-serials_within first last are = (grind (arith, nat_tests), grind (arith, nat_tests))
 
 not_some : {X : Type 0} (o : Option X) → (IsSome o → ⊥) → o ≡ None
 not_some None none = refl

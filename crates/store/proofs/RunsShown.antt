@@ -7,10 +7,10 @@ use Rattle.store.proofs.Words.{last_run, length, map, map_back, nat_cmp, nat_cmp
 use Rattle.store.proofs.Words.{revoked_runs, run_of, run_row, runs_in_runs, runs_of, sorted_unique, sym, true, ℕ, ◌&&◌}
 use Rattle.store.proofs.Words.{◌+◌, ◌<◌, ◌^◌, ◌↔◌, ◌∙◌, ◌≡◌, ◌≤◌}
 use Rattle.sqlite.specs.State.{State as Connection}
+use Rattle.values.proofs.SerialLemmas.{serials_within}
 use Rattle.krl.proofs.Counting.{are_counted}
 use Rattle.store.specs.RunRows.{AreRead, AreRevokedRuns}
 use Rattle.store.proofs.Rising.{rise_lower, rows_rise, runs_rise}
-use Rattle.store.proofs.Numbered.{serials_within}
 use Rattle.store.proofs.Reaching.{all_in}
 use Rattle.store.proofs.RunsApart.{rows_apart}
 

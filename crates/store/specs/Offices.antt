@@ -6,7 +6,8 @@ use Rattle.std.specs.Str.{bytes_eq}
 use Rattle.values.specs.Names.{is_name}
 use Rattle.lines.specs.Keys.{key_of}
 use Rattle.office.specs.declared.opening.Opening.{Opening}
-use Rattle.office.specs.Openings.{IsOpening, are_serials}
+use Rattle.office.specs.Openings.{IsOpening}
+use Rattle.values.specs.Serials.{are_serials}
 use Rattle.office.specs.State.{State, next_serial}
 use Rattle.store_sql.specs.declared.offices.OfficeRow.{OfficeRow}
 use Rattle.store.specs.declared.rows.office_rows.Office.{Office}

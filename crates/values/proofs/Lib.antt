@@ -3,6 +3,7 @@ pub mod Lacking
 pub mod NetworkLemmas
 pub mod NameLemmas
 pub mod SerialLemmas
+pub mod KindLemmas
 pub mod NetworkLaws
 pub mod ListLemmas
 pub mod OptionLemmas

@@ -3,6 +3,7 @@ pub mod Lists
 pub mod Decimals
 pub mod Networks
 pub mod Serials
+pub mod Kinds
 pub mod Options
 pub mod Laws
 pub mod Refusals

@@ -35,4 +35,4 @@ pub use option_field::{OptionField, is_flag, is_known};
 pub use option_value::is_option_value;
 pub use refusal::Refusal;
 pub use rule::{is_rule, meets};
-pub use serial::is_serial;
+pub use serial::{are_serials, is_serial};

@@ -1,5 +1,5 @@
 use Rattle.krl.proofs.Words.{Bool, IsString, List, [], arith, bytes_eq, string_text, subst, sym, ℕ, ◌||◌, ◌∙◌, ◌≡◌}
-use Rattle.krl.proofs.Bytes.{suffix_bytes}
+use Rattle.text.proofs.ByteLemmas.{IsBytes_left}
 use Rattle.krl.proofs.Items.{SoFar, so_far_more, stops_within, no_items}
 use Rattle.krl.proofs.Texts.{string_texts}
 use Rattle.krl.proofs.parts.key_ids_name.Goals as goal
@@ -19,7 +19,7 @@ loop-cursor-preserved c =
     let test : List ℕ → Bool = λ i. bytes_eq i c.args.key_id.now in
     let found = c.in-Some.ensures.found in
     record {
-      bytes_left = suffix_bytes _ (string_text c.in-Some.next.now) _ c.loop-cursor.invariant.bytes_left found.1;
+      bytes_left = IsBytes_left _ (string_text c.in-Some.next.now) _ c.loop-cursor.invariant.bytes_left found.1;
       so_far =
           subst (λ (b : Bool). SoFar string_text IsString test c.args.bytes.now c.next_string.new.cursor
           (c.loop-cursor.named || b)) (sym c.is_same-named.ensures)

@@ -1,5 +1,5 @@
 use Rattle.krl.proofs.Words.{Bool, IsReadPart, names, part_text, subst, sym, ◌||◌}
-use Rattle.krl.proofs.Bytes.{suffix_bytes}
+use Rattle.text.proofs.ByteLemmas.{IsBytes_left}
 use Rattle.krl.proofs.Items.{SoFar, so_far_more}
 use Rattle.krl.proofs.parts.read_parts.Goals as goal
 
@@ -9,7 +9,7 @@ loop-cursor-preserved c =
     let test = names c.args.serial c.args.key_id.now in
     record {
       bytes_left =
-          suffix_bytes c.loop-cursor.cursor
+          IsBytes_left c.loop-cursor.cursor
           (part_text part.0) c.read_part.new.cursor c.loop-cursor.invariant.bytes_left part.2;
       so_far =
           subst (λ (b : Bool). SoFar part_text IsReadPart test c.args.cursor.now c.read_part.new.cursor

@@ -1,20 +1,20 @@
 use Rattle.krl.proofs.Words.{IsBytes, arith, string_text, sym, ◌∙◌}
-use Rattle.krl.proofs.Bytes.{suffix_bytes}
+use Rattle.text.proofs.ByteLemmas.{IsBytes_left}
 use Rattle.krl.proofs.SectionReading.{certificates_read}
 use Rattle.krl.proofs.reader.read_certificates.Goals as goal
 
 pub next_string-requires-2 : goal.next_string-requires-2
 next_string-requires-2 c =
     let bytes : IsBytes c.args.bytes.now = λ i. omega (arith, c.type_inv.bytes i) in
-    suffix_bytes c.args.bytes.now (string_text c.in-Some.ca.now) c.next_string.new.cursor bytes
+    IsBytes_left c.args.bytes.now (string_text c.in-Some.ca.now) c.next_string.new.cursor bytes
     (sym c.new-cursor.ensures ∙ c.in-Some.ensures.found.1)
 
 pub read_parts-requires : goal.read_parts-requires
 read_parts-requires c =
     let bytes : IsBytes c.args.bytes.now = λ i. omega (arith, c.type_inv.bytes i) in
-    let mid = suffix_bytes c.args.bytes.now (string_text c.in-Some.ca.now) c.next_string.new.cursor bytes
+    let mid = IsBytes_left c.args.bytes.now (string_text c.in-Some.ca.now) c.next_string.new.cursor bytes
     (sym c.new-cursor.ensures ∙ c.in-Some.ensures.found.1) in
-    suffix_bytes c.next_string.new.cursor
+    IsBytes_left c.next_string.new.cursor
     (string_text c.in-Some-next_string._reserved.now) c.next_string-2.new.cursor mid
     c.in-Some-next_string.ensures.found.1
 

@@ -3,7 +3,7 @@ use Rattle.krl.proofs.Words.{magic, refl, string_text, sym, u32_text, u64_text, 
 use Rattle.krl.specs.declared.krl_fault.KrlFault.TheVariants.{Truncated, BadMagic, BadVersion, BadFlags}
 use Rattle.krl.specs.Faults.{refused_unless, is_magic, is_one, is_zero, CommentFault, ReservedFault, FlagsFault}
 use Rattle.krl.specs.Faults.{DateFault, NumberFault, VersionFault}
-use Rattle.krl.proofs.Bytes.{suffix_bytes}
+use Rattle.text.proofs.ByteLemmas.{IsBytes_left}
 use Rattle.krl.proofs.Texts.{header_fields}
 use Rattle.krl.proofs.SectionReading.{more_after, later}
 use Rattle.krl.proofs.reader.read_header.Goals as goal
@@ -116,29 +116,29 @@ returns-in_err-_comment-clause-fault c =
 
 pub skip_string-requires : goal.skip_string-requires
 skip_string-requires c =
-    let b1 = suffix_bytes c.args.cursor.now
+    let b1 = IsBytes_left c.args.cursor.now
     (u64_text magic) c.expect_u64.new.cursor c.requires c.in_ok-expect_u64.ensures.found in
-    let b2 = suffix_bytes c.expect_u64.new.cursor
+    let b2 = IsBytes_left c.expect_u64.new.cursor
     (u32_text 1) c.expect_version.new.cursor b1 c.in_ok-expect_version.ensures.found in
-    let b3 = suffix_bytes c.expect_version.new.cursor
+    let b3 = IsBytes_left c.expect_version.new.cursor
     (u64_text c.in_ok-_version._version) c.skip_u64.new.cursor b2 c.in_ok-_version.ensures.found in
-    let b4 = suffix_bytes c.skip_u64.new.cursor
+    let b4 = IsBytes_left c.skip_u64.new.cursor
     (u64_text c.in_ok-_date._date) c.skip_u64-2.new.cursor b3 c.in_ok-_date.ensures.found in
-    suffix_bytes c.skip_u64-2.new.cursor (u64_text 0) c.expect_u64-2.new.cursor b4 c.in_ok-expect_u64-2.ensures.found
+    IsBytes_left c.skip_u64-2.new.cursor (u64_text 0) c.expect_u64-2.new.cursor b4 c.in_ok-expect_u64-2.ensures.found
 
 pub skip_string-requires-2 : goal.skip_string-requires-2
 skip_string-requires-2 c =
-    let b1 = suffix_bytes c.args.cursor.now
+    let b1 = IsBytes_left c.args.cursor.now
     (u64_text magic) c.expect_u64.new.cursor c.requires c.in_ok-expect_u64.ensures.found in
-    let b2 = suffix_bytes c.expect_u64.new.cursor
+    let b2 = IsBytes_left c.expect_u64.new.cursor
     (u32_text 1) c.expect_version.new.cursor b1 c.in_ok-expect_version.ensures.found in
-    let b3 = suffix_bytes c.expect_version.new.cursor
+    let b3 = IsBytes_left c.expect_version.new.cursor
     (u64_text c.in_ok-_version._version) c.skip_u64.new.cursor b2 c.in_ok-_version.ensures.found in
-    let b4 = suffix_bytes c.skip_u64.new.cursor
+    let b4 = IsBytes_left c.skip_u64.new.cursor
     (u64_text c.in_ok-_date._date) c.skip_u64-2.new.cursor b3 c.in_ok-_date.ensures.found in
-    let b5 = suffix_bytes c.skip_u64-2.new.cursor
+    let b5 = IsBytes_left c.skip_u64-2.new.cursor
     (u64_text 0) c.expect_u64-2.new.cursor b4 c.in_ok-expect_u64-2.ensures.found in
-    suffix_bytes c.expect_u64-2.new.cursor
+    IsBytes_left c.expect_u64-2.new.cursor
     (string_text c.in_ok-_reserved._reserved.now) c.skip_string.new.cursor b5 c.in_ok-_reserved.ensures.found.1
 
 pub returns-clause-found : goal.returns-clause-found

@@ -1,6 +1,6 @@
 use Rattle.krl.proofs.Words.{HeaderFault, IsBytes, List, arith, err_from_is_err_and, header_text, inl, subst, sym, ℕ}
 use Rattle.krl.proofs.Words.{◌∙◌}
-use Rattle.krl.proofs.Bytes.{suffix_bytes}
+use Rattle.text.proofs.ByteLemmas.{IsBytes_left}
 use Rattle.krl.proofs.SectionReading.{list_read, list_refused}
 use Rattle.krl.proofs.reader.read_list.Goals as goal
 
@@ -8,7 +8,7 @@ pub read_sections-requires : goal.read_sections-requires
 read_sections-requires c =
     let bytes : IsBytes c.args.bytes.now = λ i. omega (arith, c.type_inv.bytes i) in
     let head = c.in_ok-read_header.ensures.found in
-    suffix_bytes c.args.bytes.now (header_text head.0) c.read_header.new.cursor bytes
+    IsBytes_left c.args.bytes.now (header_text head.0) c.read_header.new.cursor bytes
     (sym c.new-cursor.ensures ∙ head.2)
 
 pub returns-clause-found : goal.returns-clause-found

@@ -1,5 +1,5 @@
 use Rattle.krl.proofs.Words.{Bool, IsReadSection, section_revokes, section_text, subst, sym, ◌||◌}
-use Rattle.krl.proofs.Bytes.{suffix_bytes}
+use Rattle.text.proofs.ByteLemmas.{IsBytes_left}
 use Rattle.krl.proofs.Items.{SoFar, so_far_more}
 use Rattle.krl.proofs.reader.read_sections.Goals as goal
 
@@ -9,7 +9,7 @@ loop-cursor-preserved c =
     let test = section_revokes c.args.blob.now c.args.serial c.args.key_id.now in
     record {
       bytes_left =
-          suffix_bytes c.loop-cursor.cursor
+          IsBytes_left c.loop-cursor.cursor
           (section_text section.0) c.read_section.new.cursor c.loop-cursor.invariant.bytes_left section.2;
       so_far =
           subst (λ (b : Bool). SoFar section_text IsReadSection test c.args.cursor.now c.read_section.new.cursor

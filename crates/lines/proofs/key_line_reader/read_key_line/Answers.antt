@@ -1,5 +1,5 @@
 use Rattle.std.proofs.Common.{arith}
-use Rattle.base64.specs.GeneralPurpose.{IsBytes}
+use Rattle.text.specs.Bytes.{IsBytes}
 use Rattle.lines.proofs.KeyLineLaws.{found_from}
 use Rattle.lines.proofs.KeyLineAnswers.{answered_from, fault_from, only_from}
 use Rattle.lines.proofs.key_line_reader.read_key_line.Goals as goal
