@@ -10,7 +10,8 @@ use Rattle.std.proofs.Common.{IfOk, IfErr}
 use Rattle.std.proofs.lemmas.Bool.{false_from_ne_true}
 use Rattle.cert.specs.Reading.{body_at}
 use Rattle.cert.specs.declared.cert_fault.CertFault.TheVariants as fault
-use Rattle.cert.proofs.NestedLaws.{IsBytes_string, empty, principals_found}
+use Rattle.lines.proofs.Strings.{IsBytes_string, empty}
+use Rattle.cert.proofs.NestedLaws.{principals_found}
 use Rattle.text.proofs.ByteLemmas.{IsBytes_left}
 use Rattle.cert.proofs.OptionLaws.{options_of_found}
 use Rattle.cert.proofs.Tails

@@ -12,7 +12,8 @@ use Rattle.cert.proofs.Words.{u64_text, w32, w64, wide32, wide64, ℕ, ◌++◌,
 use Rattle.wire.proofs.Laws.{number_takes}
 use Rattle.cert.specs.Reading.{body_at}
 use Rattle.cert.specs.declared.cert_fault.CertFault.TheVariants as fault
-use Rattle.cert.proofs.NestedLaws.{empty, IsBytes_string, principals_found, principals_again}
+use Rattle.lines.proofs.Strings.{IsBytes_string, empty}
+use Rattle.cert.proofs.NestedLaws.{principals_found, principals_again}
 use Rattle.text.proofs.ByteLemmas.{IsBytes_left}
 use Rattle.cert.proofs.OptionLaws.{options_of_found, options_of_again}
 use Rattle.cert.proofs.Tails

@@ -5,21 +5,16 @@ use Rattle.cert.proofs.Words.{codes, cond, eqb, eqb-true, false, flat_map, is_co
 use Rattle.cert.proofs.Words.{is_option_value, is_principal, leb, leb-true, length, list_all, option_and_then}
 use Rattle.cert.proofs.Words.{option_and_then_some, option_data, option_map, option_text, pair_at, pair_of}
 use Rattle.cert.proofs.Words.{principals_of, principals_text, refl, same_Some, string_again, string_at, string_takes}
-use Rattle.cert.proofs.Words.{string_text, strings_within, subst, suc, sym, true, u32_text, zero, ℕ, ◌&&◌, ◌++◌, ◌+◌}
+use Rattle.cert.proofs.Words.{string_text, strings_within, subst, suc, sym, true, zero, ℕ, ◌&&◌, ◌++◌, ◌+◌}
 use Rattle.cert.proofs.Words.{◌<◌, ◌^◌, ◌∙◌, ◌∷◌, ◌≡◌, ◌≤◌}
 use Rattle.std.proofs.lemmas.Bool.{cond-true, le-leb}
-use Rattle.text.proofs.ByteLemmas.{IsBytes_front, IsBytes_left}
+use Rattle.text.proofs.ByteLemmas.{IsBytes_left}
 use Rattle.values.specs.Lists.{are_distinct}
 use Rattle.cert.specs.Reading.{value_of}
+use Rattle.lines.proofs.Strings.{IsBytes_string, empty}
 use Rattle.cert.proofs.Sizes.{principal-le}
 
 -- ---- steps
-
--- a string at the front of bytes is a list of bytes
-pub IsBytes_string : (bytes s rest : List ℕ) → bytes ≡ string_text s ++ rest → IsBytes bytes → IsBytes s
-IsBytes_string bytes s rest e h =
-    IsBytes_front s rest (IsBytes_left bytes (u32_text (length s)) (s ++ rest) h (e
-    ∙ append_assoc (u32_text (length s)) s rest))
 
 -- a result that passed a test
 pub cond_is : {A : Type 0} (b : Bool) (o : Option A) (y : A) → cond b o None ≡ Some y → (b ≡ true) × (o ≡ Some y)
@@ -132,11 +127,6 @@ flag_value name value flag h =
     by false true last e f h g = absurd (no_flag (codes "source-address") refl ((bytes_eq-Decides name
         (codes "source-address")).0 f))
     by false false last e f h g = g h
-
--- a text of length 0 is empty
-pub empty : (t : List ℕ) → eqb (length t) 0 ≡ true → t ≡ []
-empty [] e = refl
-empty (b ∷ t) e = absurd (omega (arith, eqb-true _ _ e))
 
 -- the data of an option is that of the value that was read from it
 value_found : (name inner value : List ℕ) → IsBytes inner → value_of name inner ≡ Some value

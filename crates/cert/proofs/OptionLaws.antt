@@ -6,7 +6,8 @@ use Rattle.cert.proofs.Words.{option_map, option_text, options_of, options_text,
 use Rattle.cert.proofs.Words.{same_Some, subst, suc, sym, true, zero, ℕ, ◌&&◌, ◌++◌, ◌∙◌, ◌∷◌, ◌≡◌, ◌≤◌}
 use Rattle.cert.proofs.Listing.{all_later}
 use Rattle.cert.proofs.Sizes.{name-le, value-le, options-few}
-use Rattle.cert.proofs.NestedLaws.{cond_is, map_is, flag_value, empty, pair_found, pair_again}
+use Rattle.lines.proofs.Strings.{empty}
+use Rattle.cert.proofs.NestedLaws.{cond_is, map_is, flag_value, pair_found, pair_again}
 use Rattle.text.proofs.ByteLemmas.{IsBytes_left}
 
 -- ---- options

@@ -8,3 +8,6 @@ pub mod KeyLineLaws
 pub mod KeyLineAnswers
 pub mod Pieces
 pub mod Examples
+pub mod Strings
+pub mod Subjects
+pub mod SubjectLineLaws

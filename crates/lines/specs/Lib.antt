@@ -5,3 +5,5 @@ pub mod Digests
 pub mod CertLines
 pub mod Signers
 pub mod Writing
+pub mod Subjects
+pub mod SubjectLines

@@ -1,4 +1,6 @@
-//! Allowed signers whose writer fails.
+//! Allowed signers whose writer fails, and public-key lines of all types.
+
+mod subjects;
 
 use lines::{OutFault, SignerRow, write_signers};
 use std::alloc::Global;

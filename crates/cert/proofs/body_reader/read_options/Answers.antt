@@ -1,5 +1,5 @@
-use Rattle.cert.proofs.Words.{CertFault, Kind, List, None, Ok, Option, OptionField, Pair, Some, ap, is_ascending, or_fault}
-use Rattle.cert.proofs.Words.{options_of, subst, true, ℕ, ◌≡◌}
+use Rattle.cert.proofs.Words.{CertFault, List, None, Ok, Option, Pair, Some, ap, or_fault}
+use Rattle.cert.proofs.Words.{◌≡◌}
 use Rattle.cert.proofs.OptionLaws.{options_of_ascend}
 use Rattle.cert.proofs.body_reader.read_options.Goals as goal
 
