@@ -327,12 +327,12 @@ def test_a_silent_name_server_is_given_up(room, line):
     assert 1 == len(client.kept())
 
 
-@pytest.mark.parametrize("host, due", [("localhost", 0), ("name.invalid", 3)])
-def test_a_name_is_looked_up(room, line, host, due):
+def test_a_name_is_looked_up(room, line):
     with Office(line.read_bytes()) as office:
-        status, _, told = Client(room / "home", f"http://{host}:{office.port}")("--wait", "1", "status")
-    assert due == status, told
-    assert not due or f"the name {host} has no address" in told
+        client = Client(room / "home", f"http://localhost:{office.port}")
+        assert 0 == client("status")[0]
+        status, _, told = client("--wait", "1", "--office", "https://name.invalid", "status")
+    assert 3 == status and "the name name.invalid has no address" in told
 
 
 # ---- pages that an office may give, as long as they may be

@@ -1017,8 +1017,9 @@ def test_root_may_give_a_service_a_secret_by_its_group(room, monkeypatch, owner,
     station = loaded(PROGRAMS / "station/station")
     write_secret("secret", "")
     found = os.stat_result([stat.S_IFREG | mode, 0, 0, 1, owner, owner, *[0] * 4])
-    monkeypatch.setattr(station.os, "stat", lambda path: found)
-    monkeypatch.setattr(station.os, "getuid", lambda: user)
+    # Only this module's own: pytest asks for files too.
+    monkeypatch.setattr(station, "os", types.SimpleNamespace(**vars(os) | {
+        "stat": lambda path: found, "getuid": lambda: user}))
     with contextlib.nullcontext() if is_taken else pytest.raises(station.Fault, match="lets others use it"):
         station.check_secret("secret")
 

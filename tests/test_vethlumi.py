@@ -523,7 +523,7 @@ def test_a_rollover(clients, room):
 def test_doctor_finds_what_is_well_and_what_is_not(clients, signed, front, served):
     root = clients["root"]
     assert 0 == root("list", "--out", "list")[0]
-    settle_sshd(root, TrustedUserCAKeys=signed, RevokedKeys=pathlib.Path("list").absolute())
+    settle(root, "sshd", TrustedUserCAKeys=signed, RevokedKeys=pathlib.Path("list").absolute())
     found = {it["what"]: it for it in root.json("doctor")}
     for what in ("front's certificate", "client's certificate", "clock", "office", "list here", "signing station",
                  "sshd TrustedUserCAKeys", "sshd RevokedKeys"):
@@ -552,9 +552,9 @@ def test_doctor_looks_at_the_statement_of_the_list(clients, digest, age, state, 
     assert state == it["state"] and it["found"].startswith(found)
 
 
-def settle_sshd(client, **settings):
-    """Has `sshd -T` print these settings."""
-    file = client.home / "bin/sshd"
+def settle(client, program, **settings):
+    """Has `sshd -T` or `ssh -G` print these settings."""
+    file = client.home / "bin" / program
     file.parent.mkdir(exist_ok=True)
     lines = "".join(f"echo {name.lower()} {value}\n" for name, value in settings.items())
     file.write_text(f"#!/bin/sh\n{lines}")
@@ -568,10 +568,32 @@ def settle_sshd(client, **settings):
      {"sshd TrustedUserCAKeys": "bad", "sshd RevokedKeys": "bad"}),
 ])
 def test_doctor_looks_at_the_settings_of_sshd(clients, settings, due):
-    settle_sshd(clients["root"], **settings)
+    settle(clients["root"], "sshd", **settings)
     _, out, _ = clients["root"]("doctor", "--json")
     found = {it["what"]: it["state"] for it in map(json.loads, out.splitlines())}
     assert due == {name: state for name, state in found.items() if name.startswith("sshd")}
+
+
+@pytest.mark.parametrize("file, age, due", [(None, 0, None), ("none", 0, None), ("list", 60, "ok"),
+                                            ("list", 7200, "bad"), ("missing", 0, "bad")])
+def test_doctor_looks_at_the_list_by_which_ssh_refuses_hosts(clients, file, age, due):
+    """On a machine without a server, too. Once nothing fetches it any more it grows old."""
+    root = clients["root"]
+    settle(root, "sshd")
+    settle(root, "ssh", **{} if file is None else {
+        "RevokedHostKeys": file if file == "none" else pathlib.Path(file).absolute()})
+    assert 0 == root("list", "--out", "list")[0]
+    os.utime("list", (time.time() - age,) * 2)
+    told = [json.loads(it) for it in root("doctor", "--json")[1].splitlines()]
+    assert [due] * bool(due) == [it["state"] for it in told if it["what"] == "list here"]
+
+
+def test_a_list_that_ssh_and_sshd_read_is_looked_at_once(clients):
+    root = clients["root"]
+    assert 0 == root("list", "--out", "list")[0]
+    settle(root, "sshd", TrustedUserCAKeys="list", RevokedKeys=pathlib.Path("list").absolute())
+    settle(root, "ssh", RevokedHostKeys=pathlib.Path("list").absolute())
+    assert 1 == root("doctor", "--json")[1].count('"list here"')
 
 
 # ---- whose settings and whose outbox
@@ -656,6 +678,8 @@ def test_bad_words_end_with_2(clients, alice, words, told):
     ('office = "http://127.0.0.1:65536"\n', "is no URL with"), ('office = "http://:1"\n', "is no URL with"),
     ('office = "http://127.0.0.1:a"\n', "is no URL with"), ('office = "http://[::1"\n', "is no URL with"),
     ('office = "http://a b"\n', "is no URL with"), ('office = "http://a\\u001bb"\n', "is no URL with"),
+    *((f'office = "http://{it}"\n', "http is only for an office on this machine") for it in (
+        "office.example.org", "127.0.0.1.example.org:80", "localhost.example.org", "[::2]:1", "128.0.0.1")),
 ])
 def test_bad_settings_end_with_2(room, settings, told):
     client = Client(room / "home", "")

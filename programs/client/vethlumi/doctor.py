@@ -112,10 +112,10 @@ def office_findings(job, within):
             ok("certificates", f"{soon} end soon: vethlumi certs --ends-within TIME")]
 
 
-def sshd_settings():
-    """What sshd -T prints, as a dictionary; None where sshd isn't here or this user may not ask."""
+def settings_of(*words):
+    """What `sshd -T` or `ssh -G` prints, as a dictionary; None where it isn't here or this user may not ask."""
     try:
-        done = subprocess.run(["sshd", "-T"], capture_output=True, text=True, timeout=10,
+        done = subprocess.run(words, capture_output=True, text=True, timeout=10,
                               env=os.environ | {"PATH": f"{os.environ.get('PATH', '')}:/usr/sbin:/sbin"})
     except (OSError, subprocess.TimeoutExpired):
         return None
@@ -123,17 +123,20 @@ def sshd_settings():
     return None if done.returncode else found
 
 
-def sshd_findings(job, krl, fresh):
-    settings = sshd_settings()
+def ssh_findings(job, krl, fresh):
+    """The settings of sshd, and the lists by which sshd and ssh refuse keys here."""
+    settings = settings_of("sshd", "-T")
     if settings is None:
         found = [ok("sshd", "not looked at: it isn't here, or only root may ask it")]
     elif settings.get("trustedusercakeys", "none") == "none" and not krl:
-        found = [ok("sshd", "trusts no CA for users")]
+        found, settings = [ok("sshd", "trusts no CA for users")], None
     else:
         found = [server_setting(settings, "trustedusercakeys", "TrustedUserCAKeys"),
                  server_setting(settings, "revokedkeys", "RevokedKeys")]
-        krl = krl or settings.get("revokedkeys", "none")
-    return found + (list_findings(job, krl, fresh) if krl and krl != "none" else [])
+    of_sshd = krl or (settings or {}).get("revokedkeys", "none")
+    of_ssh = (settings_of("ssh", "-G", "any.host") or {}).get("revokedhostkeys", "none")
+    return found + [it for file in dict.fromkeys([of_sshd, of_ssh]) if file != "none"
+                    for it in list_findings(job, file, fresh)]
 
 
 def server_setting(settings, name, word):
@@ -199,4 +202,4 @@ def findings(job, within, krl, fresh):
     except BadSettings as fault:
         return [Finding("bad", "settings", str(fault), "")]
     return [*front_findings(job, within), *clock_finding(job), *office_findings(job, within),
-            *sshd_findings(job, krl, fresh), *local_findings(within)]
+            *ssh_findings(job, krl, fresh), *local_findings(within)]

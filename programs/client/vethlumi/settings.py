@@ -1,6 +1,7 @@
 """Settings: where the office is, and who asks. Options of the command line override those of a TOML file."""
 import os
 import pathlib
+import re
 import tomllib
 import urllib.parse
 from dataclasses import dataclass, fields
@@ -10,6 +11,8 @@ from vethlumi import files
 # The statuses with which a command ends, beside 0.
 REFUSED, BAD_WORDS, NO_ANSWER, NOT_SIGNED = 1, 2, 3, 4
 FILES = ("~/.config/vethlumi.toml", "/etc/vethlumi/client.toml")
+# By http, an office on another machine could be anybody on the way to it.
+LOCAL = re.compile(r"localhost|127(\.[0-9]{1,3}){3}|::1", re.ASCII)
 
 
 class BadSettings(Exception):
@@ -38,6 +41,8 @@ class Settings:
             is_url = False
         if not is_url or not self.office.isprintable() or " " in self.office:
             raise BadSettings(f"{self.office!r} is no URL with a host's name, and a port if there is a colon")
+        if found.scheme == "http" and not LOCAL.fullmatch(found.hostname):
+            raise BadSettings(f"{self.office!r}: http is only for an office on this machine")
         return self.office.rstrip("/")
 
     def file(self, name):
