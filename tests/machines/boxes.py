@@ -1,8 +1,8 @@
 #!/usr/bin/python3
 """Boxes: machines of Debian 12, each with a systemd of its own, for tests of units and of pages.
 
-    tests/machines/boxes.py prepare           makes the folder that every box starts from, unless it is there. This takes
-                                              some minutes
+    tests/machines/boxes.py prepare           makes the folder that every box starts from, unless it is there. This
+                                              takes some minutes
     tests/machines/boxes.py prepare volume    makes that of boxes with a volume, too
     tests/machines/boxes.py folder            prints where the first is: $OFFICE_BOXES, or /var/cache/sshoffice-boxes
 
