@@ -588,6 +588,18 @@ def test_doctor_looks_at_the_list_by_which_ssh_refuses_hosts(clients, file, age,
     assert [due] * bool(due) == [it["state"] for it in told if it["what"] == "list here"]
 
 
+@pytest.mark.parametrize("what", ["list", "list.statement"])
+@pytest.mark.parametrize("put", ["mkfifo {0}", "mkdir {0}", "truncate -s 33554433 {0}", "ln -s /dev/zero {0}"])
+def test_doctor_waits_for_no_list_that_the_user_who_fetches_has_spoilt(clients, what, put):
+    """Root may be the one who types it."""
+    root = clients["root"]
+    assert 0 == root("list", "--out", "list")[0]
+    run(["sh", "-c", f"rm -f {what}; {put.format(what)}"], check=True)
+    told = {it["what"]: it for it in map(json.loads, root("doctor", "--krl", "list", "--json")[1].splitlines())}
+    found = told["list here" if what == "list" else "list's statement"]
+    assert "bad" == found["state"] and "is no file of at most " in found["found"]
+
+
 def test_a_list_that_ssh_and_sshd_read_is_looked_at_once(clients):
     root = clients["root"]
     assert 0 == root("list", "--out", "list")[0]

@@ -7,13 +7,14 @@ import os
 import re
 import socket
 import ssl
+import stat
 import subprocess
 import time
 import urllib.parse
 
 from vethlumi import formats, lists
 from vethlumi.formats import BadFormat, Certificate
-from vethlumi.office import NoAnswer, at_most
+from vethlumi.office import LONGEST_ANSWER, LONGEST_LIST, NoAnswer, at_most
 from vethlumi.refusals import Refused
 from vethlumi.settings import BadSettings
 
@@ -148,11 +149,24 @@ def server_setting(settings, name, word):
     return ok(f"sshd {word}", value)
 
 
+def read_whole(path, longest):
+    """The bytes of a file that the user who fetches may have put there, and when it was changed: nobody is waited for
+    at the other end of a pipe."""
+    handle = os.open(path, os.O_RDONLY | os.O_NONBLOCK | os.O_NOCTTY | os.O_CLOEXEC)
+    try:
+        found = os.fstat(handle)
+        if not stat.S_ISREG(found.st_mode) or found.st_size > longest:
+            raise BadFormat(f"{path} is no file of at most {longest} bytes")
+        with open(handle, "rb", closefd=False) as it:
+            return it.read(longest), found.st_mtime
+    finally:
+        os.close(handle)
+
+
 def list_findings(job, krl, fresh):
     try:
-        with open(krl, "rb") as it:
-            data = it.read()
-        here, age = lists.RevocationList.of(data), time.time() - os.stat(krl).st_mtime
+        data, changed = read_whole(krl, LONGEST_LIST)
+        here, age = lists.RevocationList.of(data), time.time() - changed
     except (OSError, BadFormat) as fault:
         return [Finding("bad", "list here", str(fault), "fetch it: fetch-list")]
     text = f"version {here.version}, fetched {round(age)} s ago"
@@ -171,10 +185,11 @@ def list_findings(job, krl, fresh):
 def statement_finding(path, data, fresh):
     """The station's statement of the list, which fetch-list keeps beside it once its signature was verified."""
     try:
-        with open(path, "rb") as it:
-            stated = STATEMENT.match(it.read())
+        stated = STATEMENT.match(read_whole(path, LONGEST_ANSWER)[0])
     except OSError:
         return Finding("warn", "list's statement", "there is none", "have the station publish lists")
+    except BadFormat as fault:
+        return Finding("bad", "list's statement", str(fault), "fetch it: fetch-list")
     if not stated or stated[1].decode() != hashlib.sha256(data).hexdigest():
         return Finding("bad", "list's statement", "is of another list", "fetch it: fetch-list")
     age = round(time.time() - int(stated[2]))
