@@ -118,6 +118,50 @@ def test_the_example_of_a_server(founded, example, program, programs):
     assert (b"", b"", 0) == (*server.communicate(timeout=60), server.returncode)
 
 
+# ---- numbers
+
+# A number in a help text, and where docs/FORMATS.md has it: the program, the command, and a pattern for either text.
+STATED = [
+    ("program", "init", r"The last serial, at most (\d+)", r"first <= last <= (\d+) "),
+    ("program", "serve", r"How many connections to serve, 1 to (\d+)", r"serves 1 to (\d+) connections"),
+    ("program", "serve", r"The file of nonces, (\d+) bytes per connection", r"nonces are (\d+) bytes of the file"),
+    ("program", "check", r"The certificate's serial, 1 to (\d+)", r"The serial is 1 to (\d+) "),
+    ("sshstation", "init", r"The last serial, at most (\d+)", r"first <= last <= (\d+); of `retire`"),
+    ("sshstation", "judge", r"\[default: (\d+)\]", r"`--ahead` is 0 to \d+, and (\d+) by default"),
+]
+
+# The words of a command with a number that it takes up to a limit, and what it says of the next number.
+TAKEN = [
+    ("check --ca none list {} web/alice", 18446744073709551615, 2),
+    ("serve --db none --port 0 --nonces /dev/null --connections {}", 1000000, 2),
+    ("serve --db none --nonces /dev/null --connections 1 --port {}", 65535, 2),
+    ("init --db none/office.db --ca ca.pub --root root --station station --first 1 --last {}", 9223372036854775806, 1),
+]
+
+
+@pytest.mark.parametrize(("name", "command", "helped", "written"), STATED)
+def test_help_and_formats_state_the_same_number(request, name, command, helped, written):
+    text = run([request.getfixturevalue(name), command, "--help"]).stdout.decode()
+    numbers = re.findall(helped, text), re.findall(written, (TOP / "docs/FORMATS.md").read_text())
+    assert ([numbers[0][0]], [numbers[1][0]]) == numbers
+    assert numbers[0] == numbers[1]
+
+
+@pytest.mark.parametrize(("words", "most", "status"), TAKEN)
+def test_a_number_that_help_states_is_the_last_that_is_taken(program, room, words, most, status):
+    """What isn't there then is another fault. The number after it is a mistake, or of `init` the fault `BadSerials`."""
+    (room / "ca.pub").write_text(f"{CA} office\n")
+    bad = "sshoffice: BadSerials\n" if status == 1 else f"invalid value '{most + 1}'"
+    (taken, _, first), (refused, _, after) = (said([program, *words.format(it).split()]) for it in (most, most + 1))
+    assert (1, False) == (taken, bad in first.decode()), first
+    assert (status, True) == (refused, bad in after.decode()), after
+
+
+def test_the_last_serial_before_a_rollover_is_one_less(sshstation):
+    text = run([sshstation, "retire", "--help"]).stdout.decode()
+    assert "After a rollover, the last serial is the new CA's first serial minus one." in text
+
+
 def test_the_version_names_a_toolchain_that_readme_names(program):
     """Another toolchain on this machine is no failure."""
     status, out, err = said([program, "--version"])

@@ -102,6 +102,9 @@ def test_at_the_last_version_of_the_list(top):
     sql(top.db, f"UPDATE office SET version = {SECOND}")
     assert f"revoked\nversion {SECOND}" == told(top, "c", revoke_serial(SECOND)), "it is revoked already"
     assert "fault" == told(top, "d", revoke_keyid("web/alice")), "it would change the list"
+    sql(top.db, f"UPDATE office SET version = {FIRST}")
+    assert f"revoked\nversion {SECOND}" == told(top, "d", revoke_keyid("web/alice")), "one change is left"
+    assert "fault" == told(top, "e", revoke_keyid("web/bob"))
 
 
 def test_an_office_of_another_schema_or_none(top):
