@@ -25,6 +25,7 @@ import pytest
 import boxes
 import pages
 from lists import published
+from releasing import packed
 from running import PROGRAMS, TOP, command, left_out, loaded, run
 
 PAGE = TOP / "docs/INSTALLING.md"
@@ -60,14 +61,6 @@ def shared(tmp_path_factory, name):
         yield common / name
 
 
-def make(out, program, sshstation):
-    if not shutil.which("dh"):
-        left_out("debhelper isn't installed")
-    made = run([TOP / "package", "--out", out, "--sshoffice", program, "--sshstation", sshstation], timeout=800)
-    assert 0 == made.returncode, made.stderr.decode()
-    return [pathlib.Path(it) for it in made.stdout.decode().split()]
-
-
 @pytest.fixture(scope="session")
 def packages(program, sshstation, tmp_path_factory):
     """The files of the packages, those of a lower version of the same programs among them."""
@@ -75,8 +68,9 @@ def packages(program, sshstation, tmp_path_factory):
         if not folder.exists():
             new = folder.with_name("packages.new")
             shutil.rmtree(new, ignore_errors=True)
-            for it in make(new, program, sshstation):
-                make_older(it)
+            for name, it in packed(new, program, sshstation).items():
+                if name.endswith(".deb"):
+                    make_older(it)
             new.rename(folder)
     return folder
 
@@ -125,14 +119,12 @@ def test_lintian_finds_nothing(packages):
 
 @marked(pytest.mark.slow)
 def test_two_builds_of_one_program_give_the_same_bytes(packages, program, sshstation, room):
-    os.umask(0o077)
-    try:
-        again = make(room / "again", program, sshstation)
-    finally:
-        os.umask(0o022)
-    assert {it.name for it in again} == {of(packages, it).name for it in NAMES}
-    digests = {it.name: hashlib.sha256(it.read_bytes()).hexdigest() for it in again}
-    assert digests == {it.name: hashlib.sha256((packages / it.name).read_bytes()).hexdigest() for it in again}
+    """test_releasing.py has more that may differ, with files that stand for the programs."""
+    again = packed(room / "again", program, sshstation, umask=0o077)
+    again = {name: it for name, it in again.items() if not name.endswith(".buildinfo")}
+    assert {of(packages, it).name for it in NAMES} == {it for it in again if it.endswith(".deb")}
+    digests = {name: hashlib.sha256(it.read_bytes()).hexdigest() for name, it in again.items()}
+    assert digests == {name: hashlib.sha256((packages / name).read_bytes()).hexdigest() for name in again}
 
 
 def test_the_packages_have_the_programs_as_they_were_built(unpacked, program, sshstation):
@@ -1845,7 +1837,7 @@ def test_what_is_not_installed(installing, words, answers, why):
 # What ours depend on, and the folder in which apt has it.
 ARCHIVES = "var/cache/apt/archives"
 NEEDED = """python3-click python3-rich nginx curl sqlite3 openssl logrotate openssh-client python3-requests
-python3-cryptography""".split()
+python3-cryptography python3-platformdirs""".split()
 FETCH = """set -e
 mount --make-rprivate /
 mount -t tmpfs -o mode=755 room "$2"

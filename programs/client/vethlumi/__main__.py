@@ -1,5 +1,18 @@
 """`python3 -m vethlumi` runs the command line: each module adds its commands to `main`."""
-from vethlumi import certificates, departments, reports, revocations  # noqa: F401
-from vethlumi.cli import main
+import os
+import sys
 
-main(prog_name="vethlumi")
+if os.name != "posix":
+    # Whether others can write a file, and when a wait is over, it asks the system in POSIX' way.
+    sys.exit("vethlumi: needs a POSIX system, such as Linux or macOS. On Windows, install it in WSL")
+
+from vethlumi import certificates, departments, reports, revocations  # noqa: E402, F401
+from vethlumi.cli import main  # noqa: E402
+
+
+def run():
+    main(prog_name="vethlumi")
+
+
+if __name__ == "__main__":
+    run()

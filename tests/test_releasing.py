@@ -1,0 +1,213 @@
+"""A release: that the same sources give the same bytes, the list of its parts, the apt repository and the wheel.
+
+These tests need no built program: files stand for the programs. machines/test_packages.py has the packages of the real
+ones."""
+import hashlib
+import json
+import os
+import pathlib
+import re
+import shutil
+import tempfile
+
+import pytest
+
+from releasing import copy_sources, packed, stand_ins
+from running import TOP, left_out, loaded, run
+
+VERSION = "1.0.0"
+WHEEL = f"vethlumi-{VERSION}-py3-none-any.whl"
+BILL = f"vethlumi_{VERSION}.cdx.json"
+
+
+@pytest.fixture(scope="module")
+def programs_(tmp_path_factory):
+    return stand_ins(tmp_path_factory.mktemp("built") / "programs")
+
+
+@pytest.fixture(scope="module")
+def release(programs_, tmp_path_factory):
+    """The files of a release, by their names."""
+    return packed(tmp_path_factory.mktemp("release"), *programs_)
+
+
+def sums(files):
+    """The SHA-256 of all but the buildinfo, which says when and where they were built."""
+    return {name: hashlib.sha256(it.read_bytes()).hexdigest() for name, it in files.items()
+            if not name.endswith(".buildinfo")}
+
+
+# ---- the same bytes
+
+# What else may differ from one machine to another. dpkg compresses less if the last one has its way.
+ELSEWHERE = {"TZ": "Asia/Tokyo", "LC_ALL": "C", "LANG": "de_DE.UTF-8", "COLUMNS": "40", "PYTHONHASHSEED": "7",
+             "DEB_BUILD_OPTIONS": "parallel=1", "DEB_VENDOR": "Ubuntu", "DPKG_DEB_COMPRESSOR_LEVEL": "1"}
+LATER = {"FAKETIME": "+1500d"}
+
+
+@pytest.fixture
+def elsewhere():
+    """A folder of another user, if this is root."""
+    with tempfile.TemporaryDirectory(prefix="another place ") as folder:
+        if os.getuid() == 0:
+            os.chown(folder, 65534, 65534)
+        yield pathlib.Path(folder)
+
+
+@pytest.mark.slow
+def test_the_same_sources_give_the_same_bytes(release, elsewhere):
+    """In another folder, years later, under another umask, in another language and time zone, on one processor, and for
+    another user."""
+    user = {"user": 65534, "group": 65534, "extra_groups": []} if os.getuid() == 0 else {}
+    copy, programs = copy_sources(elsewhere / "sources"), stand_ins(elsewhere / "programs")
+    # In the copy alone the clock is another one too: nothing else gets into its environment.
+    text, only = (copy / "package").read_text(), "env -i "
+    clock = " ".join(f"{name}='{value}'" for name, value in (LATER | faketime()).items())
+    assert 1 == text.count(only)
+    (copy / "package").write_text(text.replace(only, f"{only}{clock} "))
+    again = packed(elsewhere / "out", *programs, top=copy, umask=0o077, env=os.environ | ELSEWHERE, cwd=elsewhere,
+                   before=["taskset", "-c", str(min(os.sched_getaffinity(0)))], **user)
+    assert {*release} == {*again}
+    differing = sorted(name for name, it in sums(release).items() if it != sums(again)[name])
+    assert [] == differing, [explained(release[it], again[it]) for it in differing]
+    buildinfo, = [it for it in again if it.endswith(".buildinfo")]
+    lines = [it for it in again[buildinfo].read_text().splitlines()
+             if it not in release[buildinfo].read_text().splitlines()]
+    assert ["Build-Date"] == [it.partition(":")[0] for it in lines]
+    year = int(run(["date", "+%Y"]).stdout)
+    assert re.search(rf" ({year + 4}|{year + 5}) ", lines[0])
+
+
+def faketime():
+    """The variable by which programs see another clock."""
+    if not shutil.which("faketime"):
+        left_out("faketime isn't installed")
+    found = run(["faketime", "2001-01-01", "printenv", "LD_PRELOAD"], check=True).stdout.decode().strip()
+    return {"LD_PRELOAD": found}
+
+
+def explained(one, two):
+    """Where two files differ, if diffoscope is there to say it."""
+    if not shutil.which("diffoscope"):
+        return f"{one} {two}"
+    return run(["diffoscope", "--max-report-size", "3000", one, two]).stdout.decode()
+
+
+def test_the_time_in_a_release_is_that_of_its_changelog(release):
+    """2026-11-28, by the last line of its entry."""
+    moments = run(["date", "-d", re.search(r"^ -- .*>  (.*)$", (TOP / "debian/changelog").read_text(), re.M)[1], "+%s"])
+    due = int(moments.stdout)
+    times = run(["dpkg-deb", "--fsys-tarfile", release[f"vethlumi-client_{VERSION}_all.deb"]], check=True).stdout
+    listed = run(["tar", "-tv", "--utc", "--full-time"], input=times, stdin=None, check=True).stdout.decode()
+    assert {run(["date", "-u", "-d", f"@{due}", "+%F %T"]).stdout.decode().strip()} == {
+        " ".join(it.split()[3:5]) for it in listed.splitlines()}
+    assert json.loads(release[BILL].read_text())["metadata"]["timestamp"] == (
+        run(["date", "-u", "-d", f"@{due}", "+%FT%TZ"]).stdout.decode().strip())
+
+
+@pytest.mark.parametrize("name", ["sshoffice", "sshstation"])
+def test_linking_twice_gives_the_same_program(program, sshstation, room, name):
+    """Of each object file that was compiled, by whichever compiler, in two folders and at two times. The built program
+    is one of those, unless an option names another."""
+    objects = sorted((TOP / f"crates/{name}/out").glob(f"{name}*.o"))
+    if not objects:
+        left_out(f"{name} wasn't compiled here")
+    rattle = loaded(TOP / "tools/toolchain.py").load().rtlib.KIT
+    made = []
+    for number, it in enumerate(objects):
+        linked = [link(rattle, it, room / place / str(number)) for place in ("one", "another/place")]
+        assert linked[0] == linked[1]
+        made += linked
+    built = {"sshoffice": program, "sshstation": sshstation}[name]
+    assert built.parent != TOP / f"crates/{name}/out" or built.read_bytes() in made
+
+
+def link(rattle, file, folder):
+    folder.mkdir(parents=True)
+    shutil.copy(file, folder / "a.o")
+    words = [f"{rattle}/bin/rattle-link", "--target", "x86_64-unknown-linux-gnu", "--toolchain", f"{rattle}/toolchain",
+             "-o", "made", "a.o", f"{rattle}/c/libos_c.a", f"{rattle}/c/liblibc_c.a"]
+    done = run(words, cwd=folder)
+    assert 0 == done.returncode, done.stderr.decode()
+    return (folder / "made").read_bytes()
+
+
+# ---- the list of its parts
+
+def bill_of(release):
+    """Its components and what each depends on, by their references."""
+    found = json.loads(release[BILL].read_text())
+    return found, {it["bom-ref"]: it for it in found["components"]}, {
+        it["ref"]: it["dependsOn"] for it in found["dependencies"]}
+
+
+def test_the_list_of_parts_has_each_file_with_its_sum(release):
+    """As sha256sum prints it."""
+    found, components, needs = bill_of(release)
+    listed = {it["hashes"][0]["content"]: ref for ref, it in components.items() if "hashes" in it}
+    files = [it for name, it in release.items() if name.endswith((".deb", ".whl"))]
+    assert len(files) > 4
+    for it in files:
+        digest = run(["sha256sum", it], check=True).stdout.decode().split()[0]
+        assert listed[digest] in needs["vethlumi"]
+    assert len(needs["vethlumi"]) == len(files)
+    assert {VERSION} == {components[it]["version"] for it in needs["vethlumi"]}
+
+
+def test_the_list_of_parts_is_of_the_form_cyclonedx(release):
+    """Of its specification 1.5: what is required, and references that exist and occur once."""
+    found, components, needs = bill_of(release)
+    assert ("CycloneDX", "1.5", 1) == (found["bomFormat"], found["specVersion"], found["version"])
+    assert re.fullmatch(r"urn:uuid:[0-9a-f]{8}(-[0-9a-f]{4}){3}-[0-9a-f]{12}", found["serialNumber"])
+    assert len(components) == len(found["components"])
+    assert {*needs} == {*components, found["metadata"]["component"]["bom-ref"]}
+    for ref, names in needs.items():
+        assert [] == sorted(it for it in names if it not in components) and len(names) == len({*names}), ref
+    for it in components.values():
+        assert it["type"] in ("application", "library") and it["name"]
+
+
+def test_the_list_of_parts_has_what_each_package_depends_on(release):
+    """As dpkg-deb prints it."""
+    _, components, needs = bill_of(release)
+    for name, file in release.items():
+        if name.endswith(".deb"):
+            ref, = [it for it in components if it.startswith(f"pkg:deb/vethlumi/{name.split('_')[0]}@")]
+            depends = run(["dpkg-deb", "-f", file, "Depends"], check=True).stdout.decode()
+            due = {*re.findall(r"(?:^|[,|]) *([a-z0-9.+-]+)", depends)}
+            assert due == {components[it]["name"] for it in needs[ref]} - {"sshoffice", "sshstation"}, name
+    wheel, = [it for it in components if it.startswith("pkg:generic/")]
+    assert {"click", "platformdirs", "requests", "rich"} == {components[it]["name"] for it in needs[wheel]}
+
+
+def test_the_list_of_parts_has_the_programs_in_their_packages(release):
+    _, _, needs = bill_of(release)
+    for name, package in (("sshoffice", "vethlumi-office"), ("sshstation", "vethlumi-station")):
+        assert [package] == [re.match("pkg:deb/vethlumi/(.*)@", ref)[1] for ref, it in needs.items()
+                             if f"program/{name}" in it]
+
+
+CRATES = "# A comment.\na:\nb: a sha2\nc: b\nd: c a sha2 clap\nalone: hex\n"
+
+
+def test_the_list_of_parts_has_all_crates_below_a_program(room):
+    """Each with what it names itself, and none that no program needs."""
+    sbom = loaded(TOP / "tools/sbom")
+    (room / "d").write_bytes(b"\0rattle logic=" + b"1" * 64 + b" built: backend=rattle compiler=" + b"2" * 64 + b" a\0")
+    bill = sbom.Bill("1")
+    sbom.add_program(bill, sbom.crates_of(CRATES), str(room / "d"))
+    ours, theirs = {f"crate/{it}" for it in "abc"}, {"rattle/sha2", "rattle/clap"}
+    assert {"program/d", "rattle", *ours, *theirs} == {*bill.components}
+    assert {"crate/a", "crate/c", "rattle", *theirs} == bill.needed["program/d"]
+    assert {"crate/a", "rattle/sha2"} == bill.needed["crate/b"] and {"crate/b"} == bill.needed["crate/c"]
+    assert f"logic={'1' * 64} compiler={'2' * 64}" == bill.components["rattle"]["version"]
+
+
+def test_the_list_of_parts_names_what_built_the_real_programs(program, sshstation):
+    """By the toolchain's own identity, of which `rt version` prints the beginning."""
+    sbom, version = loaded(TOP / "tools/sbom"), run(["rt", "version"], check=True).stdout.decode().split()[-1]
+    bill = sbom.Bill("1")
+    for it in (program, sshstation):
+        sbom.add_program(bill, sbom.crates_of((TOP / "crates.txt").read_text()), str(it))
+    assert bill.components["rattle"]["version"].startswith(f"logic={version}")
+    assert "rattle/sqlite" in bill.components and "crate/headline" in bill.needed["program/sshoffice"]
