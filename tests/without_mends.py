@@ -19,7 +19,7 @@ import xml.etree.ElementTree
 TOP = pathlib.Path(__file__).resolve().parent.parent
 MENDS = TOP / "tests/data/mends.toml"
 # What tests read beside the programs.
-PARTS = "tests examples programs docs debian tools package crates.txt pytest.ini README.md".split()
+PARTS = "tests examples programs docs debian tools package repository crates.txt pytest.ini README.md".split()
 
 
 def mends():
