@@ -1,8 +1,12 @@
 """The signing station of programs/station/station, with the guard beside its key."""
+import importlib
 import os
 import pathlib
+import shutil
 import signal
 import subprocess
+import sys
+import tempfile
 
 from asking import LAST_SERIAL, LATEST, department
 from running import PROGRAMS, end, run, until
@@ -13,6 +17,13 @@ EVERY_EXTENSION = ("no-touch-required", "permit-X11-forwarding", "permit-agent-f
 # A policy that permits what most tests ask for.
 WIDE = department(principals="alice,bob,lost,*@example.org", options=EVERY_OPTION, extensions=EVERY_EXTENSION,
                   maxlife=LATEST)
+
+
+def part(name):
+    """A module of the station, such as `journal`."""
+    if str(PROGRAMS / "station") not in sys.path:
+        sys.path.append(str(PROGRAMS / "station"))
+    return importlib.import_module(f"vethlumi_station.{name}")
 
 
 def init(db, ca, *, first=1, last=LAST_SERIAL):
@@ -92,6 +103,8 @@ class Station:
         for it in other_cas:
             self.words += ["--other-ca", it]
         self.words += lists.words if lists else []
+        # Where a copy of its modules is, if they were changed.
+        self.copy = None
         # The station finds its guard on the PATH.
         self.folder = guard.db.parent / f"{guard.db.stem}.programs"
         self.folder.mkdir(exist_ok=True)
@@ -105,13 +118,15 @@ class Station:
         self.runs_in_place_of("getent", f"printf '%s STREAM\\n' {' '.join(addresses)}")
 
     def change(self, old, new):
-        """Has it run a copy of the script, with a text in the place of another."""
-        text = self.words[0].read_text()
-        assert 1 == text.count(old)
-        copy = self.folder / "station"
-        copy.write_text(text.replace(old, new))
-        copy.chmod(0o755)
-        self.words[0] = copy
+        """Has it run a copy of its modules, in which another text stands in the place of one that stands there once."""
+        if not self.copy:
+            self.copy = pathlib.Path(tempfile.mkdtemp(dir=self.folder))
+            shutil.copytree(PROGRAMS / "station", self.copy, dirs_exist_ok=True)
+            self.words[self.words.index(PROGRAMS / "station/station")] = self.copy / "station"
+        texts = {it: it.read_text() for it in self.copy.rglob("*.py")}
+        [file] = [it for it, text in texts.items() if old in text]
+        assert 1 == texts[file].count(old)
+        file.write_text(texts[file].replace(old, new))
 
     def notes_the_end_of_a_guard(self):
         """Has the status of a guard that has ended in the file `ended`. A shell would let signals through that its

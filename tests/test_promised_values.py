@@ -49,10 +49,11 @@ def test_a_unit_gives_its_programs_the_time_to_end():
     def one(file, pattern):
         [value] = {measure(it) for it in found(file, pattern)}
         return value
+    limits = "programs/station/vethlumi_station/limits.py"
     stop, ending, lists = "^TimeoutStopSec=(.*)$", r"^LONGEST_JUDGING, LONGEST_ENDING = .*, (.*)$", \
         r"^LONGEST_REQUEST, .*LONGEST_STATING, LONGEST_READING = .*, (\d+), \d+$"
     assert one("programs/units/office-station@.service", stop) \
-        > one("programs/station/station", ending) + one("programs/station/station", lists)
+        > one(limits, ending) + one(limits, lists)
     assert one("programs/units/office-front.service", stop) \
         > one("programs/front/nginx.conf", r"^worker_shutdown_timeout (\w+);")
 

@@ -25,8 +25,8 @@ from asking import (LAST_SERIAL, LATEST, blob_of, body, department, digest_of, i
                     revoke_range, rollover, string)
 from fetching import Web, response, silent
 from recording import whole_request
-from running import PROGRAMS, TOP, free_port, is_listening, loaded, preloaded, run, until, write_secret
-from stations import (EVERY_EXTENSION, EVERY_OPTION, Guard, Lists, Station, begin_agent, new_guard, new_station,
+from running import PROGRAMS, free_port, is_listening, preloaded, run, until, write_secret
+from stations import (EVERY_EXTENSION, EVERY_OPTION, Guard, Lists, Station, begin_agent, new_guard, new_station, part,
                       stopped)
 
 WEB = department("web", principals="alice", extensions="permit-pty")
@@ -272,7 +272,7 @@ def test_a_body_under_another_serial_uses_none_up(alone):
 
 
 def test_a_body_says_its_serial_if_it_is_long_enough(alone):
-    serial_of, text = loaded(PROGRAMS / "station/station").serial_of, body(7, ca=alone.blob)
+    serial_of, text = part("guard").serial_of, body(7, ca=alone.blob)
     whole = text.index((7).to_bytes(8, "big")) + 8
     assert {None} == {serial_of(text[:size]) for size in range(whole)}
     assert {7} == {serial_of(text[:size]) for size in range(whole, len(text) + 1)}
@@ -366,7 +366,7 @@ def test_the_memory_of_the_unit_suffices_for_as_many_rows_as_are_read(alone, pro
         [peak] = re.findall(r"^VmHWM:\s+(\d+) kB$", pathlib.Path(f"/proc/{process.pid}/status").read_text(), re.M)
     unit = (PROGRAMS / "units/office-station@.service").read_text()
     [limit] = re.findall(r"^MemoryMax=(\d+)G$", unit, re.M)
-    assert (int(peak) << 10) + 372_000_000 + loaded(PROGRAMS / "station/station").MOST_MEMORY < int(limit) << 30
+    assert (int(peak) << 10) + 372_000_000 + part("limits").MOST_MEMORY < int(limit) << 30
 
 
 # An answer with a chunk of fewer than no bytes, at which Python's http.client raises a ValueError.
@@ -462,7 +462,7 @@ def test_what_an_office_makes_up_takes_no_place_of_the_guards_reasons(alone):
 @pytest.fixture
 def saying(monkeypatch, capsys):
     """The station's code by a clock that the test moves, and what was said since the last call."""
-    station, clock = loaded(PROGRAMS / "station/station"), [0.0]
+    station, clock = part("journal"), [0.0]
     monkeypatch.setattr(station, "time", types.SimpleNamespace(monotonic=lambda: clock[0]))
 
     def move(seconds):
@@ -657,10 +657,10 @@ def test_a_name_is_looked_up(alone):
 
 
 OFTEN_AT_THE_END = """
-import random, signal, sys, time, pathlib
+import random, signal, sys, time
 sys.path.insert(0, sys.argv[1])
-from running import loaded
-station, ends = loaded(pathlib.Path(sys.argv[2])), [0, 0]
+from vethlumi_station import ending as station
+ends = [0, 0]
 for _ in range(5000):
     end = time.perf_counter() + 0.0003 + random.uniform(-5e-6, 20e-6)
     try:
@@ -676,13 +676,13 @@ print(*(it > 0 for it in ends))
 def test_an_alarm_at_the_end_of_what_is_limited_is_no_other_fault():
     """In a process of its own, where no test has an alarm. Those that come as the work ends come at each of its steps.
     """
-    done = run([sys.executable, "-c", OFTEN_AT_THE_END, TOP / "tests", PROGRAMS / "station/station"])
+    done = run([sys.executable, "-c", OFTEN_AT_THE_END, PROGRAMS / "station"])
     assert (0, b"True True\n", b"") == (done.returncode, done.stdout, done.stderr)
 
 
 def test_what_is_another_text_each_time_is_left_out():
     """So that a reason is reported once: an object's place in memory."""
-    printable = loaded(PROGRAMS / "station/station").printable
+    printable = part("journal").printable
     for said, due in {"<Connection object at 0x7f00ab> failed": "<Connection> failed",
                       "/etc/station-key is \x1b[2J": "/etc/station-key is ?[2J"}.items():
         assert due == printable(said)
@@ -815,7 +815,7 @@ def test_what_is_refused_in_the_place_of_another_is_said(alone, programs):
 
 
 def test_a_long_list_of_serials_is_cut_between_two():
-    joined = loaded(PROGRAMS / "station/station").joined
+    joined = part("journal").joined
     assert ["", "4, 7-9"] == [joined([]), joined([4, 7, 8, 8, 9])]
     shown_serials = joined(range(10 ** 18, 10 ** 18 + 10 ** 9, 2))
     assert shown_serials.endswith(" ..") and 900 < len(shown_serials) <= 1003
@@ -1014,7 +1014,7 @@ def test_a_secret_that_others_can_use_is_refused(alone, room, key, mode):
 ])
 def test_root_may_give_a_service_a_secret_by_its_group(room, monkeypatch, owner, mode, user, is_taken):
     """So systemd does with a credential, by an access list, which shows as the group's mode."""
-    station = loaded(PROGRAMS / "station/station")
+    station = part("files")
     write_secret("secret", "")
     found = os.stat_result([stat.S_IFREG | mode, 0, 0, 1, owner, owner, *[0] * 4])
     # Only this module's own: pytest asks for files too.
@@ -1081,7 +1081,7 @@ def test_a_log_that_others_can_change_is_refused_while_the_guard_writes_it(alone
     (0, 0o664, 1000, False), (1000, 0o602, 1000, False), (1001, 0o644, 1000, False), (1000, 0o644, 0, False),
 ])
 def test_root_and_the_stations_user_may_change_its_files(monkeypatch, owner, mode, user, is_taken):
-    station = loaded(PROGRAMS / "station/station")
+    station = part("files")
     found = os.stat_result([stat.S_IFREG | mode, 0, 0, 1, owner, owner, *[0] * 4])
     monkeypatch.setattr(station, "os", types.SimpleNamespace(stat=lambda path: found, getuid=lambda: user))
     with contextlib.nullcontext() if is_taken else pytest.raises(station.Fault, match="change it"):
@@ -1321,10 +1321,9 @@ def test_a_station_that_is_told_to_end_lets_its_guard_judge_to_the_end(alone, pr
 
 # What a signal raises while Python deletes an object is lost.
 LOST = """
-import pathlib, signal, sys
+import signal, sys
 sys.path.insert(0, sys.argv[1])
-from running import loaded
-station = loaded(pathlib.Path(sys.argv[2]))
+from vethlumi_station import ending as station
 
 class Deleted:
     def __del__(self):
@@ -1338,7 +1337,7 @@ print("it hangs")
 
 
 def test_a_signal_that_is_lost_ends_the_station_at_the_next_round():
-    done = run([sys.executable, "-c", LOST, TOP / "tests", PROGRAMS / "station/station"])
+    done = run([sys.executable, "-c", LOST, PROGRAMS / "station"])
     assert (131, b"it goes on True\n") == (done.returncode, done.stdout)
     assert b"SystemExit" in done.stderr
 

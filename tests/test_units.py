@@ -7,7 +7,8 @@ import shutil
 import pytest
 
 from fronts import MOST_OF_A_CONNECTION
-from running import PROGRAMS, TOP, left_out, loaded, run
+from running import PROGRAMS, TOP, left_out, run
+from stations import part
 
 UNITS, VOLUME = PROGRAMS / "units", PROGRAMS / "volume"
 NAMES = sorted(it.name for it in UNITS.iterdir() if it.suffix in (".service", ".socket", ".timer"))
@@ -82,7 +83,7 @@ def test_a_station_goes_on_if_a_program_of_its_own_is_killed_for_memory():
 
 def test_a_station_ends_its_guards_by_itself():
     """systemd tells it alone, and waits longer than the station does for both guards."""
-    station = loaded(PROGRAMS / "station/station")
+    station = part("limits")
     longest = station.LONGEST_STATING + station.LONGEST_ENDING
     assert ["mixed"] == settings("office-station@.service", "KillMode")
     [patience] = settings("office-station@.service", "TimeoutStopSec")

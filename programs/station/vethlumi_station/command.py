@@ -1,0 +1,181 @@
+"""A signing station: signs pending certificates with one CA's key, if the guard on this machine approves them.
+
+station [OPTION..] --db FILE --policy FILE --key PEM OFFICE
+station [OPTION..] --db FILE --policy FILE --agent KEY.pub OFFICE
+station [OPTION..] --db FILE --policy FILE --pkcs11 MODULE --id ID --pin-file FILE OFFICE
+
+OFFICE is the URL of the front (the reverse proxy), for example https://office.example.org:8443, or of the office
+itself, http://127.0.0.1:8022. By http it only asks an office on this machine.
+
+  --db FILE        the guard's database, created by `sshstation init`
+  --policy FILE    what may be signed: departments. A change takes effect at the next certificate
+  --ahead SECONDS  how far in the future a validity may begin [default: 3600]
+
+The CA's private key is one of these:
+
+  --key PEM        a file in PKCS #8, without a passphrase
+  --agent KEY.pub  a key in the ssh-agent at SSH_AUTH_SOCK, given by its public-key line
+  --pkcs11 MODULE  a key in a token, for example with the module /usr/lib/softhsm/libsofthsm2.so; this needs the package
+                   python3-pykcs11
+  --id ID          the key's ID in the token, in hexadecimal
+  --pin-file FILE  a file whose first line is the token's PIN
+  --token LABEL    the token's label, if the module has several tokens
+  --slot N         the number of the token's slot, in place of a label
+
+The station signs, and verifies each signature, in its own process, except that a token's module runs in a second one,
+which is ended if it hangs. What was approved, signed and verified is one piece of memory: no file holds it. If a token
+refuses the PIN, the station ends with status 3 and doesn't try the PIN again, since tokens lock after a few tries.
+
+A file with a private key or a PIN is refused if its mode lets others use it. If it is root's and the station runs as
+another user, its group may read it. The station looks at the start, and at a private key again before each use. The
+files of --db and --lists with their logs, --policy, --other-ca, --list-ca and --cacert are refused, at the start and in
+each round, if their group or others can write them, or if they belong to another user than root and the station's own.
+
+With these, the station also publishes the office's KRL:
+
+  --lists FILE     the database of the guard of lists, created by `sshstation lists --init`
+  --list-ca FILE   the public-key lines of all CAs that the office has had, including the station's own; may be
+                   repeated. The files are read again each time
+  --publish-every SECONDS
+                   how often to publish [default: 60]
+
+Other options:
+
+  --other-ca FILE  the public-key lines of CAs for which other stations sign; may be repeated. Certificates for these
+                   are skipped silently. The files are read again in each round
+  --cert PEM       the station's key and certificate in one file, for the front
+  --cacert FILE    the authority that issued the front's certificate. Without it, all that this system trusts count
+  --caller NAME    the station's name at an office without a front [default: station]
+  --once           look for pending certificates once, and exit
+  --interval N     look for pending certificates every N seconds [default: 1]
+
+For each pending certificate, the station fetches the unsigned certificate, checks its digest and its serial, asks the
+guard (`sshstation judge`, which has to be on the PATH), signs, verifies the signature, delivers it, and prints `signed
+SERIAL`. If the office doesn't take the signature, it prints that at once on standard error. If the certificates that it
+didn't sign for a reason have changed, it prints their number and serials on standard error. What a front can make up
+or repeat is printed up to 64 KiB at once, and 64 bytes a second in the long run; the first refusal of each kind by the
+guard and the first `signed` of a serial always are. It tries what it didn't sign again after a pause that grows to a
+minute, and at once if the policy or a file of --other-ca has changed, but always after all new ones. Of more than
+64 MiB of pending certificates it takes the first.
+
+At the start, and then every --publish-every seconds, the station fetches the office's KRL, of at most 32 MiB. If
+`ssh-keygen -Q -l` can read it, within five seconds of a processor and 400 MiB of memory, the station asks the guard of
+lists
+(`sshstation list`) whether it revokes everything that the last approved one does. If so, the station signs a statement
+of the KRL's digest, version and time, in the form of `ssh-keygen -Y sign -n krl@vethlumi`, and sends the front one
+file, by PUT of /published: the statement, the signature and the KRL. It prints `published VERSION` if it is new. If a
+KRL isn't published, the reason is printed on standard error, and the station tries again every ten seconds. A KRL whose
+version is too high for the number of its revocations is refused as VersionJumps.
+
+If the front's name has several addresses, the file is sent to each of them, at most eight, and together they get a
+minute. Each that doesn't take it is named on standard error, with the reason, and all of them get the file again after
+ten seconds. If this machine has had a route to addresses of IPv4 only, or of IPv6 only, the others are left out.
+
+A station that is told to end, by SIGTERM, SIGINT, SIGHUP or SIGQUIT, lets its guards end first, which copy the logs of
+their files: the guard gets a minute, and that of lists two. What else it has begun is killed. A second signal changes
+nothing.
+
+Exit status: 0 if it was stopped by SIGTERM, 129, 130 or 131 if by SIGHUP, SIGINT or SIGQUIT; 1, with the reason on
+standard error, if the guard has exited, for example with `BadPolicy N`, if a file of CAs can't be read, if a file with
+a private key can't be read, if a file is refused for its mode or its owner, or if the output can't be written; 2 for
+invalid arguments; 3 if a token refuses the PIN. With --once: 0 if no certificate is pending except for other stations,
+and the KRL was published at each address; 1 if one is still pending, the KRL wasn't, or the office doesn't answer.
+"""
+import argparse
+import contextlib
+import os
+import re
+import shutil
+import signal
+import sys
+
+from .ending import ENDINGS, end_once
+from .faults import Fault
+from .files import check_readable, check_secret
+from .journal import print_line
+from .rounds import Station
+from .token import OF_TOKEN, ask_token
+
+# By http, an office on another machine could be anybody on the way to it.
+LOCAL = re.compile(r"http://(localhost|127(\.[0-9]{1,3}){3}|\[::1\])(:[0-9]{1,5})?(/\S*)?", re.ASCII)
+
+
+def words():
+    """The command line's arguments; bad ones end the program with status 2."""
+    usage = "station --db FILE --policy FILE --key PEM OFFICE (station --help explains all)"
+    parser = argparse.ArgumentParser(prog="station", usage=usage, add_help=False, allow_abbrev=False)
+    parser.add_argument("-h", "--help", action="store_true")
+    for name in ("db", "policy", "key", "agent", "pkcs11", "id", "pin-file", "token", "cert", "cacert", "lists"):
+        parser.add_argument(f"--{name}")
+    parser.add_argument("--slot", type=int)
+    for name in ("other-ca", "list-ca"):
+        parser.add_argument(f"--{name}", action="append", default=[])
+    parser.add_argument("--publish-every", type=int, default=60)
+    parser.add_argument("--caller", default="station")
+    parser.add_argument("--once", action="store_true")
+    parser.add_argument("--interval", type=int, default=1)
+    parser.add_argument("--ahead", type=int, default=3600)
+    parser.add_argument("office", nargs="?")
+    given = parser.parse_args()
+    if given.help:
+        print(__doc__, end="")
+        sys.exit()
+    check(parser, given)
+    return given
+
+
+def check(parser, given):
+    for name in ("db", "policy", "office"):
+        if not getattr(given, name):
+            parser.error(f"{'OFFICE' if name == 'office' else f'--{name}'} is missing")
+    if [given.key, given.agent, given.pkcs11].count(None) != 2:
+        parser.error("one of --key, --agent and --pkcs11 is wanted")
+    if bool(given.pkcs11) != bool(given.id and given.pin_file):
+        parser.error("--pkcs11 needs --id and --pin-file")
+    if given.id and not re.fullmatch("([0-9A-Fa-f]{2})+", given.id):
+        parser.error(f"--id is hexadecimal: {given.id}")
+    if not given.pkcs11 and (given.token is not None or given.slot is not None):
+        parser.error("--token and --slot are for --pkcs11")
+    if not re.fullmatch(r"https?://\S+", given.office):
+        parser.error(f"no URL: {given.office}")
+    if given.office.startswith("http:") and not LOCAL.fullmatch(given.office):
+        parser.error(f"http is only for an office on this machine: {given.office}")
+    if not re.fullmatch("[a-z0-9-]{1,32}", given.caller):
+        parser.error(f"no caller's name: {given.caller}")
+    if given.interval < 1 or given.ahead < 0:
+        parser.error("--interval is at least 1, and --ahead at least 0")
+    if bool(given.lists) != bool(given.list_ca):
+        parser.error("--lists needs --list-ca, and --list-ca needs --lists")
+    if given.publish_every < 1:
+        parser.error("--publish-every is at least 1")
+
+
+def programs(given):
+    """Those that the station needs."""
+    return ["sshstation", "getent", *["ssh-keygen", "prlimit"] * bool(given.lists)]
+
+
+def main():
+    os.umask(0o077)
+    if sys.argv[1:] == [OF_TOKEN]:
+        with contextlib.suppress(EOFError, BrokenPipeError):
+            ask_token()
+        return
+    given = words()
+    for it in ENDINGS:
+        # What whoever began the station has it ignore, as nohup does, it ignores.
+        if signal.getsignal(it) != signal.SIG_IGN:
+            signal.signal(it, end_once)
+    try:
+        for program in programs(given):
+            if not shutil.which(program):
+                raise Fault(f"{program} is missing")
+        if given.cert:
+            check_secret(given.cert)
+        if given.cacert:
+            check_readable(given.cacert)
+        sys.exit(Station(given).run())
+    except Fault as fault:
+        with contextlib.suppress(Fault):
+            print_line(f"station: {fault}", sys.stderr)
+        sys.exit(fault.status)

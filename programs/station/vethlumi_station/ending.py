@@ -1,0 +1,63 @@
+"""What tells a station to end, and what ends anything that takes too long."""
+import contextlib
+import signal
+import sys
+
+# What tells a station to end, with the status that it then ends with.
+ENDINGS = {signal.SIGTERM: 0, signal.SIGHUP: 129, signal.SIGINT: 130, signal.SIGQUIT: 131}
+# The status of the signal that came, if one has.
+told_to_end = []
+
+
+def end_once(number, _):
+    """Ends the station. It has done its work, and leaves no files but those of its guards. A second signal would cut
+    off what ends them, so it isn't let through any more."""
+    signal.pthread_sigmask(signal.SIG_BLOCK, {*ENDINGS})
+    told_to_end.append(ENDINGS[number])
+    end_if_told()
+
+
+def end_if_told():
+    """Ends the station if it was told to. Python loses what a signal raises while it deletes an object, so each round
+    looks again."""
+    if told_to_end:
+        sys.exit(told_to_end[0])
+
+
+@contextlib.contextmanager
+def held_off():
+    """What tells the station to end waits until the block is over. It never reaches a program that the block begins,
+    even if somebody sends it to all processes, as a terminal does: a guard that it ended would be cut off in the
+    middle, with the log of its file not copied."""
+    before = signal.pthread_sigmask(signal.SIG_BLOCK, {*ENDINGS})
+    try:
+        yield
+    finally:
+        signal.pthread_sigmask(signal.SIG_SETMASK, before)
+
+
+class Overdue(BaseException):
+    """No Exception: after one of these the library goes on, for example with a name's next address."""
+
+
+def at_most(seconds, work):
+    """What a function returns, or a fault if it takes longer, however its time passes. It isn't the block of a `with`:
+    an alarm between the end of a block and what comes after it would be nobody's."""
+    is_over = False
+
+    def end(*_):
+        if not is_over:
+            raise Overdue
+
+    signal.signal(signal.SIGALRM, end)
+    try:
+        try:
+            # Every second from then on: what is raised while Python deletes an object is lost.
+            signal.setitimer(signal.ITIMER_REAL, seconds, 1)
+            return work()
+        finally:
+            signal.setitimer(signal.ITIMER_REAL, 0)
+    except Overdue:
+        is_over = True
+        signal.setitimer(signal.ITIMER_REAL, 0)
+        raise OSError(f"not within {seconds} seconds") from None

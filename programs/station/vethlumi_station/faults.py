@@ -1,0 +1,23 @@
+"""Why something isn't done."""
+
+
+class Fault(Exception):
+    """Why the station ends, or why a round does."""
+    status = 1
+
+
+class WrongPin(Fault):
+    """Why a token doesn't take the PIN. Whoever tries it again may lock the token."""
+    status = 3
+
+
+class Refused(Exception):
+    """Why the guard refuses a body or a list."""
+
+
+class NotTaken(Exception):
+    """Why the office doesn't take a signature. It may have it all the same."""
+
+
+class OtherCa(Exception):
+    """The CA that a body names, or None if it is for another station."""

@@ -1,0 +1,69 @@
+"""The guard."""
+import contextlib
+import subprocess
+import sys
+
+from .ending import at_most, held_off
+from .faults import Fault
+from .journal import print_line
+from .limits import LONGEST_ENDING, LONGEST_JUDGING
+from .running import Memory
+
+
+def serial_of(body):
+    """The serial in a body, or None if it ends before that. The certificate's type, a nonce and a key come first, each
+    with its length."""
+    at = 0
+    for _ in range(3):
+        at += 4 + int.from_bytes(body[at:at + 4], "big")
+    return int.from_bytes(body[at:at + 8], "big") if at + 8 <= len(body) else None
+
+
+class Guard:
+    """The guard, which judges a body after the other. What it reports of its own end goes to standard error. While it
+    is begun, and while it ends, what tells the station to end is held off."""
+
+    def __init__(self, given):
+        self.body = Memory()
+        words = ["sshstation", "judge", "--db", given.db, "--policy", given.policy, "--ahead", str(given.ahead), "-"]
+        how = {"stdin": subprocess.PIPE, "stdout": subprocess.PIPE, "pass_fds": [self.body.handle]}
+        self.process = subprocess.Popen(words, **how)
+
+    def answer(self, body):
+        """The words of its answer to a body, such as `sign 7 DIGEST`."""
+        def answered():
+            self.body.put(body)
+            with contextlib.suppress(BrokenPipeError):
+                self.process.stdin.write(f"{self.body.path}\n".encode())
+                self.process.stdin.flush()
+            return self.process.stdout.readline()
+
+        try:
+            line = at_most(LONGEST_JUDGING, answered)
+        except OSError as fault:
+            self.process.kill()
+            raise Fault(f"the guard doesn't answer: {fault}") from None
+        except BaseException:
+            # It may not have read the body yet.
+            self.end()
+            raise
+        if not line.endswith(b"\n"):
+            raise Fault(f"the guard has ended with status {self.end()}")
+        return line.decode(errors="replace").split()
+
+    def stay(self):
+        """Raises a fault if the guard has ended."""
+        if self.process.poll() is not None:
+            raise Fault(f"the guard has ended with status {self.process.returncode}")
+
+    def end(self):
+        """Has the guard end, which then closes its file and copies the log, and returns its status."""
+        with held_off():
+            with contextlib.suppress(BrokenPipeError):
+                self.process.stdin.close()
+            try:
+                return self.process.wait(LONGEST_ENDING)
+            except subprocess.TimeoutExpired:
+                self.process.kill()
+                print_line(f"station: the guard is killed: not within {LONGEST_ENDING} seconds", sys.stderr)
+                return self.process.wait()

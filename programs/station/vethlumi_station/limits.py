@@ -1,0 +1,35 @@
+"""How long a station waits, and how much it takes."""
+
+# In seconds: for a request, for one with a list, for a signature by an agent or a token, for the lists' guard, and for
+# ssh-keygen to read a list by the clock.
+LONGEST_REQUEST, LONGEST_PUBLISHING, LONGEST_SIGNING, LONGEST_STATING, LONGEST_READING = 20, 60, 30, 120, 60
+# In seconds of a processor: for ssh-keygen to read a list. sshd takes as long at each login.
+MOST_READING = 5
+# In seconds: for one of several addresses to take a connection, so that the time of a request suffices for another one.
+LONGEST_CONNECTING = 5
+# To how many addresses of a name a list is sent.
+MOST_FRONTS = 8
+# For the guard, which reads its whole file before its first answer, and for its end.
+LONGEST_JUDGING, LONGEST_ENDING = 600, 60
+# Servers take no list of a higher version.
+LAST_VERSION = (1 << 63) - 1
+LONGEST_PAUSE, PAUSE_OF_LISTS = 60, 10
+# For how long a round tries again what wasn't signed before, in seconds: new certificates wait for it.
+LONGEST_AGAIN = 5
+# In bytes: for the pending certificates, for a body (the guard refuses one that is too long), for a reply or a refusal,
+# for the list of what is revoked (the front and the servers take none that is longer).
+LONGEST_PENDING, LONGEST_BODY, LONGEST_REPLY, LONGEST_LIST = 1 << 26, 1 << 16, 1 << 12, 1 << 25
+# How many bytes of an answer are read at once. Chunks of a byte each take many times their length of memory.
+PIECE = 1 << 16
+# In bytes: for ssh-keygen. The longest list takes 300 MB, and one may be made so that 2 MB would take more than that.
+MOST_MEMORY = 400 << 20
+# How many bytes of bodies are kept from one round to the next.
+MOST_KEPT = 1 << 24
+# How many letters of a list of serials are shown, how many of the reasons that an office can make up, and how many
+# seconds a round may last before it shows them: with a request that takes its whole time, less than half a minute.
+LONGEST_SERIALS, MOST_REASONS, LONGEST_SILENCE = 1000, 20, 5
+# How many bytes are said at once of what a front can make up and have change at will, and how many a second in the long
+# run: 5.5 MB a day, so that the journal keeps what was said before.
+SAID_AT_ONCE, SAID_A_SECOND = 1 << 16, 64
+# Of how many serials the station remembers that it has said `signed`, and of how many that a signature isn't taken.
+MOST_REMEMBERED = 1 << 18
