@@ -13,18 +13,24 @@ from vethlumi.printing import COLOURS, print_fields, print_json, print_text, say
 from vethlumi.settings import NOT_SIGNED
 
 STATES = ("pending", "signed", "revoked")
+# In seconds: how long after a message it first asks for the certificate, by how much each pause is longer than the one
+# before, and the longest one. A station signs within some hundredths of a second. So it waits for at most a third more
+# than the signature takes, and sends a front no more requests a second than it lets through at once.
+FIRST_PAUSE, LONGER, LONGEST_PAUSE = 0.03, 1.3, 1
 
 
 def collect(job, kept, serial, key, out):
     """Waits until a certificate is signed, checks that it is for this key, and writes it to a file or prints it. Only
     then the message is dropped: until then the same command gets this certificate, and no second one."""
+    pause = FIRST_PAUSE
     with waiting(f"serial {serial} waits for its signature") as tell:
         while (found := trying(lambda: job.office.line(serial), job.ends, tell)) is None:
             left = job.ends - time.monotonic()
             if left <= 0:
                 say(f"serial {serial} has no signature yet; run the same command again")
                 sys.exit(NOT_SIGNED)
-            time.sleep(min(1, left))
+            time.sleep(min(pause, left))
+            pause = min(LONGER * pause, LONGEST_PAUSE)
     line, certificate = found
     if certificate.key != key:
         raise NoAnswer(f"what came as serial {serial} is a certificate for another key. The message is kept")

@@ -47,7 +47,8 @@ Other options:
   --cacert FILE    the authority that issued the front's certificate. Without it, all that this system trusts count
   --caller NAME    the station's name at an office without a front [default: station]
   --once           look for pending certificates once, and exit
-  --interval N     look for pending certificates every N seconds [default: 1]
+  --interval N     look for pending certificates every N seconds, and 50 times a second in the minute after one has come
+                   [default: 0.05]
 
 For each pending certificate, the station fetches the unsigned certificate, checks its digest and its serial, asks the
 guard (`sshstation judge`, which has to be on the PATH), signs, verifies the signature, delivers it, and prints `signed
@@ -113,7 +114,7 @@ def words():
     parser.add_argument("--publish-every", type=int, default=60)
     parser.add_argument("--caller", default="station")
     parser.add_argument("--once", action="store_true")
-    parser.add_argument("--interval", type=int, default=1)
+    parser.add_argument("--interval", type=float, default=0.05)
     parser.add_argument("--ahead", type=int, default=3600)
     parser.add_argument("office", nargs="?")
     given = parser.parse_args()
@@ -142,8 +143,8 @@ def check(parser, given):
         parser.error(f"http is only for an office on this machine: {given.office}")
     if not re.fullmatch("[a-z0-9-]{1,32}", given.caller):
         parser.error(f"no caller's name: {given.caller}")
-    if given.interval < 1 or given.ahead < 0:
-        parser.error("--interval is at least 1, and --ahead at least 0")
+    if not 0.01 <= given.interval <= 86400 or given.ahead < 0:
+        parser.error("--interval is 0.01 to 86400, and --ahead at least 0")
     if bool(given.lists) != bool(given.list_ca):
         parser.error("--lists needs --list-ca, and --list-ca needs --lists")
     if given.publish_every < 1:

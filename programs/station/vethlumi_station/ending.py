@@ -36,6 +36,10 @@ def held_off():
         signal.pthread_sigmask(signal.SIG_SETMASK, before)
 
 
+class Overlong(OSError):
+    """What took too long."""
+
+
 class Overdue(BaseException):
     """No Exception: after one of these the library goes on, for example with a name's next address."""
 
@@ -60,4 +64,4 @@ def at_most(seconds, work):
     except Overdue:
         is_over = True
         signal.setitimer(signal.ITIMER_REAL, 0)
-        raise OSError(f"not within {seconds} seconds") from None
+        raise Overlong(f"not within {seconds} seconds") from None

@@ -15,9 +15,5 @@ class Refused(Exception):
     """Why the guard refuses a body or a list."""
 
 
-class NotTaken(Exception):
-    """Why the office doesn't take a signature. It may have it all the same."""
-
-
 class OtherCa(Exception):
     """The CA that a body names, or None if it is for another station."""

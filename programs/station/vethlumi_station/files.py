@@ -25,6 +25,12 @@ def keys_of(path):
     return keys
 
 
+def state_of(path):
+    """What tells a file from another that was put in its place."""
+    found = os.stat(path)
+    return found.st_dev, found.st_ino, found.st_size, found.st_mtime_ns, found.st_ctime_ns
+
+
 def check_readable(path):
     if not os.access(path, os.R_OK):
         raise Fault(f"can't read {path}")

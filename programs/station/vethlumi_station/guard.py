@@ -6,7 +6,7 @@ import sys
 from .ending import at_most, held_off
 from .faults import Fault
 from .journal import print_line
-from .limits import LONGEST_ENDING, LONGEST_JUDGING
+from .limits import LONGEST_ENDING, LONGEST_JUDGING, MOST_JUDGED
 from .running import Memory
 
 
@@ -20,36 +20,37 @@ def serial_of(body):
 
 
 class Guard:
-    """The guard, which judges a body after the other. What it reports of its own end goes to standard error. While it
-    is begun, and while it ends, what tells the station to end is held off."""
+    """The guard, which judges bodies in their order. What it reports of its own end goes to standard error. While it is
+    begun, and while it ends, what tells the station to end is held off."""
 
     def __init__(self, given):
-        self.body = Memory()
+        self.bodies = [Memory() for _ in range(MOST_JUDGED)]
         words = ["sshstation", "judge", "--db", given.db, "--policy", given.policy, "--ahead", str(given.ahead), "-"]
-        how = {"stdin": subprocess.PIPE, "stdout": subprocess.PIPE, "pass_fds": [self.body.handle]}
+        how = {"stdin": subprocess.PIPE, "stdout": subprocess.PIPE, "pass_fds": [it.handle for it in self.bodies]}
         self.process = subprocess.Popen(words, **how)
 
-    def answer(self, body):
-        """The words of its answer to a body, such as `sign 7 DIGEST`."""
+    def answers(self, bodies):
+        """The words of its answers to at most MOST_JUDGED bodies, such as `sign 7 DIGEST`, in their order."""
         def answered():
-            self.body.put(body)
+            for memory, body in zip(self.bodies, bodies):
+                memory.put(body)
             with contextlib.suppress(BrokenPipeError):
-                self.process.stdin.write(f"{self.body.path}\n".encode())
+                self.process.stdin.write("".join(f"{it.path}\n" for it in self.bodies[:len(bodies)]).encode())
                 self.process.stdin.flush()
-            return self.process.stdout.readline()
+            return [self.process.stdout.readline() for _ in bodies]
 
         try:
-            line = at_most(LONGEST_JUDGING, answered)
+            lines = at_most(LONGEST_JUDGING, answered)
         except OSError as fault:
             self.process.kill()
             raise Fault(f"the guard doesn't answer: {fault}") from None
         except BaseException:
-            # It may not have read the body yet.
+            # It may not have read the bodies yet.
             self.end()
             raise
-        if not line.endswith(b"\n"):
+        if not all(it.endswith(b"\n") for it in lines):
             raise Fault(f"the guard has ended with status {self.end()}")
-        return line.decode(errors="replace").split()
+        return [it.decode(errors="replace").split() for it in lines]
 
     def stay(self):
         """Raises a fault if the guard has ended."""

@@ -13,7 +13,7 @@ from cryptography.hazmat.primitives.serialization import load_pem_private_key
 
 from .ending import at_most, held_off
 from .faults import Fault, WrongPin
-from .files import check_secret, keys_of
+from .files import check_secret, keys_of, state_of
 from .journal import printable
 from .limits import LONGEST_REPLY, LONGEST_SIGNING
 from .token import OF_TOKEN, PIN_REFUSED, SIGNED
@@ -32,9 +32,7 @@ class KeyFile:
     def be_ready(self):
         """Raises a fault if the file has no such key."""
         check_secret(self.path)
-        found = os.stat(self.path)
-        seen = found.st_dev, found.st_ino, found.st_size, found.st_mtime_ns, found.st_ctime_ns
-        if seen == self.seen:
+        if (seen := state_of(self.path)) == self.seen:
             return
         try:
             self.key = load_pem_private_key(pathlib.Path(self.path).read_bytes(), password=None)

@@ -11,6 +11,13 @@ LONGEST_CONNECTING = 5
 MOST_FRONTS = 8
 # For the guard, which reads its whole file before its first answer, and for its end.
 LONGEST_JUDGING, LONGEST_ENDING = 600, 60
+# How many bodies the guard gets at once, how many may wait for it, and by how many connections bodies are fetched, and
+# signatures delivered.
+MOST_JUDGED, MOST_FETCHED, CONNECTIONS = 64, 128, 4
+# In seconds: how often it looks for pending certificates for a while after one has come, how long that is, and at most
+# how long it waits in any case. So that long lists don't keep the office busy, it also waits for a multiple of the time
+# that the answer took.
+OFTEN, FOR_A_WHILE, LONGEST_INTERVAL, TIMES_AS_LONG = 0.02, 60, 1, 3
 # Servers take no list of a higher version.
 LAST_VERSION = (1 << 63) - 1
 LONGEST_PAUSE, PAUSE_OF_LISTS = 60, 10

@@ -6,22 +6,29 @@ import os
 import subprocess
 import sys
 import time
+from concurrent.futures import Future, wait
 
-from .asking import Office
-from .ending import end_if_told, held_off
-from .faults import NotTaken, OtherCa, Refused
+from .asking import Connection, Office
+from .ending import Overlong, end_if_told, held_off
+from .faults import OtherCa, Refused
 from .files import check_kept, keys_of
 from .guard import Guard, serial_of
 from .journal import Room, Said, Serials, fingerprint, joined, print_line, printable
 from .keys import signer
-from .limits import LONGEST_AGAIN, LONGEST_PAUSE, LONGEST_PENDING, LONGEST_SILENCE, MOST_KEPT, MOST_REASONS
+from .limits import (CONNECTIONS, FOR_A_WHILE, LONGEST_AGAIN, LONGEST_INTERVAL, LONGEST_PAUSE, LONGEST_PENDING,
+                     LONGEST_SILENCE, MOST_FETCHED, MOST_JUDGED, MOST_KEPT, MOST_REASONS, OFTEN, TIMES_AS_LONG)
 from .lists import Lists
 from .wire import verifies
+from .workers import Workers
 
 # What is shown in place of more reasons.
 OTHER_REASONS, OTHER_CAS = "for other reasons", "refused as OtherCa, of other CAs"
 NOT_TAKEN = "its signature isn't taken"
 NOT_TAKEN_FOR_OTHERS = f"{NOT_TAKEN}, {OTHER_REASONS}"
+
+
+def serial_in(row):
+    return int(row.partition(" ")[0])
 
 
 class Station:
@@ -30,14 +37,17 @@ class Station:
 
     def __init__(self, given):
         self.given, self.key, self.office = given, signer(given), Office(given)
+        self.fetching, self.delivering = (Workers(CONNECTIONS, lambda: Connection(self.office)) for _ in range(2))
         self.room = Room()
         self.bodies, self.kept, self.left, self.said = {}, 0, {}, Said(self.room)
         self.signed, self.not_taken = Serials(self.room), Serials(self.room)
-        # The rows of this round, when it last said what was left of them, and the serial of a signature that may have
-        # been sent and of which nothing is said yet.
-        self.rows, self.is_whole, self.silent_since, self.sent = [], True, 0, None
-        # The other CAs, and what a refusal of the guard depends on.
-        self.known, self.rules = self.other_cas(), None
+        # The rows of this round, when it last said what was left of them, and the signatures that may have been sent
+        # and of which nothing is said yet: rows, with what comes of their deliveries.
+        self.rows, self.is_whole, self.silent_since, self.sent = [], True, 0, collections.deque()
+        # The other CAs, when the files were last looked at, and what a refusal of the guard depends on.
+        self.known, self.looked_at, self.rules = self.other_cas(), time.monotonic(), None
+        # How long the next round waits, and when a row was last new.
+        self.pause, self.new_at = 0, float("-inf")
         self.lists = Lists(given, self.key, self.office, Room()) if given.lists else None
         self.guard = None
 
@@ -53,38 +63,200 @@ class Station:
     def look(self):
         """A round. Returns whether nothing was left that this station should have signed."""
         end_if_told()
-        self.known = self.other_cas()
+        begun = time.monotonic()
         try:
             self.rows, self.is_whole = self.office.pending()
         except OSError as fault:
+            self.pause = LONGEST_INTERVAL
             why = f"{self.office.url} doesn't answer: {printable(fault)}"
             return self.said.say({why: why})
+        new = [it for it in self.rows if it not in self.left]
+        self.look_at_files(bool(new))
+        self.pause_after(begun, bool(new))
         self.bodies = {row: self.bodies[row] for row in self.rows if row in self.bodies}
         self.kept = sum(map(len, self.bodies.values()))
         self.left = {row: self.left[row] for row in self.rows if row in self.left}
         self.forget_pauses()
         self.silent_since = time.monotonic()
         try:
-            self.try_all()
+            self.try_all(new)
             return self.report()
         except BaseException:
             # The station ends here, and the next one may find none of these rows pending.
-            if self.sent:
-                said = f"the signature of {self.sent} may have been sent, and the station ends"
+            for row, _ in self.sent:
+                said = f"the signature of {serial_in(row)} may have been sent, and the station ends"
                 print_line(f"station: {said}", sys.stderr)
             self.report()
             raise
 
-    def try_all(self):
+    def look_at_files(self, is_new):
+        """Sees before each signature, and each second, that nobody else can change what decides about it."""
+        if is_new or time.monotonic() > self.looked_at + LONGEST_INTERVAL:
+            self.known, self.looked_at = self.other_cas(), time.monotonic()
+
+    def pause_after(self, begun, is_new):
+        """Decides how long the next round waits after the beginning of this one."""
+        now = time.monotonic()
+        self.new_at = now if is_new else self.new_at
+        interval = min(OFTEN, self.given.interval) if now < self.new_at + FOR_A_WHILE else self.given.interval
+        taken = min((1 + TIMES_AS_LONG) * (now - begun), LONGEST_INTERVAL)
+        self.pause = max(0, interval if is_new else max(interval, taken) - (now - begun))
+
+    def try_all(self, new):
         """Tries to sign what is pending. What wasn't signed before comes last and in turn, so that it holds up nothing
         new, however much it is."""
         again = sorted((it for it in self.rows if it in self.left), key=lambda it: self.left[it][0])
-        for row in [it for it in self.rows if it not in self.left]:
-            self.try_to_sign(row)
-        end = time.monotonic() + LONGEST_AGAIN
-        for row in again:
-            if self.left[row][1] <= time.monotonic() < end:
-                self.try_to_sign(row)
+        self.try_to_sign(new)
+        end = time.monotonic() + min(LONGEST_AGAIN, max(OFTEN, self.pause))
+        due = [it for it in again if self.left[it][1] <= time.monotonic()]
+        while due and time.monotonic() < end:
+            self.try_to_sign(due[:MOST_JUDGED])
+            due = due[MOST_JUDGED:]
+
+    def try_to_sign(self, rows):
+        """Signs pending certificates, or notes of each why it isn't signed. While the guard judges some of them, the
+        next ones are fetched, and the signatures of the ones before are delivered."""
+        rows, fetched = collections.deque(rows), collections.deque()
+        while rows or fetched:
+            while rows and len(fetched) < MOST_FETCHED:
+                fetched.append((row := rows.popleft(), self.fetched(row)))
+            if not self.judge(self.next_of(fetched)):
+                # The key hangs. What is left comes in the next round.
+                rows.clear()
+                fetched.clear()
+            while self.sent and (self.sent[0][1].done() or len(self.sent) > MOST_FETCHED):
+                self.finish()
+        while self.sent:
+            self.finish()
+
+    def fetched(self, row):
+        """What comes of fetching a body: the one that is kept, if it is."""
+        if row not in self.bodies:
+            return self.fetching.do(self.fetch, row)
+        future = Future()
+        future.set_result(self.bodies[row])
+        return future
+
+    def fetch(self, row, connection):
+        serial, digest = row.split(" ")
+        body = self.office.body(serial, connection)
+        if hashlib.sha256(body).hexdigest() != digest:
+            raise OSError("its body has another digest than the one that is pending")
+        return body
+
+    def next_of(self, fetched):
+        """The next rows whose bodies have come, in their order and with what came. Waits for the first."""
+        self.wait_for(fetched[0][1])
+        batch = []
+        while fetched and len(batch) < MOST_JUDGED and fetched[0][1].done():
+            batch.append(fetched.popleft())
+        return batch
+
+    def wait_for(self, future):
+        """Waits for what a thread does. Meanwhile lists are published when they are due, and what is left is said: an
+        office can make a round last."""
+        while True:
+            if self.lists and self.lists.is_due():
+                # This may take minutes, and what is left is said before.
+                self.report()
+                self.publish()
+            if time.monotonic() > self.silent_since + LONGEST_SILENCE:
+                self.report()
+            if wait([future], 1).done:
+                return
+
+    def judge(self, batch):
+        """Signs those of some bodies that the guard approves, and has the signatures delivered. Returns whether the key
+        doesn't hang."""
+        asked = []
+        for row, future in batch:
+            try:
+                body = future.result()
+                self.keep(row, body)
+                # The guard would keep it under its own serial, and what is reported has the row's.
+                if serial_of(body) not in (None, serial_in(row)):
+                    raise OSError("its body has another serial")
+                asked.append((row, body))
+            except OSError as fault:
+                self.leave(row, printable(fault), OTHER_REASONS)
+        answers = self.guard.answers([body for _, body in asked]) if asked else []
+        hangs = None
+        for (row, body), answer in zip(asked, answers):
+            try:
+                if hangs:
+                    # It is tried before the one at which the key hung.
+                    self.left[row] = self.tries(row), 0, *hangs
+                    continue
+                signature = self.signature_of(row, body, answer)
+                self.sent.append((row, self.delivering.do(self.deliver, row, signature)))
+            except Refused as refused:
+                self.leave(row, refused.args[0], None)
+            except OtherCa as refused:
+                self.leave(row, refused.args[0] and f"refused as OtherCa, {refused.args[0]}", OTHER_CAS)
+            except Overlong as fault:
+                hangs = printable(fault), OTHER_REASONS
+                self.leave(row, *hangs)
+            except (OSError, subprocess.SubprocessError) as fault:
+                self.leave(row, printable(fault), OTHER_REASONS)
+        return not hangs
+
+    def keep(self, row, body):
+        """Keeps a body for the next try, as long as all of them aren't too long."""
+        if row not in self.bodies and self.kept + len(body) <= MOST_KEPT:
+            self.bodies[row], self.kept = body, self.kept + len(body)
+
+    def signature_of(self, row, body, answer):
+        """The signature of a body that the guard approves. The bytes that are signed and verified are those to which
+        the guard gave this answer."""
+        if answer == ["refuse", "OtherCa"]:
+            # Such a body ends with the key of its CA: else the guard would have found another reason.
+            raise OtherCa(None if body[-51:] in self.known else fingerprint(body[-51:]))
+        if answer[:1] != ["sign"]:
+            raise Refused("refused as " + printable(" ".join(answer[1:])))
+        if answer[1:] != row.split(" "):
+            raise OSError("its body has another serial")
+        signature = self.key.sign(body)
+        # The guard has seen that the body names the guard's own CA: its last 32 bytes.
+        if not verifies(body, body[-32:], signature):
+            raise OSError("the key isn't the CA's: its signature doesn't verify")
+        return signature
+
+    def deliver(self, row, signature, connection):
+        self.office.deliver(*row.split(" "), signature, connection)
+
+    def finish(self):
+        """Says what came of the first delivery that is under way."""
+        row, future = self.sent[0]
+        self.wait_for(future)
+        serial = serial_in(row)
+        try:
+            future.result()
+        except OSError as fault:
+            # Apart from what was never signed, among which a false office would hide it.
+            why = f"{NOT_TAKEN}: {printable(fault)}"
+            self.say_at_once(row, f"station: the signature of {serial} isn't taken: {printable(fault)}")
+            self.leave(row, why, NOT_TAKEN_FOR_OTHERS)
+        else:
+            self.left.pop(row, None)
+            # A false front may have the same body signed again and again.
+            if self.signed.may_say(serial, line := f"signed {serial}"):
+                print_line(line, sys.stdout)
+        self.sent.popleft()
+
+    def say_at_once(self, row, line):
+        """Says once that a signature isn't taken. A false office has it all the same, and can have so many others that
+        the report of what is left doesn't show its serial."""
+        is_new = row not in self.left or self.left[row][3] != NOT_TAKEN_FOR_OTHERS
+        if is_new and self.not_taken.may_say(serial_in(row), line):
+            print_line(line, sys.stderr)
+
+    def tries(self, row):
+        return self.left[row][0] if row in self.left else 0
+
+    def leave(self, row, *why):
+        """Notes why a row isn't signed, and that it is tried again after a pause."""
+        tries = self.tries(row)
+        self.left[row] = tries + 1, time.monotonic() + min(2 ** min(tries, 9), LONGEST_PAUSE), *why
 
     def forget_pauses(self):
         """Tries everything again if what a refusal depends on has changed, other than the time."""
@@ -96,49 +268,6 @@ class Station:
         if rules != self.rules:
             self.left = {row: (tries, 0, *why) for row, (tries, _, *why) in self.left.items()}
         self.rules = rules
-
-    def try_to_sign(self, row):
-        """Signs a pending certificate, or notes why it isn't signed."""
-        if self.lists and self.lists.is_due():
-            # This may take minutes, and what is left is said before.
-            self.report()
-            self.publish()
-        self.report_in_time()
-        try:
-            self.sign(row)
-        except Refused as refused:
-            why = refused.args[0], None
-        except OtherCa as refused:
-            why = refused.args[0] and f"refused as OtherCa, {refused.args[0]}", OTHER_CAS
-        except NotTaken as fault:
-            # Apart from what was never signed, among which a false office would hide it.
-            why = f"{NOT_TAKEN}: {fault}", NOT_TAKEN_FOR_OTHERS
-            self.say_at_once(row, fault)
-        except (OSError, subprocess.SubprocessError) as fault:
-            why = printable(fault), OTHER_REASONS
-        else:
-            self.left.pop(row, None)
-            # A false front may have the same body signed again and again.
-            if self.signed.may_say(int(self.sent), line := f"signed {self.sent}"):
-                print_line(line, sys.stdout)
-            self.sent = None
-            return
-        tries = self.left[row][0] if row in self.left else 0
-        self.left[row] = tries + 1, time.monotonic() + min(2 ** min(tries, 9), LONGEST_PAUSE), *why
-
-    def say_at_once(self, row, fault):
-        """Says once that a signature isn't taken. A false office has it all the same, and can have so many others that
-        the report of what is left doesn't show its serial."""
-        line = f"station: the signature of {self.sent} isn't taken: {fault}"
-        is_new = row not in self.left or self.left[row][3] != NOT_TAKEN_FOR_OTHERS
-        if is_new and self.not_taken.may_say(int(self.sent), line):
-            print_line(line, sys.stderr)
-        self.sent = None
-
-    def report_in_time(self):
-        """An office can make a round last."""
-        if time.monotonic() > self.silent_since + LONGEST_SILENCE:
-            self.report()
 
     def report(self):
         """Says what is left, as far as that has changed. Returns whether nothing is."""
@@ -161,45 +290,8 @@ class Station:
                 made_up[others] += 1
                 why = why if made_up[others] <= MOST_REASONS else others
             if why:
-                left.setdefault(why, array.array("Q")).append(int(row.partition(" ")[0]))
+                left.setdefault(why, array.array("Q")).append(serial_in(row))
         return {why: array.array("Q", sorted(serials)) for why, serials in left.items()}
-
-    def sign(self, row):
-        """Signs a pending certificate, and delivers the signature."""
-        serial, digest = row.split(" ")
-        body = self.bodies.get(row)
-        if body is None:
-            body = self.office.body(serial)
-            if hashlib.sha256(body).hexdigest() != digest:
-                raise OSError("its body has another digest than the one that is pending")
-            if self.kept + len(body) <= MOST_KEPT:
-                self.bodies[row], self.kept = body, self.kept + len(body)
-        signature = self.signature_of(body, serial, digest)
-        self.report_in_time()
-        self.sent = serial
-        try:
-            self.office.deliver(serial, digest, signature)
-        except OSError as fault:
-            raise NotTaken(printable(fault)) from None
-
-    def signature_of(self, body, serial, digest):
-        """The signature of a body that the guard approves. The same bytes are judged, signed and verified."""
-        # The guard would keep it under its own serial, and what is reported has the row's.
-        if serial_of(body) not in (None, int(serial)):
-            raise OSError("its body has another serial")
-        answer = self.guard.answer(body)
-        if answer == ["refuse", "OtherCa"]:
-            # Such a body ends with the key of its CA: else the guard would have found another reason.
-            raise OtherCa(None if body[-51:] in self.known else fingerprint(body[-51:]))
-        if answer[:1] != ["sign"]:
-            raise Refused("refused as " + printable(" ".join(answer[1:])))
-        if answer[1:] != [serial, digest]:
-            raise OSError("its body has another serial")
-        signature = self.key.sign(body)
-        # The guard has seen that the body names the guard's own CA: its last 32 bytes.
-        if not verifies(body, body[-32:], signature):
-            raise OSError("the key isn't the CA's: its signature doesn't verify")
-        return signature
 
     def publish(self):
         """Publishes the list, if it is time. Returns whether the last one was published."""
@@ -207,7 +299,7 @@ class Station:
 
     def wait(self):
         """Waits for the next round. Lists are published when they are due, however long that is before it."""
-        end = time.monotonic() + self.given.interval
+        end = time.monotonic() + self.pause
         while (now := time.monotonic()) < end:
             end_if_told()
             time.sleep(max(0, min(end, self.lists.due if self.lists else end) - now))
