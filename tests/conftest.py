@@ -44,6 +44,8 @@ def pytest_addoption(parser):
                     help="how many random bodies test_guard has judged (100000)")
     group.addoption("--lists", type=int, default=600, help="how many random lists test_list_guard has judged (600)")
     group.addoption("--pieces", type=int, default=1000, help="how many random requests test_pieces sends (1000)")
+    group.addoption("--station-kills", type=int, default=50,
+                    help="how often test_station_kills kills station or guard (50)")
     group.addoption("--waiting", type=int, default=50, help="how many messages wait for an office in test_way (50)")
     group.addoption("--waiting-seconds", type=int, default=5, help="for how many seconds they wait (5)")
     group.addoption("--heads", type=int, default=100_000, help="how many changed heads test_heads compares (100000)")

@@ -364,6 +364,19 @@ def test_while_the_office_is_away_strangers_write_nothing(make_front):
         assert (due > 0) == ((front.state / "asked.log").read_text().count("\n") > before), (name, path)
 
 
+def test_a_station_that_looks_often_writes_nothing(make_front, recorder):
+    """It looks for pending certificates up to 50 times a second. What a reader gets, what the station fetches besides,
+    and that the office doesn't answer is written."""
+    front, away = make_front(recorder.port), make_front(free_port())
+    for it, name, path, due in ((front, "station", "/v1/pending", 0), (front, "watch", "/v1/pending", 1),
+                                (front, "station", "/v1/table", 1), (front, "station", "/v1/certs/1/body", 1),
+                                (away, "station", "/v1/pending", 1)):
+        before = (it.state / "asked.log").read_text().count("\n")
+        assert [200 if it is front else 502] == statuses(it.ask(getting(path), name))
+        time.sleep(1.5)
+        assert due == (it.state / "asked.log").read_text().count("\n") - before, (name, path)
+
+
 def test_a_certificate_of_ones_own_fills_no_disk_by_its_subject(make_front, recorder):
     front = make_front(recorder.port)
     subject = "".join(f"/OU={number:060}" for number in range(700))
