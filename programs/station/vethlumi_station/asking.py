@@ -50,7 +50,7 @@ class Limit:
         """The seconds that are left, or a fault."""
         left = self.end - time.monotonic()
         if left <= 0:
-            raise OSError(f"not within {self.seconds} seconds")
+            raise OSError(f"not within {self.seconds} seconds") from None
         return left
 
 
@@ -99,8 +99,8 @@ class Connection:
         for family, kind, protocol, _, place in office.places(self, limit):
             # A machine that is off takes no connection, and leaves time for the next address.
             seconds = min(LONGEST_CONNECTING, limit.left()) if office.has_several else limit.left()
-            self.peer = socket.socket(family, kind, protocol)
             try:
+                self.peer = socket.socket(family, kind, protocol)
                 self.peer.settimeout(seconds)
                 self.peer.connect(place)
                 break
