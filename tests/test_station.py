@@ -171,6 +171,24 @@ class WaitingOffice(FalseOffice):
         super().finish_request(peer, address)
 
 
+class KeepingOffice(FalseOffice):
+    """One that keeps each connection for so many requests. It reads one more, and closes without an answer."""
+
+    def __init__(self, bodies, most):
+        super().__init__(bodies)
+        self.most, self.connections = most, 0
+
+    def finish_request(self, peer, address):
+        self.connections += 1
+        for _ in range(self.most):
+            if not peer.recv(1, socket.MSG_PEEK):
+                return
+            super().finish_request(Through(peer, lambda peer, text: peer.sendall(
+                text.replace(b"connection: close\r\n", b"", 1))), address)
+            peer.settimeout(60)
+        whole_request(peer)
+
+
 class Through:
     """A connection over which a function sends what is answered."""
 
@@ -359,8 +377,8 @@ def test_the_memory_of_the_unit_suffices_for_as_many_rows_as_are_read(alone, pro
     with FalseOffice({}) as web:
         web.rows = "".join(f"{place % 9 + 1} {place:064x}\n" for place in range(1_001_625))
         station = Station(alone, web.url, alone.key)
-        station.change("body = self.bodies.get(row)\n",
-                       'raise OSError(3 * " ".join(re.findall(8 * ".", digest)))\n')
+        station.change("body = self.office.body(serial, connection)\n",
+                       'raise OSError(3 * " ".join(digest[it:it + 8] for it in range(0, 64, 8)))\n')
         process = station.begin(programs, stderr=subprocess.DEVNULL)
         web.begins_rounds(3, seconds=1400)
         [peak] = re.findall(r"^VmHWM:\s+(\d+) kB$", pathlib.Path(f"/proc/{process.pid}/status").read_text(), re.M)
@@ -709,6 +727,75 @@ def test_a_body_that_cannot_be_had_starves_no_other(alone, broken, why):
     status, out, errors, _ = shown(alone, bodies, rows, broken)
     assert (1, ["signed 1", "signed 3"], 1) == (status, out, len(errors))
     assert re.fullmatch(f"station: not signed: 1, {why}: 2", errors[0])
+
+
+@pytest.fixture
+def one_by_one(alone):
+    """Makes a station that fetches by one connection, and delivers by one."""
+    def make(web):
+        station = Station(alone, web.url, alone.key, ahead=3600)
+        station.change("CONNECTIONS = 64, 128, 4", "CONNECTIONS = 64, 128, 1")
+        return station
+
+    return make
+
+
+def test_a_connection_stays_open(alone, one_by_one):
+    """One for the list, one for bodies and one for signatures."""
+    with KeepingOffice({serial: body(serial, ca=alone.blob) for serial in range(1, 9)}, 100) as web:
+        assert (0, [f"signed {it}" for it in range(1, 9)], []) == one_by_one(web).once()
+        assert (3, 17) == (web.connections, len(web.requests))
+
+
+def test_a_request_whose_connection_is_closed_is_sent_again(alone, one_by_one):
+    """A front closes one that was kept as the next request is on its way. That isn't the fault of what is asked."""
+    with KeepingOffice({serial: body(serial, ca=alone.blob) for serial in range(1, 9)}, 1) as web:
+        assert (0, [f"signed {it}" for it in range(1, 9)], []) == one_by_one(web).once()
+        assert 17 == len(web.requests)
+
+
+def test_bodies_are_fetched_together_and_signed_in_their_order(alone):
+    """While the first one is on its way, the next ones are asked for."""
+    with WaitingOffice(b"GET /v1/certs/1/", {serial: body(serial, ca=alone.blob) for serial in range(1, 7)}) as web:
+        process = subprocess.Popen([str(it) for it in Station(alone, web.url, alone.key).words] + ["--once", web.url],
+                                   stdout=subprocess.PIPE, env=Station(alone, web.url, alone.key).environment)
+        until(lambda: sum(b"/body " in it for it in web.requests) == 5)
+        assert [] == web.delivered
+        web.may_answer.set()
+        assert [f"signed {it}" for it in range(1, 7)] == process.communicate(timeout=60)[0].decode().splitlines()
+
+
+def test_a_list_that_takes_long_is_asked_for_less_often(alone, programs):
+    """Each answer takes 0.3 seconds, after which the station waits three times as long, and at most a second."""
+    class Slow(FalseOffice):
+        def finish_request(self, peer, address):
+            moments.append(time.monotonic())
+            time.sleep(0.3)
+            super().finish_request(peer, address)
+
+    moments = []
+    with Slow({}) as web:
+        Station(alone, web.url, alone.key).begin(programs)
+        until(lambda: len(moments) > 3)
+    assert 1.15 < min(later - earlier for earlier, later in zip(moments, moments[1:]))
+
+
+@pytest.mark.alone
+def test_a_station_looks_often(alone, programs):
+    """20 times a second, 50 times in the minute after something new came, and once a second if nobody answers."""
+    def counted(web):
+        before = len(web.requests)
+        time.sleep(3)
+        return len(web.requests) - before
+
+    with FalseOffice({1: body(ca=alone.blob)}, []) as web:
+        process = Station(alone, web.url, alone.key).begin(programs)
+        web.begins_rounds(3)
+        assert 20 < (idle := counted(web)) <= 61
+        web.shows([1])
+        assert b"signed 1\n" == process.stdout.readline()
+        web.shows([])
+        assert max(60, idle) < counted(web) <= 151
 
 
 def test_the_first_of_more_than_fit_are_signed(alone):

@@ -28,8 +28,9 @@ refuses the PIN, the station ends with status 3 and doesn't try the PIN again, s
 
 A file with a private key or a PIN is refused if its mode lets others use it. If it is root's and the station runs as
 another user, its group may read it. The station looks at the start, and at a private key again before each use. The
-files of --db and --lists with their logs, --policy, --other-ca, --list-ca and --cacert are refused, at the start and in
-each round, if their group or others can write them, or if they belong to another user than root and the station's own.
+files of --db and --lists with their logs, --policy, --other-ca, --list-ca and --cacert are refused, at the start, each
+second and before something new is signed, if their group or others can write them, or if they belong to another user
+than root and the station's own.
 
 With these, the station also publishes the office's KRL:
 
@@ -42,7 +43,7 @@ With these, the station also publishes the office's KRL:
 Other options:
 
   --other-ca FILE  the public-key lines of CAs for which other stations sign; may be repeated. Certificates for these
-                   are skipped silently. The files are read again in each round
+                   are skipped silently. The files are read again each second, and before something new is signed
   --cert PEM       the station's key and certificate in one file, for the front
   --cacert FILE    the authority that issued the front's certificate. Without it, all that this system trusts count
   --caller NAME    the station's name at an office without a front [default: station]
@@ -52,12 +53,13 @@ Other options:
 
 For each pending certificate, the station fetches the unsigned certificate, checks its digest and its serial, asks the
 guard (`sshstation judge`, which has to be on the PATH), signs, verifies the signature, delivers it, and prints `signed
-SERIAL`. If the office doesn't take the signature, it prints that at once on standard error. If the certificates that it
-didn't sign for a reason have changed, it prints their number and serials on standard error. What a front can make up
-or repeat is printed up to 64 KiB at once, and 64 bytes a second in the long run; the first refusal of each kind by the
-guard and the first `signed` of a serial always are. It tries what it didn't sign again after a pause that grows to a
-minute, and at once if the policy or a file of --other-ca has changed, but always after all new ones. Of more than
-64 MiB of pending certificates it takes the first.
+SERIAL`. The guard gets up to 64 at once. If the office doesn't take the signature, the station prints that at once on
+standard error. If the certificates that it didn't sign for a reason have changed, it prints their number and serials on
+standard error. What a front can make up or repeat is printed up to 64 KiB at once, and 64 bytes a second in the long
+run; the first refusal of each kind by the guard and the first `signed` of a serial always are. It tries what it didn't
+sign again after a pause that grows to a minute, and at once if the policy or a file of --other-ca has changed, but
+always after all new ones. Of more than 64 MiB of pending certificates it takes the first. After a list that is long, or
+an office that doesn't answer, it looks less often: at least once a second.
 
 At the start, and then every --publish-every seconds, the station fetches the office's KRL, of at most 32 MiB. If
 `ssh-keygen -Q -l` can read it, within five seconds of a processor and 400 MiB of memory, the station asks the guard of

@@ -14,15 +14,15 @@ LONGEST_JUDGING, LONGEST_ENDING = 600, 60
 # How many bodies the guard gets at once, how many may wait for it, and by how many connections bodies are fetched, and
 # signatures delivered.
 MOST_JUDGED, MOST_FETCHED, CONNECTIONS = 64, 128, 4
-# In seconds: how often it looks for pending certificates for a while after one has come, how long that is, and at most
-# how long it waits in any case. So that long lists don't keep the office busy, it also waits for a multiple of the time
-# that the answer took.
-OFTEN, FOR_A_WHILE, LONGEST_INTERVAL, TIMES_AS_LONG = 0.02, 60, 1, 3
+# In seconds: how often it looks for pending certificates for a while after one has come, and how long that is. So that
+# long lists don't keep the office busy, it waits for a multiple of the time that the answer took if that was long, and
+# at most so many seconds.
+OFTEN, FOR_A_WHILE, LONG_ANSWER, TIMES_AS_LONG, LONGEST_INTERVAL = 0.02, 60, 0.1, 3, 1
 # Servers take no list of a higher version.
 LAST_VERSION = (1 << 63) - 1
 LONGEST_PAUSE, PAUSE_OF_LISTS = 60, 10
-# For how long a round tries again what wasn't signed before, in seconds: new certificates wait for it.
-LONGEST_AGAIN = 5
+# For how long at most a round tries again what wasn't signed before, in seconds: new certificates wait for it.
+LONGEST_AGAIN = 1
 # In bytes: for the pending certificates, for a body (the guard refuses one that is too long), for a reply or a refusal,
 # for the list of what is revoked (the front and the servers take none that is longer).
 LONGEST_PENDING, LONGEST_BODY, LONGEST_REPLY, LONGEST_LIST = 1 << 26, 1 << 16, 1 << 12, 1 << 25

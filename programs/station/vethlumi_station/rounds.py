@@ -2,11 +2,12 @@
 import array
 import collections
 import hashlib
+import itertools
 import os
 import subprocess
 import sys
 import time
-from concurrent.futures import Future, wait
+from concurrent.futures import FIRST_COMPLETED, Future, wait
 
 from .asking import Connection, Office
 from .ending import Overlong, end_if_told, held_off
@@ -16,7 +17,8 @@ from .guard import Guard, serial_of
 from .journal import Room, Said, Serials, fingerprint, joined, print_line, printable
 from .keys import signer
 from .limits import (CONNECTIONS, FOR_A_WHILE, LONGEST_AGAIN, LONGEST_INTERVAL, LONGEST_PAUSE, LONGEST_PENDING,
-                     LONGEST_SILENCE, MOST_FETCHED, MOST_JUDGED, MOST_KEPT, MOST_REASONS, OFTEN, TIMES_AS_LONG)
+                     LONGEST_SILENCE, LONG_ANSWER, MOST_FETCHED, MOST_JUDGED, MOST_KEPT, MOST_REASONS, OFTEN,
+                     TIMES_AS_LONG)
 from .lists import Lists
 from .wire import verifies
 from .workers import Workers
@@ -99,8 +101,9 @@ class Station:
         now = time.monotonic()
         self.new_at = now if is_new else self.new_at
         interval = min(OFTEN, self.given.interval) if now < self.new_at + FOR_A_WHILE else self.given.interval
-        taken = min((1 + TIMES_AS_LONG) * (now - begun), LONGEST_INTERVAL)
-        self.pause = max(0, interval if is_new else max(interval, taken) - (now - begun))
+        taken = now - begun
+        is_long = taken > LONG_ANSWER and not is_new
+        self.pause = min(TIMES_AS_LONG * taken, LONGEST_INTERVAL) if is_long else max(0, interval - taken)
 
     def try_all(self, new):
         """Tries to sign what is pending. What wasn't signed before comes last and in turn, so that it holds up nothing
@@ -124,10 +127,11 @@ class Station:
                 # The key hangs. What is left comes in the next round.
                 rows.clear()
                 fetched.clear()
-            while self.sent and (self.sent[0][1].done() or len(self.sent) > MOST_FETCHED):
-                self.finish()
+            if len(self.sent) > MOST_FETCHED:
+                self.wait_for(self.sent[0][1])
         while self.sent:
-            self.finish()
+            self.wait_for(self.sent[0][1])
+            self.do_meanwhile()
 
     def fetched(self, row):
         """What comes of fetching a body: the one that is kept, if it is."""
@@ -146,6 +150,7 @@ class Station:
 
     def next_of(self, fetched):
         """The next rows whose bodies have come, in their order and with what came. Waits for the first."""
+        self.do_meanwhile()
         self.wait_for(fetched[0][1])
         batch = []
         while fetched and len(batch) < MOST_JUDGED and fetched[0][1].done():
@@ -153,17 +158,22 @@ class Station:
         return batch
 
     def wait_for(self, future):
-        """Waits for what a thread does. Meanwhile lists are published when they are due, and what is left is said: an
-        office can make a round last."""
-        while True:
-            if self.lists and self.lists.is_due():
-                # This may take minutes, and what is left is said before.
-                self.report()
-                self.publish()
-            if time.monotonic() > self.silent_since + LONGEST_SILENCE:
-                self.report()
-            if wait([future], 1).done:
-                return
+        """Waits for what a thread does, and does meanwhile what can be done."""
+        while not future.done():
+            self.do_meanwhile()
+            wait([future, *(it for _, it in itertools.islice(self.sent, 1))], 1, FIRST_COMPLETED)
+
+    def do_meanwhile(self):
+        """Says what came of deliveries, publishes lists when they are due, and says what is left: an office can make a
+        round last."""
+        while self.sent and self.sent[0][1].done():
+            self.finish()
+        if self.lists and self.lists.is_due():
+            # This may take minutes, and what is left is said before.
+            self.report()
+            self.publish()
+        if time.monotonic() > self.silent_since + LONGEST_SILENCE:
+            self.report()
 
     def judge(self, batch):
         """Signs those of some bodies that the guard approves, and has the signatures delivered. Returns whether the key
@@ -225,9 +235,8 @@ class Station:
         self.office.deliver(*row.split(" "), signature, connection)
 
     def finish(self):
-        """Says what came of the first delivery that is under way."""
+        """Says what came of the first delivery."""
         row, future = self.sent[0]
-        self.wait_for(future)
         serial = serial_in(row)
         try:
             future.result()
