@@ -361,6 +361,40 @@ def test_the_departments_have_one_path(recorded, target, method, status):
     assert (status, []) == (answer.status, recorded.recorder.requests)
 
 
+def accepted(recorded):
+    """How many messages the front says that the office has accepted, and its ETag."""
+    head = recorded.ask(getting("/v1/messages", "HEAD"), "station").head.decode().lower()
+    found = dict(line.split(": ", 1) for line in head.split("\r\n")[1:] if line)
+    return int(found["content-length"]), found["etag"]
+
+
+def test_the_station_learns_that_a_message_was_accepted(recorded, monkeypatch):
+    """One of a caller or root, and by which of nginx's processes doesn't matter. What is refused, what is read and what
+    the station itself sends changes nothing."""
+    until(lambda: accepted(recorded) == (time.sleep(0.2), accepted(recorded))[1])
+    count, tag = accepted(recorded)
+    for number in range(1, 9):
+        assert [200] == statuses(recorded.ask(posting(MESSAGE), "root" if number % 2 else "ana"))
+        until(lambda: accepted(recorded)[0] == count + number)
+        before, tag = tag, accepted(recorded)[1]
+        assert before != tag
+    assert [200] == statuses(recorded.ask(posting(MESSAGE), "station"))
+    assert [200] == statuses(recorded.ask(getting("/v1/certs/1"), "ana"))
+    refusal = b"HTTP/1.1 409 Conflict\r\ncontent-length: 0\r\nconnection: close\r\n\r\n"
+    monkeypatch.setattr(recorded.recorder, "answer", refusal)
+    assert [409] == statuses(recorded.ask(posting(MESSAGE), "ana"))
+    time.sleep(0.5)
+    assert (count + 8, tag) == accepted(recorded)
+
+
+@pytest.mark.parametrize("name, target, method, status", [
+    ("station", "/v1/messages", "GET", 405), ("station", "/v1/messages", "POST", 405),
+    ("station", "/v1/messages?x", "HEAD", 404), ("station", "/v1/messages/", "HEAD", 404),
+    *((it, "/v1/messages", "HEAD", 403) for it in (None, "ana", "root", "watch", "host-web", "as-station"))])
+def test_nobody_else_learns_it(recorded, name, target, method, status):
+    assert [status] == statuses(recorded.ask(getting(target, method), name))
+
+
 # What a browser says of a request: of whose page it is, for what, and as what; and whether the front answers it.
 BROWSED = [
     ("cross-site", "no-cors", "image", False), ("cross-site", "no-cors", "script", False),

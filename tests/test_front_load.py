@@ -365,14 +365,16 @@ def test_while_the_office_is_away_strangers_write_nothing(make_front):
 
 
 def test_a_station_that_looks_often_writes_nothing(make_front, recorder):
-    """It looks for pending certificates up to 50 times a second. What a reader gets, what the station fetches besides,
-    and that the office doesn't answer is written."""
+    """It looks up to 50 times a second. What a reader gets, what the station fetches besides, and that the office doesn't
+    answer is written."""
     front, away = make_front(recorder.port), make_front(free_port())
     for it, name, path, due in ((front, "station", "/v1/pending", 0), (front, "watch", "/v1/pending", 1),
+                                (front, "station", "/v1/messages", 0),
                                 (front, "station", "/v1/table", 1), (front, "station", "/v1/certs/1/body", 1),
                                 (away, "station", "/v1/pending", 1)):
-        before = (it.state / "asked.log").read_text().count("\n")
-        assert [200 if it is front else 502] == statuses(it.ask(getting(path), name))
+        before, asked = (it.state / "asked.log").read_text().count("\n"), getting(path)
+        asked = asked.replace(b"GET ", b"HEAD ", 1) if path == "/v1/messages" else asked
+        assert [200 if it is front else 502] == statuses(it.ask(asked, name))
         time.sleep(1.5)
         assert due == (it.state / "asked.log").read_text().count("\n") - before, (name, path)
 

@@ -1363,6 +1363,23 @@ def test_a_station_that_is_killed_signs_all_the_same(asked, programs):
     assert digests == {serial: digest for serial, digest, *_ in asked.guard.bodies()}
 
 
+@pytest.mark.front
+def test_a_front_says_when_to_look(front, sshstation, programs):
+    """At once, however long the station would wait otherwise. What the front says is a hint alone: it looks a second
+    later, too."""
+    assert 200 == front.served.post("root", "web", WEB).status
+    new_key("alice")
+    station = new_station(sshstation, front.office, front.url, policy=WEB, ahead=3600,
+                          certificate=front.certificate("station"), trusted=front.authority / "ca.crt")
+    process = station.begin(programs, "--interval", "86400")
+    ana = front.session("ana")
+    for number in range(1, 4):
+        message = issue("web/alice", key=pathlib.Path("alice.pub").read_text().strip(), **lasting(3600))
+        assert 200 == ana.post(f"{front.url}/v1/requests/r{number}", data=message.encode()).status_code
+        assert f"signed {number}\n".encode() == next_line(process.stdout)
+    assert 0 == stopped(process)[0]
+
+
 @pytest.mark.parametrize("sign, status, to_all", [
     (signal.SIGTERM, 0, False), (signal.SIGTERM, 0, True), (signal.SIGINT, 130, True), (signal.SIGQUIT, 131, True),
     (signal.SIGHUP, 129, True)],

@@ -16,8 +16,8 @@ from .addresses import addresses, fronts_at, numeric
 from .faults import Fault
 from .files import check_secret, state_of
 from .journal import printable
-from .limits import (LONGEST_BODY, LONGEST_CONNECTING, LONGEST_LIST, LONGEST_PENDING, LONGEST_PUBLISHING, LONGEST_REPLY,
-                     LONGEST_REQUEST, MOST_FRONTS, PIECE)
+from .limits import (FOR_A_WHILE, LONGEST_BODY, LONGEST_CONNECTING, LONGEST_LIST, LONGEST_PENDING, LONGEST_PUBLISHING,
+                     LONGEST_REPLY, LONGEST_REQUEST, MOST_FRONTS, PIECE)
 from .wire import SIGNATURE_BLOB
 
 PENDING = re.compile(rb"[1-9][0-9]{0,18} [0-9a-f]{64}\n")
@@ -169,6 +169,19 @@ class Connection:
         return text
 
 
+    def tag(self, path, seconds=LONGEST_REQUEST):
+        """What tells a file of the front from what it was before: its ETag, or None if it doesn't give one."""
+        limit, answer = Limit(seconds), None
+        try:
+            answer, _ = self.answer("HEAD", self.office.request("HEAD", path, None), 0, limit)
+        except (OSError, http.client.HTTPException, ValueError):
+            pass
+        finally:
+            if not answer:
+                self.close()
+        return answer.getheader("etag") if answer and answer.status == 200 else None
+
+
 class Office:
     """The office, or its front. What it answers is bounded in time and in length, and no redirect is followed. It is
     asked by several threads, each with a connection of its own."""
@@ -190,6 +203,8 @@ class Office:
         # next connection begins, and the kinds of addresses with a way to them.
         self.found, self.has_several, self.turn, self.routed = [], True, 0, set()
         self.lock, self.seen, self.context = threading.Lock(), None, None
+        # The moment before which the front isn't asked how many messages were accepted: it may not know.
+        self.knows_at = 0
         # That of the thread which looks up names: a program that asks for them is ended with it.
         self.own = Connection(self, looks_up=True)
 
@@ -249,6 +264,16 @@ class Office:
             elif is_whole or line.endswith(b"\n"):
                 raise OSError("what came isn't a list of pending certificates")
         return list(rows), is_whole
+
+    def messages(self):
+        """What changes with each message that the front has seen accepted, or None if nobody says. It is a hint alone. A
+        front of several knows of its own messages alone."""
+        if not self.is_tls or self.has_several or time.monotonic() < self.knows_at:
+            return None
+        found = self.own.tag("/v1/messages")
+        if not found:
+            self.knows_at = time.monotonic() + FOR_A_WHILE
+        return found
 
     def body(self, serial, connection):
         return connection.ask(f"/v1/certs/{serial}/body", LONGEST_BODY)

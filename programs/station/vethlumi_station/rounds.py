@@ -48,8 +48,9 @@ class Station:
         self.rows, self.is_whole, self.silent_since, self.sent = [], True, 0, collections.deque()
         # The other CAs, when the files were last looked at, and what a refusal of the guard depends on.
         self.known, self.looked_at, self.rules = self.other_cas(), time.monotonic(), None
-        # How long the next round waits, and when a row was last new.
-        self.pause, self.new_at = 0, float("-inf")
+        # When this round began, how long the next one waits, when a row was last new, and what the front last said of
+        # messages.
+        self.begun, self.pause, self.new_at, self.messages = 0, 0, float("-inf"), None
         self.lists = Lists(given, self.key, self.office, Room()) if given.lists else None
         self.guard = None
 
@@ -65,7 +66,7 @@ class Station:
     def look(self):
         """A round. Returns whether nothing was left that this station should have signed."""
         end_if_told()
-        begun = time.monotonic()
+        self.begun = time.monotonic()
         try:
             self.rows, self.is_whole = self.office.pending()
         except OSError as fault:
@@ -74,7 +75,7 @@ class Station:
             return self.said.say({why: why})
         new = [it for it in self.rows if it not in self.left]
         self.look_at_files(bool(new))
-        self.pause_after(begun, bool(new))
+        self.decide_pause(bool(new))
         self.bodies = {row: self.bodies[row] for row in self.rows if row in self.bodies}
         self.kept = sum(map(len, self.bodies.values()))
         self.left = {row: self.left[row] for row in self.rows if row in self.left}
@@ -96,12 +97,12 @@ class Station:
         if is_new or time.monotonic() > self.looked_at + LONGEST_INTERVAL:
             self.known, self.looked_at = self.other_cas(), time.monotonic()
 
-    def pause_after(self, begun, is_new):
-        """Decides how long the next round waits after the beginning of this one."""
+    def decide_pause(self, is_new):
+        """Decides how long the next round waits."""
         now = time.monotonic()
         self.new_at = now if is_new else self.new_at
         interval = min(OFTEN, self.given.interval) if now < self.new_at + FOR_A_WHILE else self.given.interval
-        taken = now - begun
+        taken = now - self.begun
         is_long = taken > LONG_ANSWER and not is_new
         self.pause = min(TIMES_AS_LONG * taken, LONGEST_INTERVAL) if is_long else max(0, interval - taken)
 
@@ -307,11 +308,19 @@ class Station:
         return self.lists is None or self.lists.publish_if_due()
 
     def wait(self):
-        """Waits for the next round. Lists are published when they are due, however long that is before it."""
-        end = time.monotonic() + self.pause
+        """Waits for the next round, which begins at once when a front says that a message was accepted. Lists are
+        published when they are due, however long that is before it."""
+        begun = time.monotonic()
+        end = begun + self.pause
         while (now := time.monotonic()) < end:
             end_if_told()
-            time.sleep(max(0, min(end, self.lists.due if self.lists else end) - now))
+            if messages := self.office.messages():
+                if messages != self.messages and now > self.begun + OFTEN:
+                    self.messages = messages
+                    return
+                # While the front says so, the office is asked less often.
+                end = max(end, begun + LONGEST_INTERVAL)
+            time.sleep(max(0, min(end, now + OFTEN, self.lists.due if self.lists else end) - now))
             self.publish()
             self.guard.stay()
 
