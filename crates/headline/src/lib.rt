@@ -35,7 +35,7 @@ ghost use Rattle.headline.specs.Headline.{WritesList, has_writer_failed};
 
 pub use exchanges::RunFault;
 use exchanges::apply_exchanges;
-use krl::{krl_len, write_krl};
+use krl_writer::{krl_len, write_krl};
 use office::{MOST_CAS, Registry, Revoked, StoreFault};
 pub use publish_fault::PublishFault;
 use sqlite::Alter;

@@ -1,4 +1,4 @@
-//! OpenSSH key revocation lists: sets of serials as runs, and the list's writer and reader.
+//! OpenSSH key revocation lists: sets of serials as runs, what a list is, and its reader.
 #![tactic(auto)]
 
 mod ca_part;
@@ -8,7 +8,6 @@ mod key_ids;
 mod krl_fault;
 mod krl_head;
 mod laws;
-mod lengths;
 mod parts;
 mod published;
 mod reader;
@@ -16,7 +15,6 @@ mod run;
 mod runs;
 mod runs_left;
 mod sections;
-mod writer;
 
 pub use ca_part::CaPart;
 pub use krl_fault::KrlFault;
@@ -25,9 +23,8 @@ pub use laws::{
     a_set_has_its_runs, a_text_has_one_list, nothing_is_forgotten_by_pairs, revocations_only_grow,
     runs_are_maximal, runs_are_one, what_is_written_is_read,
 };
-pub use lengths::krl_len;
+pub use parts::{KEY_ID_LIST, SERIAL_LIST, SERIAL_RANGE};
 pub use published::{PublishedList, forgets_nothing, read_published};
-pub use reader::check;
+pub use reader::{CERTIFICATES, check};
 pub use run::Run;
 pub use runs::{Runs, runs_of};
-pub use writer::write_krl;

@@ -17,13 +17,13 @@ use crate::run::Run;
 use wire::Cursor;
 
 /// The type of a part that lists serials (`KRL_SECTION_CERT_SERIAL_LIST`).
-pub(crate) const SERIAL_LIST: u8 = 0x20;
+pub const SERIAL_LIST: u8 = 0x20;
 
 /// The type of a part that is a range of serials (`KRL_SECTION_CERT_SERIAL_RANGE`).
-pub(crate) const SERIAL_RANGE: u8 = 0x21;
+pub const SERIAL_RANGE: u8 = 0x21;
 
 /// The type of a part that lists key ids (`KRL_SECTION_CERT_KEY_ID`).
-pub(crate) const KEY_ID_LIST: u8 = 0x23;
+pub const KEY_ID_LIST: u8 = 0x23;
 
 // Whether a serial list has the serial. `None` if the data isn't a list of serials.
 fn serials_name(bytes: &[u8], serial: u64) -> Option<bool>

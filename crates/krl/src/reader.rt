@@ -23,7 +23,7 @@ pub(crate) const MAGIC: u64 = 0x5353484b524c0a00;
 pub(crate) const FORMAT_VERSION: u32 = 1;
 
 /// The type of a certificates section (`KRL_SECTION_CERTIFICATES`).
-pub(crate) const CERTIFICATES: u8 = 1;
+pub const CERTIFICATES: u8 = 1;
 
 // Whether a section with this CA key is for the CA of the blob.
 fn is_for_blob(ca: &[u8], blob: &[u8]) -> bool

@@ -1,6 +1,6 @@
 //! A run of serials.
 
-ghost use Rattle.std.specs.Prelude.{◌≡◌, IsTrue, ◌↔◌, ◌+◌, ◌<◌, ◌≤◌};
+ghost use Rattle.std.specs.Prelude.{◌≡◌, IsTrue, ◌↔◌, ◌+◌, ◌<◌};
 
 /// The serials from `lo` to `hi`, both included.
 #[derive(Clone, Copy, PartialEq, Eq)]
@@ -14,7 +14,6 @@ pub struct Run {
 impl Run {
     ghost use Rattle.krl.specs.Sets.{cut_run, is_within};
     ghost use Rattle.krl.specs.Published.{is_short};
-    ghost use Rattle.krl.specs.Lengths.{listed_length, range_length};
 
     /// Whether the serial is in the run.
     pub(crate) fn has(self, serial: u64) -> bool
@@ -24,32 +23,10 @@ impl Run {
     }
 
     /// Whether the run has one or two serials.
-    pub(crate) fn is_short(self) -> bool
+    pub fn is_short(self) -> bool
         ensures { result ≡ is_short self }
     {
         self.hi < self.lo || self.hi - self.lo < 2
-    }
-
-    /// The length of the run's serials, if it is short.
-    pub(crate) fn listed_len(self) -> u64
-        ensures value { result ≡ listed_length self }
-        ensures bound { result ≤ 16 }
-    {
-        if !self.is_short() {
-            0
-        } else if self.lo == self.hi {
-            8
-        } else {
-            16
-        }
-    }
-
-    /// The length of the run's range, if it is long.
-    pub(crate) fn range_len(self) -> u64
-        ensures value { result ≡ range_length self }
-        ensures bound { result ≤ 21 }
-    {
-        if self.is_short() { 0 } else { 21 }
     }
 
     /// Whether the run ends before the other begins, with a serial between them.

@@ -5,12 +5,10 @@ ghost use Rattle.std.specs.Prelude.{◌<◌, ◌≤◌, ◌-◌, ◌^◌, ℕ, �
 ghost use Rattle.std.specs.Prelude.{OnErr, IfOk, vec_len, length, slice_get, slice_index_or};
 ghost use Rattle.std.specs.Bool.{OnTrue, OnFalse};
 ghost use Rattle.std.specs.List.{list_any, filter_map};
-ghost use Rattle.std.specs.Option.{SomeIff};
 ghost use Rattle.std.specs.List.Sorted.{IsStrictlyIncreasing, IsNonDecreasing, IsPartitionPoint};
 ghost use Rattle.krl.specs.Sets.{AreRuns, HasAll, contains, cut_run, is_among, is_below_bound, is_last_reached};
 ghost use Rattle.krl.specs.Sets.{is_within};
 
-use crate::lengths::serials_len;
 use crate::run::Run;
 use std::alloc::{AllocError, Global};
 use std::marker::Model;
@@ -36,8 +34,6 @@ impl Model for Runs {
 }
 
 impl Runs {
-    ghost use Rattle.krl.specs.Published.{serial_length};
-
     /// The runs of a vector, which is moved and not copied. `None`, with the vector dropped, if and only if one
     /// of them ends before it begins, or they don't ascend with a serial between any two.
     pub fn from_runs(runs: Vec<Run>) -> Option<Runs>
@@ -57,14 +53,6 @@ impl Runs {
         ensures lawful { AreRuns result.now }
     {
         self.runs.as_slice()
-    }
-
-    /// The length in bytes of the parts that a list writes for these serials, with types and lengths. `None` if and
-    /// only if it is over 4294967295.
-    pub fn serial_len(&self) -> Option<u64>
-        ensures { SomeIff result (serial_length self.now ≤ 4294967295) (serial_length self.now) }
-    {
-        serials_len(self.runs.as_slice())
     }
 
     /// Whether each serial from `lo` to `hi`, both included, is in the set. Requires `lo` ≤ `hi`.

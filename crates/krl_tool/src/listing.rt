@@ -4,7 +4,8 @@ ghost use Rattle.std.specs.Prelude.{◌≡◌, IfOk};
 ghost use Rattle.krl.specs.Published.{published_text};
 
 use anyhow::{Result, bail};
-use krl::{CaPart, KrlHead, krl_len, write_krl};
+use krl::{CaPart, KrlHead};
+use krl_writer::{krl_len, write_krl};
 use std::alloc::Global;
 use text::Texts;
 use wire::VecSink;

@@ -4,7 +4,8 @@ ghost use Rattle.std.specs.Prelude.{IsTrue};
 ghost use Rattle.std.specs.List.Sorted.{IsStrictlyIncreasing};
 ghost use Rattle.krl.specs.Published.{fits};
 
-use krl::{CaPart, KrlHead, krl_len, runs_of, write_krl};
+use krl::{CaPart, KrlHead, runs_of};
+use krl_writer::{krl_len, write_krl};
 use lines::OutFault;
 use std::alloc::Global;
 use text::{NoMemory, Text, Texts};

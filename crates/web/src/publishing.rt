@@ -20,7 +20,7 @@ ghost use Rattle.web.specs.Reports.{signers_report};
 use crate::pieces::{put_number, put_pieces};
 use crate::room::{around, room};
 use http_requests::{MAX_RESPONSE_HEAD, MediaType, begin_response};
-use krl::{krl_len, write_krl};
+use krl_writer::{krl_len, write_krl};
 use lines::{KeyLine, SignerRow, fingerprint, write_signers};
 use message::Department;
 use office::{Ca, MOST_CAS, Registry, Revoked, StoreFault};
