@@ -11,3 +11,7 @@ pub mod Damaged
 pub mod Answering
 pub mod Changed
 pub mod Scopes
+pub mod Opened
+pub mod Steps
+pub mod Left
+pub mod Lives

@@ -10,3 +10,7 @@ pub mod Keeping
 pub mod Told
 pub mod Opening
 pub mod Registering
+pub mod Images
+pub mod Steps
+pub mod Lives
+pub mod Runs

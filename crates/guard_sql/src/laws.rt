@@ -1,10 +1,19 @@
-//! Theorems about a register in tables: functions without a body, whose contracts a caller cites.
+//! Theorems about a register in tables, and about a guard from run to run: functions without a body, whose contracts a
+//! caller cites.
 
+ghost use Rattle.std.specs.Prelude.{◌≡◌, ◌≤◌, ◌++◌, ◌∷◌, ℕ, List, All, Contains, Some, None, Ok};
 ghost use Rattle.sqlite.specs.Held.{state};
+ghost use Rattle.guard.specs.declared.approved.Approved.{Approved};
+ghost use Rattle.guard.specs.Machine.{State, Question, refusal_of};
+ghost use Rattle.guard.specs.Retirement.{retirement};
 ghost use Rattle.guard_sql.specs.Keeping.{HasOneBodyASerial};
+ghost use Rattle.guard_sql.specs.Lives.{LivesKeep, RunsGoOn};
+ghost use Rattle.guard_sql.specs.Runs.{FoundIsHad, RunKeepsGuard};
+ghost use Rattle.guard_sql.specs.Steps.{IsLater, Step, WasAskedIn, guard_after};
 
 use crate::store::GuardStore;
-use sqlite::Alter;
+use sqlite::{Alter, Connection, Files};
+use sqlite_disk::Disk;
 
 /// Two bodies under one serial are the same, byte by byte, whatever was done to the tables before.
 pub fn a_serial_has_one_body<S: Alter>(store: &GuardStore<S>)
@@ -12,3 +21,59 @@ pub fn a_serial_has_one_body<S: Alter>(store: &GuardStore<S>)
 {
     let _ = store;
 }
+
+/// A connection that was just opened has each guard whose rows its trees hold.
+pub fn what_is_found_is_had<S: Alter>(conn: &Connection<S>)
+    ensures { FoundIsHad (state S.Store conn.now) }
+{
+    let _ = conn;
+}
+
+/// After every sequence of runs, from no file on, the files hold the guard after the runs' steps, with each body for
+/// which a run printed that it may be signed, under its serial. A crash may have ended each run. The same holds after
+/// one more run.
+pub fn lives_keep_what_was_signed()
+    ensures keep { LivesKeep }
+    ensures goes_on { RunsGoOn }
+{}
+
+/// A run that closed its files well leaves the guard that it found in them, with the bodies that it approved.
+pub fn a_run_keeps_the_guard<D: Disk + Drop>(files: &Files<D>)
+    ensures { RunKeepsGuard D.Disk files.now }
+{
+    let _ = files;
+}
+
+/// Each body that a guard keeps after any steps was asked for in one of them, and could be signed then: permitted by
+/// the policy that was given, for the guard's CA and under one of its serials at that time.
+pub fn a_kept_body_was_permitted()
+    ensures { (steps : List Step) (s : State) → guard_after steps ≡ Some s → All (WasAskedIn steps) s.approved }
+{}
+
+/// Whatever steps come later, the CA and the first serial stay, and the last serial is never raised. Each approved body
+/// stays, and none is approved above the last serial of an earlier time.
+pub fn a_guard_only_narrows()
+    ensures { (steps later : List Step) (s t : State) → guard_after steps ≡ Some s
+        → guard_after (steps ++ later) ≡ Some t → IsLater s t }
+{}
+
+/// After a retirement to a last serial no approved body is above it, whatever steps come later.
+pub fn a_retired_guard_stays_retired()
+    ensures { (steps later : List Step) (last : ℕ) (s retired t : State) → guard_after steps ≡ Some s
+        → retirement s last ≡ Ok retired → guard_after (steps ++ Step.retiring last ∷ later) ≡ Some t
+        → All (λ a. a.serial ≤ last) t.approved }
+{}
+
+/// Two rows with the same serial are equal, so a serial has only one body, whatever the steps were.
+pub fn a_kept_serial_has_one_body()
+    ensures { (steps : List Step) (s : State) (a b : Approved) → guard_after steps ≡ Some s
+        → Contains s.approved a → Contains s.approved b → a.serial ≡ b.serial → a ≡ b }
+{}
+
+/// A body that may be signed may be signed again after that question, whatever is asked in between, under any policy
+/// and at any time, and after any retirement.
+pub fn a_kept_body_is_signed_again()
+    ensures { (steps later : List Step) (s t : State) (q again : Question) → guard_after steps ≡ Some s
+        → refusal_of s q ≡ None → again.body ≡ q.body
+        → guard_after (steps ++ Step.asking q ∷ later) ≡ Some t → refusal_of t again ≡ None }
+{}

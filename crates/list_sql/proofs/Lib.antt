@@ -9,3 +9,6 @@ pub mod Changed
 pub mod Lasts
 pub mod Lookups
 pub mod PieceLemmas
+pub mod Opened
+pub mod Left
+pub mod Lives

@@ -9,3 +9,6 @@ pub mod Keeping
 pub mod Told
 pub mod Opening
 pub mod Registering
+pub mod Images
+pub mod Lives
+pub mod Runs

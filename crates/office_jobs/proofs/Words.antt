@@ -13,7 +13,7 @@ pub use Rattle.office.specs.declared.opening.Opening.{Opening}
 pub use Rattle.office.specs.declared.store_fault.StoreFault.{StoreFault}
 pub use Rattle.restart.specs.Lives.{Asked}
 pub use Rattle.restart.specs.Runs.{AddsArrivals}
-pub use Rattle.restart.specs.declared.ending.EndFault.{EndFault}
+pub use Rattle.files.specs.declared.ending.EndFault.{EndFault}
 pub use Rattle.server.specs.Books.{Book}
 pub use Rattle.sqlite.proofs.Callers.{memory_is_clean}
 pub use Rattle.sqlite.specs.Held.{Held, state}

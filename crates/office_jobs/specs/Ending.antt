@@ -4,8 +4,8 @@ use Rattle.sqlite.specs.declared.error.Error.{Error}
 use Rattle.sqlite.specs.declared.error.Error.TheVariants.{SqliteFailure}
 use Rattle.sqlite.specs.declared.error.ErrorCode.TheVariants.{OutOfMemory}
 use Rattle.office.specs.declared.store_fault.StoreFault.TheVariants.{Device}
-use Rattle.restart.specs.declared.ending.EndFault.{EndFault}
-use Rattle.restart.specs.declared.ending.EndFault.TheVariants.{GivenUp, Uncopied}
+use Rattle.files.specs.declared.ending.EndFault.{EndFault}
+use Rattle.files.specs.declared.ending.EndFault.TheVariants.{GivenUp, Uncopied}
 use Rattle.office_jobs.specs.declared.job_fault.JobFault.{JobFault}
 use Rattle.office_jobs.specs.declared.job_fault.JobFault.TheVariants.{NoMemory, Store}
 

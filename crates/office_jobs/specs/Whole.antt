@@ -16,7 +16,7 @@ use Rattle.lines.specs.declared.key_line.KeyLine.{KeyLine}
 use Rattle.office.specs.declared.opening.Opening.{Opening}
 use Rattle.office.specs.declared.opening.OpeningFault.{OpeningFault}
 use Rattle.store.specs.Transactions.{IsAtRest}
-use Rattle.restart.specs.declared.ending.EndFault.{EndFault}
+use Rattle.files.specs.declared.ending.EndFault.{EndFault}
 use Rattle.restart.specs.Ending.{IsEnd}
 use Rattle.restart.specs.Lives.{Asked, End}
 use Rattle.restart.specs.Runs.{AddsArrivals, AreRuns, DoesOver, KeepsOffice, RunsOn}

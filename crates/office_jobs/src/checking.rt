@@ -9,8 +9,8 @@ ghost use Rattle.office_jobs.specs.Commands.{ChecksIn};
 ghost use Rattle.office_jobs.specs.Faults.{IsOfChecking};
 ghost use Rattle.office_jobs.specs.Finding.{WithFile};
 
+use crate::file_opening::open_file;
 use crate::file_reader::{read_key, read_list};
-use crate::files::open_file;
 use crate::job_fault::JobFault;
 use crate::output::write_out;
 use crate::world::World;

@@ -15,7 +15,7 @@ ghost use Rattle.office_jobs.specs.Words.{AnswersWords, IsOfBadWords, Shows, no_
 use crate::applying::apply_to_trial;
 use crate::checking::check_in;
 use crate::ending::{flushed, status_of, test_ended};
-use crate::files::open_file;
+use crate::file_opening::open_file;
 use crate::founding::Founding;
 use crate::job::OfficeJob;
 use crate::job_fault::JobFault;

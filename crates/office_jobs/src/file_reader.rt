@@ -5,7 +5,7 @@ ghost use Rattle.exchanges.specs.Exchanges.{AreExchanges, IsBadRecord, TellsOf, 
 ghost use Rattle.office_jobs.specs.Faults.{IsOfExchanges};
 ghost use Rattle.office_jobs.specs.Reading.{HasNoKey, IsKeyText};
 
-use crate::files::kind_fault;
+use crate::file_opening::kind_fault;
 use crate::job_fault::JobFault;
 use exchanges::{MAX_FILE, read_exchanges};
 use lines::{KeyLine, read_key_line};

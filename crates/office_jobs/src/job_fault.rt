@@ -1,7 +1,7 @@
 //! Why a job was not done.
 
+use crate::file_opening::kind_fault;
 use crate::file_reader::ReadFault;
-use crate::files::kind_fault;
 use exchanges::{ExchangesFault, RunFault};
 use headline::PublishFault;
 use krl::KrlFault;

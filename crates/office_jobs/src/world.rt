@@ -10,11 +10,11 @@ ghost use Rattle.sqlite.specs.Steps.{over_memory};
 ghost use Rattle.office.specs.declared.opening.Opening.{Opening};
 ghost use Rattle.office.specs.declared.arrival.Arrival.{Arrival};
 ghost use Rattle.store.specs.Meaning.{Tells};
-ghost use Rattle.restart.specs.declared.ending.EndFault.{EndFault};
+ghost use Rattle.files.specs.declared.ending.EndFault.{EndFault};
 ghost use Rattle.server.specs.declared.connection_fault.SelftestFault.{SelftestFault as TestFault};
 
 use crate::trial::MemoryOffice;
-use restart::EndFault;
+use files::EndFault;
 use server::{Listener, SelftestFault};
 use sqlite::Error;
 use std::io::{ErrorKind, Read};

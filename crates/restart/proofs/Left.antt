@@ -15,7 +15,8 @@ use Rattle.office.specs.declared.opening.Opening.{Opening}
 use Rattle.office.specs.declared.arrival.Arrival.{Arrival}
 use Rattle.store.specs.Meaning.{IsHistory, IsLeft}
 use Rattle.restart.specs.Images.{HoldsAtLeast}
-use Rattle.restart.specs.Runs.{IsGivenUp, LeavesAtLeast, LeavesWhatIsTold, RunKeepsOffice}
+use Rattle.restart.specs.Runs.{LeavesAtLeast, LeavesWhatIsTold, RunKeepsOffice}
+use Rattle.files.specs.Ending.{IsGivenUp}
 
 -- after a clean close the files hold the last commit, whatever a crash makes of them
 pub leaves_what_is_told : {D : Type 0} {g : Ghosts D} (c : Held (FileStore D g)) (files : Files D) → IsCopied c files

@@ -1,9 +1,6 @@
-pub mod OneSchema
-pub mod HalfMade
 pub mod Opened
 pub mod Left
 pub mod Ended
-pub mod Looked
 pub mod HowEnded
 pub mod Lives
 pub mod Adding

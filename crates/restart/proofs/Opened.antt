@@ -14,10 +14,10 @@ use Rattle.store_sql.specs.Calls.{IsBare}
 use Rattle.store_sql.specs.Schema.{no_schema, whole, without_ca}
 use Rattle.store.specs.Rows.{office_contents}
 use Rattle.store.specs.Former.{Had, former_contents}
-use Rattle.restart.specs.Images.{HoldsNone}
+use Rattle.files.specs.Images.{HoldsNone}
 use Rattle.restart.specs.Runs.{FoundIsTold, IsBlankIfNone, TellsFormer, TellsWhatIsHeld}
-use Rattle.restart.proofs.HalfMade.{found_nothing}
-use Rattle.restart.proofs.OneSchema.{one_schema}
+use Rattle.files.proofs.HalfMade.{found_nothing}
+use Rattle.files.proofs.OneSchema.{one_schema}
 
 -- If no transaction is open, a crash leaves the trees that were found, and their schema is that of an office.
 pub found_is_told : (s : State) → ((db : Trees) → IsTrue s.is_open → s.may_leave db → db ≡ s.committed.trees)

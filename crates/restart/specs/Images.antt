@@ -2,12 +2,12 @@
 use Rattle.std.specs.Prelude.{◌⊎◌, List, [], ◌∷◌, ◌++◌, Option, None, Some}
 use Rattle.sqlite_wal.specs.Recovery.{Image}
 use Rattle.sqlite_trees.specs.Tree.{Trees}
-use Rattle.sqlite_catalog.specs.Listing.{IsSound}
-use Rattle.sqlite.specs.Files.{HoldsDatabase, IsNothing}
+use Rattle.sqlite.specs.Files.{HoldsDatabase}
 use Rattle.office.specs.declared.opening.Opening.{Opening}
 use Rattle.office.specs.declared.arrival.Arrival.{Arrival}
 use Rattle.store_sql.specs.Contents.{Kept}
-use Rattle.store_sql.specs.Schema.{no_schema, without_ca}
+use Rattle.store_sql.specs.Schema.{without_ca}
+use Rattle.files.specs.Images.{HoldsNone}
 use Rattle.store.specs.Rows.{office_contents}
 use Rattle.store.specs.Former.{Had, HasNoRollover, former_contents}
 use Rattle.store.specs.Meaning.{IsHistory}
@@ -31,16 +31,11 @@ pub record HoldsFormer (image : Image) (o : Opening) (l : List Arrival) : Type 0
 abbrev pub HoldsAtLeast : Image → Opening → List Arrival → Type 0
 HoldsAtLeast image o l = ∥ HoldsOffice image o l ⊎ ((a : Arrival) × HoldsOffice image o (l ++ a ∷ [])) ∥₁
 
--- No office yet: the database file is empty, or doesn't exist, or was only half made by an interrupted first open. Or
--- the files hold a database without tables.
-abbrev pub HoldsNone : Image → Type 0
-HoldsNone image = IsNothing image ⊎ ((trees : Trees) × ∥ HoldsDatabase image trees ∥₁ × IsSound no_schema trees)
-
 -- the status of an office: it doesn't exist yet, or it has an initial configuration and a history
 abbrev pub Standing : Type 0
 Standing = Option (Opening × List Arrival)
 
--- the files hold an office with this status
+-- the files hold an office with this status: none, or this one
 abbrev pub Holds : Image → Standing → Type 0
 Holds image None = HoldsNone image
 Holds image (Some p) = HoldsOffice image p.0 p.1

@@ -1,5 +1,3 @@
-pub mod Schemas
-pub mod Opening
 pub mod Images
 pub mod Lives
 pub mod Runs

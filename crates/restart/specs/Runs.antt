@@ -10,7 +10,7 @@ use Rattle.sqlite_trees.specs.declared.store.Store as tables
 use Rattle.sqlite_store.specs.declared.store.FileStore.{FileStore}
 use Rattle.sqlite_store.specs.FileStore as store
 use Rattle.sqlite.specs.State.{State, HasCleanDisk, IsLive, Opens}
-use Rattle.sqlite.specs.Held.{AreDatabases, Held, state}
+use Rattle.sqlite.specs.Held.{Held, state}
 use Rattle.sqlite.specs.Files.{file_state, over_files, IsOpened}
 use Rattle.sqlite.specs.Closing.{IsCopied}
 use Rattle.office.specs.declared.opening.Opening.{Opening}
@@ -21,7 +21,9 @@ use Rattle.store.specs.Transactions.{IsAsBefore}
 use Rattle.store.specs.Former.{TellsBefore}
 use Rattle.store.specs.Meaning.{IsBlank, IsHistory, Stores, Tells}
 use Rattle.web.specs.Runs.{AllDue}
-use Rattle.restart.specs.Images.{HoldsAtLeast, HoldsFormer, HoldsNone, HoldsOffice}
+use Rattle.files.specs.Ending.{IsGivenUp}
+use Rattle.files.specs.Images.{HoldsNone}
+use Rattle.restart.specs.Images.{HoldsAtLeast, HoldsFormer, HoldsOffice}
 use Rattle.restart.specs.Lives.{Asked, End, GivesNone, GoesOn, IsRun}
 use Rattle.restart.specs.Lives.End.{closed, cut}
 
@@ -62,14 +64,6 @@ LeavesWhatIsTold g s files =
 -- the same, if their disk has been faithful
 abbrev pub ClosesWell : {D : Type 0} {g : Ghosts D} → Held (FileStore D g) → Files D → Type 0
 ClosesWell {D} {g} conn files = AreClean g files.log files.db → LeavesWhatIsTold g (file_state conn) files
-
--- The connection was abandoned, shut or not. Its disk has been faithful. A crash leaves databases, and none that it
--- could not leave before.
-pub record IsGivenUp {D : Type 0} {g : Ghosts D} (conn : Held (FileStore D g)) (it : FileStore D g) : Type 0 where
-  pub clean : HasCleanDisk (file_state conn)
-  pub numbered : IsTrue (store.view it).is_numbered
-  pub sound : AreDatabases (store.recovers it)
-  pub fewer : (trees : Trees) → store.recovers it trees → (file_state conn).may_leave trees
 
 -- whatever a crash leaves, the files hold the office of the history that was represented, or it after one more request
 abbrev pub LeavesAtLeast : State → (Image → Type 0) → Type 0

@@ -5,7 +5,8 @@ ghost use Rattle.sqlite_wal.specs.Reads.{AreClean};
 ghost use Rattle.sqlite_store.specs.FileStore.{state as store_state, view};
 ghost use Rattle.sqlite_trees.specs.View.{IsClean};
 ghost use Rattle.sqlite.specs.Files.{file_state};
-ghost use Rattle.restart.specs.Runs.{ClosesWell, IsGivenUp, LeavesAtLeast, LeavesWhatIsTold};
+ghost use Rattle.restart.specs.Runs.{ClosesWell, LeavesAtLeast, LeavesWhatIsTold};
+ghost use Rattle.files.specs.Ending.{IsGivenUp};
 
 use sqlite::{Connection, Error, FileFrom, FileStore, Files, Start};
 use sqlite_disk::Disk;

@@ -4,16 +4,9 @@ ghost use Rattle.sqlite.specs.Held.{state};
 ghost use Rattle.restart.specs.Adding.{ArrivalsStay};
 ghost use Rattle.restart.specs.Lives.{LivesAreDue, RunsAreDue, RunsGoOn};
 ghost use Rattle.restart.specs.Runs.{ClosedRuns, CutRuns, FoundIsTold, RunKeepsOffice};
-ghost use Rattle.restart.specs.Schemas.{OneSchema};
 
 use sqlite::{Alter, Connection, FileStore, Files};
 use sqlite_disk::Disk;
-
-/// The trees of a sound database have only one schema, if it has no views. So no schema has to be compared when a
-/// database is opened.
-pub fn one_schema()
-    ensures { OneSchema }
-{}
 
 /// A newly opened connection represents each history whose rows its trees hold.
 pub fn what_is_found_is_told<S: Alter>(conn: &Connection<S>)

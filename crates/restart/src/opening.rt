@@ -7,11 +7,11 @@ ghost use Rattle.sqlite.specs.Opening.{is_open_error};
 ghost use Rattle.sqlite.specs.Start.{FindsIn};
 ghost use Rattle.sqlite.specs.State.{HasCleanDisk};
 ghost use Rattle.sqlite.specs.Files.{IsOpened, file_state};
-ghost use Rattle.restart.specs.Opening.{HasNoChecksums, OpensOrFails};
+ghost use Rattle.files.specs.Opening.{HasNoChecksums, OpensOrFails};
 ghost use Rattle.restart.specs.Runs.{IsBlankIfNone, TellsAfter, TellsFormer, TellsWhatIsHeld};
 
 use crate::laws::what_is_found_is_told;
-use crate::open_fault::{OpenFault, open_files};
+use files::{OpenFault, open_files};
 use sqlite::{Connection, FileFrom, FileStore, Files, Start};
 use sqlite_disk::Disk;
 

@@ -10,7 +10,7 @@ use Rattle.sqlite.specs.Held.{Held}
 use Rattle.sqlite.specs.State.{HasCleanDisk}
 use Rattle.sqlite.specs.Files.{file_state, over_files}
 use Rattle.restart.proofs.Left.{run_keeps_office}
-use Rattle.restart.specs.declared.ending.EndFault.{EndFault}
+use Rattle.files.specs.declared.ending.EndFault.{EndFault}
 use Rattle.restart.specs.Ending.{IsEnd}
 use Rattle.restart.specs.Lives.{Asked, End}
 use Rattle.restart.specs.Runs.{AreRuns, DoesOver, KeepsOffice}

@@ -11,7 +11,7 @@ use Rattle.sqlite.specs.declared.error.Error.{Error}
 use Rattle.sqlite.specs.Held.{Held}
 use Rattle.office.specs.declared.opening.Opening.{Opening}
 use Rattle.office.specs.declared.arrival.Arrival.{Arrival}
-use Rattle.restart.specs.declared.ending.EndFault.{EndFault}
+use Rattle.files.specs.declared.ending.EndFault.{EndFault}
 use Rattle.restart.specs.Lives.{Asked}
 use Rattle.server.specs.Books.{Book}
 use Rattle.server.specs.declared.connection_fault.SelftestFault.{SelftestFault}

@@ -14,10 +14,11 @@ use Rattle.sqlite.specs.Start.{FindsIn}
 use Rattle.sqlite.specs.State.{HasCleanDisk}
 use Rattle.sqlite.specs.Held.{Held, IsNew}
 use Rattle.sqlite.specs.Files.{file_state, IsOpened}
-use Rattle.restart.specs.declared.ending.EndFault.{EndFault}
-use Rattle.restart.specs.declared.open_fault.OpenFault.{OpenFault}
-use Rattle.restart.specs.Ending.{AreEnded, EndsRuns}
-use Rattle.restart.specs.Opening.{FailsToOpen, HasNoChecksums}
+use Rattle.files.specs.declared.ending.EndFault.{EndFault}
+use Rattle.files.specs.declared.open_fault.OpenFault.{OpenFault}
+use Rattle.restart.specs.Ending.{EndsRuns}
+use Rattle.files.specs.Ending.{AreEnded}
+use Rattle.files.specs.Opening.{FailsToOpen, HasNoChecksums}
 use Rattle.restart.specs.Runs.{IsBlankIfNone, TellsWhatIsHeld}
 use Rattle.sshoffice.specs.declared.database_files.DatabaseFiles.{DatabaseFiles}
 use Rattle.sshoffice.specs.declared.database_files.DatabaseFiles.TheVariants.{Connected, Failed, Left, Unopened}

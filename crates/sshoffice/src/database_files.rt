@@ -1,6 +1,6 @@
 //! What becomes of the files of a database.
 
-use restart::OpenFault;
+use files::OpenFault;
 use sqlite::Files;
 use sqlite_disk::Disk;
 

@@ -6,7 +6,7 @@ ghost use Rattle.std.specs.Prelude.{◌≡◌, ◌≤◌, IfErr, IfOk, IsTrue, m
 ghost use Rattle.sqlite_wal.specs.Files.{image_at};
 ghost use Rattle.sqlite.specs.Files.{over_files};
 ghost use Rattle.sqlite.specs.Opening.{is_open_error};
-ghost use Rattle.restart.specs.Opening.{OpensOrFails};
+ghost use Rattle.files.specs.Opening.{OpensOrFails};
 ghost use Rattle.command_line.specs.Answers.{AreBad};
 ghost use Rattle.office_jobs.specs.Commands.{RunsWordsOver};
 ghost use Rattle.office_jobs.specs.Names.{Takes};
@@ -15,9 +15,10 @@ ghost use Rattle.sshoffice.specs.DatabaseFiles.{AreCleanOf, AreGivenBack, AreLef
 ghost use Rattle.sshoffice.specs.DatabaseFiles.{OpensFiles, OpensOnce};
 
 use crate::database_files::DatabaseFiles;
-use crate::files::make_file;
+use crate::file_making::make_file;
+use files::{EndFault, OpenFault};
 use office_jobs::{MemoryOffice, World, do_words};
-use restart::{EndFault, OpenFault, end_at, open_at};
+use restart::{end_at, open_at};
 use server::{Listener, Loopback, SelftestFault, selftest};
 use sqlite::{Connection, Error, ErrorCode, FileFrom, FileStore, Start};
 use sqlite_disk::Disk;

@@ -6,7 +6,7 @@
 #![tactic(auto)]
 
 mod database_files;
-mod files;
+mod file_making;
 mod host;
 
 use crate::host::run;

@@ -10,12 +10,12 @@ use Rattle.guard.specs.declared.scope.Scope.{Scope}
 use Rattle.guard.specs.State.{State, opened}
 use Rattle.guard_sql.specs.declared.store.GuardStore.{GuardStore}
 use Rattle.guard_sql.specs.Keeping.{Keeps, Leaves}
-use Rattle.restart.specs.declared.ending.EndFault.{EndFault}
-use Rattle.restart.specs.declared.ending.EndFault.TheVariants.{GivenUp, Uncopied}
-use Rattle.restart.specs.Images.{HoldsNone}
+use Rattle.files.specs.declared.ending.EndFault.{EndFault}
+use Rattle.files.specs.declared.ending.EndFault.TheVariants.{GivenUp, Uncopied}
+use Rattle.files.specs.Images.{HoldsNone}
 use Rattle.station_jobs.specs.declared.station_fault.StationFault.{StationFault}
 use Rattle.station_jobs.specs.declared.station_fault.StationFault.TheVariants.{Device, NoMemory}
-use Rattle.guard_restart.specs.Images.{HoldsKept}
+use Rattle.guard_sql.specs.Images.{HoldsKept}
 use Rattle.sshstation.specs.declared.database_files.DatabaseFiles.{DatabaseFiles}
 use Rattle.sshstation.specs.declared.database_files.DatabaseFiles.TheVariants as now
 use Rattle.sshstation.specs.DatabaseFiles.{AreLeftAs}

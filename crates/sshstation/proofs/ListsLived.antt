@@ -33,11 +33,11 @@ use Rattle.list_sql.proofs.Changed.{published_some}
 use Rattle.list_jobs.specs.declared.list_file.ListFile as lists
 use Rattle.list_jobs.specs.Jobs.{Follows, IsRead, MakesIn, RunsIn, RunsOver}
 use Rattle.list_jobs.specs.Stating.{IsPrinted, LeavesOne, Loses, States, StatesOne, Stores, stated_by}
-use Rattle.restart.specs.declared.ending.EndFault.TheVariants.{GivenUp, Uncopied}
-use Rattle.list_restart.specs.Images.{Holds, HoldsKept, HoldsList, HoldsOneOf, Standing}
-use Rattle.list_restart.specs.Lives.{AreSaid, Goes, IsTold, Said}
-use Rattle.list_restart.specs.Runs.{EndsWell}
-use Rattle.list_restart.proofs.Lives.{runs_on}
+use Rattle.files.specs.declared.ending.EndFault.TheVariants.{GivenUp, Uncopied}
+use Rattle.list_sql.specs.Images.{Holds, HoldsKept, HoldsList, HoldsOneOf, Standing}
+use Rattle.list_sql.specs.Lives.{AreSaid, Goes, IsTold, Said}
+use Rattle.list_sql.specs.Runs.{EndsWell}
+use Rattle.list_sql.proofs.Lives.{runs_on}
 use Rattle.station_command.specs.declared.job.StationJob.{StationJob}
 use Rattle.station_command.specs.declared.job.StationJob.TheVariants as job
 use Rattle.station_jobs.specs.declared.guard_file.GuardFile as file

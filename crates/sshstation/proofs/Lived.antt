@@ -21,7 +21,7 @@ use Rattle.guard_sql.specs.declared.store.GuardStore.{GuardStore}
 use Rattle.guard_sql.specs.Keeping.{IsGuard}
 use Rattle.guard_sql.specs.Look.{is_empty}
 use Rattle.guard_sql.proofs.Changed.{last_below, lower_lawful, more_lawful}
-use Rattle.restart.specs.Images.{HoldsNone}
+use Rattle.files.specs.Images.{HoldsNone}
 use Rattle.station_command.specs.declared.job.StationJob.{StationJob}
 use Rattle.station_command.specs.declared.job.StationJob.TheVariants as job
 use Rattle.list_guard.specs.declared.register.ListRegister as lister
@@ -36,11 +36,11 @@ use Rattle.station_jobs.specs.Judging.{AsksNow, IsBadPolicyAt}
 use Rattle.station_jobs.specs.Leaving.{IsNext, OfBodies, OfNone, OfRetiring, Step as JobStep}
 use Rattle.station_jobs.specs.Whole.{Begins, ClosesNew, Follows, IsOfGiven, JudgesGiven, LeavesFiles, MakesIn, Retires}
 use Rattle.station_jobs.specs.Whole.{RetiresTo, RunsIn, RunsOver, is_input}
-use Rattle.guard_restart.specs.Images.{Holds, HoldsGuard, HoldsKept, Standing}
-use Rattle.guard_restart.specs.Lives.{Backs, IsRun, Said}
-use Rattle.guard_restart.specs.Steps.{Step, stepped}
-use Rattle.guard_restart.proofs.Lives.{runs_on, said_later}
-use Rattle.guard_restart.proofs.Steps.{after_step}
+use Rattle.guard_sql.specs.Images.{Holds, HoldsGuard, HoldsKept, Standing}
+use Rattle.guard_sql.specs.Lives.{Backs, IsRun, Said}
+use Rattle.guard_sql.specs.Steps.{Step, stepped}
+use Rattle.guard_sql.proofs.Lives.{runs_on, said_later}
+use Rattle.guard_sql.proofs.Steps.{after_step}
 use Rattle.sshstation.specs.declared.database_files.DatabaseFiles.{DatabaseFiles}
 use Rattle.sshstation.specs.declared.database_files.DatabaseFiles.TheVariants as now
 use Rattle.sshstation.specs.DatabaseFiles.{AreLeftAs, AreGivenBack, AreUnopened, Ended}

@@ -15,9 +15,9 @@ use Rattle.guard.specs.AnswerLines.{answer_line}
 use Rattle.guard.specs.Judged.{Answers, IsKept}
 use Rattle.guard.specs.Machine.{State, Question, after}
 use Rattle.guard.specs.Retirement.{if_retired}
-use Rattle.guard_restart.specs.Images.{Standing}
-use Rattle.guard_restart.specs.Lives.{Answered, AreBacked, AreSaid, Backs, IsBacked, Said}
-use Rattle.guard_restart.specs.Steps.{Step, next_guard, stepped}
+use Rattle.guard_sql.specs.Images.{Standing}
+use Rattle.guard_sql.specs.Lives.{Answered, AreBacked, AreSaid, Backs, IsBacked, Said}
+use Rattle.guard_sql.specs.Steps.{Step, next_guard, stepped}
 use Rattle.station_jobs.specs.declared.station_fault.StationFault.{StationFault}
 use Rattle.station_jobs.specs.Judging.{AreAnswered, IsPrinted, Judgement, Judges, left_by, lines_of}
 use Rattle.station_jobs.specs.Whole.{JudgesGiven}

@@ -34,10 +34,10 @@ use Rattle.guard_sql.specs.Look.{is_empty}
 use Rattle.guard_sql.specs.Opening.{LeavesNew}
 use Rattle.guard_sql.specs.Rows.{guard_contents}
 use Rattle.rows.specs.Transactions.{Rests}
-use Rattle.restart.specs.Images.{HoldsNone}
-use Rattle.restart.proofs.HalfMade.{found_nothing}
-use Rattle.restart.specs.declared.open_fault.OpenFault.{OpenFault}
-use Rattle.guard_restart.specs.Images.{Holds, Standing}
+use Rattle.files.specs.Images.{HoldsNone}
+use Rattle.files.proofs.HalfMade.{found_nothing}
+use Rattle.files.specs.declared.open_fault.OpenFault.{OpenFault}
+use Rattle.guard_sql.specs.Images.{Holds, Standing}
 use Rattle.station_jobs.specs.declared.station_fault.StationFault.{StationFault}
 use Rattle.sshstation.specs.declared.database_files.DatabaseFiles.{DatabaseFiles}
 use Rattle.sshstation.specs.declared.database_files.DatabaseFiles.TheVariants as now

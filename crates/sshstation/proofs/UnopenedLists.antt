@@ -23,7 +23,7 @@ use Rattle.list_sql.specs.Look.{is_empty}
 use Rattle.list_sql.specs.Opening.{LeavesNew}
 use Rattle.list_sql.specs.Rows.{list_contents}
 use Rattle.rows.specs.Transactions.{Rests}
-use Rattle.list_restart.specs.Images.{Holds, Standing}
+use Rattle.list_sql.specs.Images.{Holds, Standing}
 use Rattle.station_jobs.specs.declared.station_fault.StationFault.{StationFault}
 use Rattle.sshstation.specs.ListFiles.{OpensLists}
 use Rattle.sshstation.specs.Unopened.{HoldsSame, IsLeft, LeavesDatabase, Settles}

@@ -3,8 +3,8 @@ use Rattle.std.specs.Prelude.{◌≡◌, Result}
 use Rattle.sqlite_disk.specs.declared.Disk.{Ghosts}
 use Rattle.sqlite_disk.specs.declared.Files.{Files}
 use Rattle.sqlite_wal.specs.Recovery.{Image}
-use Rattle.restart.specs.declared.ending.EndFault.{EndFault}
-use Rattle.restart.specs.Opening.{FailsToOpen}
+use Rattle.files.specs.declared.ending.EndFault.{EndFault}
+use Rattle.files.specs.Opening.{FailsToOpen}
 use Rattle.sshstation.specs.declared.database_files.DatabaseFiles.{DatabaseFiles}
 use Rattle.sshstation.specs.declared.database_files.DatabaseFiles.TheVariants.{Connected, Failed, Left, Unopened}
 

@@ -21,10 +21,10 @@ use Rattle.guard_sql.specs.Look.{is_empty}
 use Rattle.guard_sql.specs.Opening.{Finds, Founds, Misses, SaysUnless}
 use Rattle.guard_sql.specs.declared.opening_fault.OpeningFault.{OpeningFault}
 use Rattle.guard_sql.specs.declared.opening_fault.OpeningFault.TheVariants as opening
-use Rattle.restart.specs.declared.ending.EndFault.{EndFault}
-use Rattle.restart.specs.declared.ending.EndFault.TheVariants.{GivenUp, Uncopied}
-use Rattle.guard_restart.specs.Images.{HoldsKept, HoldsOneOf}
-use Rattle.guard_restart.specs.Runs.{EndsWell, HasWhatIsHeld, IsBlankIfNone}
+use Rattle.files.specs.declared.ending.EndFault.{EndFault}
+use Rattle.files.specs.declared.ending.EndFault.TheVariants.{GivenUp, Uncopied}
+use Rattle.guard_sql.specs.Images.{HoldsKept, HoldsOneOf}
+use Rattle.guard_sql.specs.Runs.{EndsWell, HasWhatIsHeld, IsBlankIfNone}
 use Rattle.station_jobs.specs.declared.station_fault.StationFault.{StationFault}
 use Rattle.station_jobs.specs.declared.station_fault.StationFault.TheVariants.{Device, NoMemory}
 use Rattle.station_jobs.specs.declared.station_fault.StationFault.TheVariants as station

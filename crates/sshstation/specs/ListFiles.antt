@@ -14,8 +14,8 @@ use Rattle.list_sql.specs.Look.{is_empty}
 use Rattle.list_sql.specs.Opening.{Finds, Founds, Misses, SaysUnless}
 use Rattle.list_sql.specs.declared.opening_fault.OpeningFault.{OpeningFault}
 use Rattle.list_sql.specs.declared.opening_fault.OpeningFault.TheVariants as opening
-use Rattle.restart.specs.declared.ending.EndFault.{EndFault}
-use Rattle.list_restart.specs.Runs.{EndsWell, HasWhatIsHeld, IsBlankIfNone}
+use Rattle.files.specs.declared.ending.EndFault.{EndFault}
+use Rattle.list_sql.specs.Runs.{EndsWell, HasWhatIsHeld, IsBlankIfNone}
 use Rattle.station_jobs.specs.declared.station_fault.StationFault.{StationFault}
 use Rattle.station_jobs.specs.declared.station_fault.StationFault.TheVariants as station
 use Rattle.sshstation.specs.GuardFiles.{of_ending}

@@ -11,8 +11,8 @@ use Rattle.station_command.specs.Answers.{IsFaultOf, Names}
 use Rattle.list_guard.specs.State.{Question}
 use Rattle.list_jobs.specs.Asking.{Asks}
 use Rattle.station_jobs.specs.declared.surroundings.Surroundings as surroundings
-use Rattle.list_restart.specs.Lives.{Said}
-use Rattle.list_restart.specs.Runs.{RunsOn}
+use Rattle.list_sql.specs.Lives.{Said}
+use Rattle.list_sql.specs.Runs.{RunsOn}
 use Rattle.sshstation.specs.declared.database_files.DatabaseFiles.{DatabaseFiles}
 use Rattle.sshstation.specs.DatabaseFiles.{AreGivenBack, AreUnopened, Ended}
 use Rattle.sshstation.specs.GuardFiles.{IsWhole}

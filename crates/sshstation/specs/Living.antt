@@ -18,9 +18,9 @@ use Rattle.station_jobs.specs.declared.guard_file.GuardFile as file
 use Rattle.station_jobs.specs.declared.surroundings.Surroundings as surroundings
 use Rattle.station_jobs.specs.Judging.{AsksNow}
 use Rattle.station_jobs.specs.Whole.{Begins}
-use Rattle.guard_restart.specs.Lives.{Said}
-use Rattle.guard_restart.specs.Runs.{RunsOn}
-use Rattle.guard_restart.specs.Steps.{Step}
+use Rattle.guard_sql.specs.Lives.{Said}
+use Rattle.guard_sql.specs.Runs.{RunsOn}
+use Rattle.guard_sql.specs.Steps.{Step}
 use Rattle.sshstation.specs.Doing.{DoesWords}
 use Rattle.sshstation.specs.declared.database_files.DatabaseFiles.{DatabaseFiles}
 use Rattle.sshstation.specs.DatabaseFiles.{AreGivenBack, AreUnopened, Ended}

@@ -16,9 +16,9 @@ use Rattle.guard_sql.specs.declared.opening_fault.OpeningFault.{OpeningFault}
 use Rattle.guard_sql.specs.declared.store.GuardStore.{GuardStore}
 use Rattle.guard_sql.specs.Look.{IsRefused, is_empty}
 use Rattle.guard_sql.specs.Opening.{FoundsNone}
-use Rattle.restart.specs.declared.open_fault.OpenFault.{OpenFault}
-use Rattle.restart.specs.Opening.{FailsToOpen}
-use Rattle.guard_restart.specs.Images.{HoldsKept}
+use Rattle.files.specs.declared.open_fault.OpenFault.{OpenFault}
+use Rattle.files.specs.Opening.{FailsToOpen}
+use Rattle.guard_sql.specs.Images.{HoldsKept}
 use Rattle.station_jobs.specs.declared.station_fault.StationFault.{StationFault}
 use Rattle.station_jobs.specs.declared.station_fault.StationFault.TheVariants.{Device}
 use Rattle.sshstation.specs.declared.database_files.DatabaseFiles.{DatabaseFiles}

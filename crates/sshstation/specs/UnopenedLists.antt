@@ -14,7 +14,7 @@ use Rattle.list_sql.specs.declared.opening_fault.OpeningFault.{OpeningFault}
 use Rattle.list_sql.specs.declared.store.ListStore.{ListStore}
 use Rattle.list_sql.specs.Look.{IsRefused, is_empty}
 use Rattle.list_sql.specs.Opening.{FoundsNone}
-use Rattle.list_restart.specs.Images.{HoldsKept}
+use Rattle.list_sql.specs.Images.{HoldsKept}
 use Rattle.station_jobs.specs.declared.station_fault.StationFault.{StationFault}
 use Rattle.sshstation.specs.declared.database_files.DatabaseFiles.{DatabaseFiles}
 use Rattle.sshstation.specs.declared.database_files.DatabaseFiles.TheVariants.{Connected}

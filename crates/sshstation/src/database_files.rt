@@ -1,6 +1,6 @@
 //! The files of a database: whether they were opened, and what became of them.
 
-use restart::{EndFault, OpenFault};
+use files::{EndFault, OpenFault};
 use sqlite::{FileFrom, Files};
 use sqlite_disk::Disk;
 

@@ -3,9 +3,9 @@
 ghost use Rattle.std.specs.Prelude.{◌≡◌, IfErr, IfOk, IsTrue};
 ghost use Rattle.values.specs.Serials.{are_serials};
 ghost use Rattle.sqlite_wal.specs.Files.{image_at};
-ghost use Rattle.restart.specs.Images.{HoldsNone};
-ghost use Rattle.guard_restart.specs.Images.{HoldsKept};
-ghost use Rattle.restart.specs.Opening.{OpensOrFails};
+ghost use Rattle.files.specs.Images.{HoldsNone};
+ghost use Rattle.guard_sql.specs.Images.{HoldsKept};
+ghost use Rattle.files.specs.Opening.{OpensOrFails};
 ghost use Rattle.sshstation.specs.DatabaseFiles.{AreLeftAs, AreUnopened};
 ghost use Rattle.sshstation.specs.GuardFiles.{AreSettled, EndsGuard, FindsGuard, HaveGuard, HaveOne, IsOfFiles};
 ghost use Rattle.sshstation.specs.GuardFiles.{IsOfSearch, MakesGuard, OpensFiles, of_database, of_ending, of_opening};
@@ -13,10 +13,9 @@ ghost use Rattle.sshstation.specs.Unopened.{ConnectsOrNot, LeavesDatabase, Makes
 ghost use Rattle.sshstation.specs.Unopened.{OpensLeaving, OpensOrLeaves, Settles};
 
 use crate::database_files::{DatabaseFiles, FilesAt};
+use files::{EndFault, OpenFault};
 use guard::Scope;
-use guard_restart::{end_path, open_at};
-use guard_sql::{GuardStore, OpeningFault};
-use restart::{EndFault, OpenFault};
+use guard_sql::{GuardStore, OpeningFault, end_path, open_at};
 use sqlite::{Connection, Error, ErrorCode, FileFrom, FileStore, Files, Start};
 use sqlite_disk::Disk;
 use station_jobs::{GuardFile, StationFault};

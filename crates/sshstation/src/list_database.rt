@@ -2,7 +2,7 @@
 
 ghost use Rattle.std.specs.Prelude.{◌≡◌, IfOk};
 ghost use Rattle.sqlite_wal.specs.Files.{image_at};
-ghost use Rattle.restart.specs.Opening.{OpensOrFails};
+ghost use Rattle.files.specs.Opening.{OpensOrFails};
 ghost use Rattle.sshstation.specs.DatabaseFiles.{AreLeftAs, AreUnopened};
 ghost use Rattle.sshstation.specs.ListFiles.{EndsList, FindsList, MakesList, OpensLists, of_opening};
 ghost use Rattle.sshstation.specs.Unopened.{ConnectsOrNot};
@@ -12,10 +12,9 @@ use crate::database_files::{DatabaseFiles, FilesAt};
 use crate::guard_database::{
     FileConnection, abandoned, database_fault, looked_for, made, of_ending,
 };
+use files::OpenFault;
 use list_jobs::ListFile;
-use list_restart::{end_path, open_at};
-use list_sql::{ListStore, OpeningFault};
-use restart::OpenFault;
+use list_sql::{ListStore, OpeningFault, end_path, open_at};
 use sqlite::{FileFrom, FileStore, Files, Start};
 use station_jobs::StationFault;
 use std::alloc::Global;

@@ -1,6 +1,7 @@
 //! The end of a connection: it closes cleanly if memory and the disk suffice.
 
-use restart::{EndFault, end_at};
+use files::EndFault;
+use restart::end_at;
 use sqlite::{Connection, FileStore, Files, Options};
 use sqlite_disk::{Disk, Fuse, Memory};
 use std::alloc::Global;

@@ -2,7 +2,7 @@
 
 use crate::running::{FILES, INIT, SERVE, run_in, two_connections};
 use crate::script::{Failing, Script};
-use restart::EndFault;
+use files::EndFault;
 use server::{Fault, SelftestFault};
 use sqlite::{Error, ErrorCode};
 use std::io::ErrorKind;

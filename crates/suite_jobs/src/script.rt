@@ -4,8 +4,9 @@ ghost use Rattle.std.specs.Prelude.{IfOk, []};
 ghost use Rattle.sqlite.specs.Files.{over_files};
 ghost use Rattle.office_jobs.specs.Whole.{IsReady};
 
+use files::EndFault;
 use office_jobs::{MemoryOffice, World};
-use restart::{EndFault, end_at};
+use restart::end_at;
 use server::{ScriptedConnection, ScriptedListener, SelftestFault};
 use sqlite::{Connection, Error, FileStore, Files, Options};
 use sqlite_disk::{Disk, Memory};

@@ -1,5 +1,5 @@
 use Rattle.std.proofs.Common.{arith}
-use Rattle.restart.specs.Runs.{IsGivenUp}
+use Rattle.files.specs.Ending.{IsGivenUp}
 use Rattle.restart.proofs.Left.{leaves_at_least}
 use Rattle.restart.proofs.closing.store_of.Goals as goal
 

@@ -1,5 +1,5 @@
 use Rattle.std.proofs.Common.{subst}
-use Rattle.guard_restart.specs.Runs.{EndsWell}
+use Rattle.guard_sql.specs.Runs.{EndsWell}
 use Rattle.sshstation.proofs.guard_database.GuardDatabaseGuardFile.close.Goals as goal
 
 pub returns : goal.returns

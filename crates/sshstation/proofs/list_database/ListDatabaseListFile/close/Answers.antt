@@ -1,5 +1,5 @@
 use Rattle.std.proofs.Common.{subst}
-use Rattle.list_restart.specs.Runs.{EndsWell}
+use Rattle.list_sql.specs.Runs.{EndsWell}
 use Rattle.sshstation.proofs.list_database.ListDatabaseListFile.close.Goals as goal
 
 pub returns : goal.returns

@@ -1,0 +1,4 @@
+pub mod OneSchema
+pub mod HalfMade
+pub mod Looked
+pub mod HowEnded

@@ -1,0 +1,4 @@
+pub mod Schemas
+pub mod Opening
+pub mod Images
+pub mod Ending

@@ -1,4 +1,0 @@
-pub mod Opened
-pub mod Left
-pub mod Steps
-pub mod Lives

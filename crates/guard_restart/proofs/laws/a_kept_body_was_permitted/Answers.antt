@@ -1,5 +1,0 @@
-use Rattle.guard_restart.proofs.Steps.{asked}
-use Rattle.guard_restart.proofs.laws.a_kept_body_was_permitted.Goals as goal
-
-pub returns : goal.returns
-returns c = asked

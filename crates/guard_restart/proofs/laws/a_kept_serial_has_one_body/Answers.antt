@@ -1,5 +1,0 @@
-use Rattle.guard_restart.proofs.Steps.{once}
-use Rattle.guard_restart.proofs.laws.a_kept_serial_has_one_body.Goals as goal
-
-pub returns : goal.returns
-returns c = once

@@ -1,5 +1,0 @@
-use Rattle.guard_restart.proofs.Left.{run_keeps_guard}
-use Rattle.guard_restart.proofs.laws.a_run_keeps_the_guard.Goals as goal
-
-pub returns : goal.returns
-returns g c = run_keeps_guard c.args.files.now

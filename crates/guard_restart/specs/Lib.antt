@@ -1,4 +1,0 @@
-pub mod Images
-pub mod Steps
-pub mod Lives
-pub mod Runs

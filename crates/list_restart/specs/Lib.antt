@@ -1,3 +1,0 @@
-pub mod Images
-pub mod Lives
-pub mod Runs
