@@ -60,6 +60,10 @@ def test_the_same_sources_give_the_same_bytes(release, elsewhere):
     another user."""
     user = {"user": 65534, "group": 65534, "extra_groups": []} if os.getuid() == 0 else {}
     copy, programs = copy_sources(elsewhere / "sources"), stand_ins(elsewhere / "programs")
+    # As pip leaves it where it has built an earlier version.
+    stale = copy / "programs/client/build/lib/vethlumi"
+    stale.mkdir(parents=True)
+    (stale / "stale.py").touch()
     # In the copy alone the clock is another one too: nothing else gets into its environment.
     text, only = (copy / "package").read_text(), "env -i "
     clock = " ".join(f"{name}='{value}'" for name, value in (LATER | faketime()).items())

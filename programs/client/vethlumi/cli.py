@@ -97,7 +97,7 @@ class Group(click.Group):
 
 @click.group(cls=Group, context_settings={"help_option_names": ["-h", "--help"], "auto_envvar_prefix": "VETHLUMI"})
 @click.version_option(__version__, message="vethlumi %(version)s")
-@click.option("--config", metavar="FILE", help=f"the settings file [default: {FILES[0]} or {FILES[1]}]")
+@click.option("--config", metavar="FILE", help=f"the settings file [default: {' or '.join(FILES)}]")
 @click.option("--office", metavar="URL", help="the front's URL, for example https://office.example.org:8443")
 @click.option("--certificate", metavar="FILE", help="the client's key and certificate in one PEM file")
 @click.option("--cacert", metavar="FILE", help="the authority that issued the front's certificate (PEM)")

@@ -73,7 +73,11 @@ def end_of_certificate(context, host, port):
 
 
 def pem_finding(pem, within):
-    done = subprocess.run(["openssl", "x509", "-in", pem, "-noout", "-enddate"], capture_output=True, text=True)
+    try:
+        done = subprocess.run(["openssl", "x509", "-in", pem, "-noout", "-enddate"], capture_output=True, text=True)
+    except FileNotFoundError:
+        return Finding("warn", "client's certificate", "not looked at: the program openssl isn't here",
+                       "install OpenSSL for this")
     name, _, end = done.stdout.strip().partition("=")
     if done.returncode or name != "notAfter":
         return Finding("bad", "client's certificate", f"{pem} has none", "copy the bundle from the authority again")

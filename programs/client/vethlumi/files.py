@@ -1,4 +1,5 @@
 """Files that are whole and on disk, or as they were, and whose they are."""
+import fcntl
 import os
 import pwd
 import stat
@@ -8,11 +9,19 @@ import tempfile
 UNFINISHED = ".vethlumi-"
 
 
+def sync(handle):
+    """Puts on disk what a file or a folder has. On macOS fsync alone leaves it in the disk's own cache."""
+    try:
+        fcntl.fcntl(handle, fcntl.F_FULLFSYNC)
+    except (AttributeError, OSError):
+        os.fsync(handle)
+
+
 def sync_folder(path):
     """Puts on disk which names a folder has."""
     handle = os.open(path, os.O_RDONLY | os.O_DIRECTORY)
     try:
-        os.fsync(handle)
+        sync(handle)
     finally:
         os.close(handle)
 
@@ -42,7 +51,7 @@ def put(path, data, mode):
             it.write(data)
             it.flush()
             os.fchmod(it.fileno(), mode)
-            os.fsync(it.fileno())
+            sync(it.fileno())
         os.rename(new, path)
     except BaseException:
         os.unlink(new)

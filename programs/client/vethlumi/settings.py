@@ -6,17 +6,40 @@ import tomllib
 import urllib.parse
 from dataclasses import dataclass, fields
 
+import platformdirs
+
 from vethlumi import files
 
 # The statuses with which a command ends, beside 0.
 REFUSED, BAD_WORDS, NO_ANSWER, NOT_SIGNED = 1, 2, 3, 4
-FILES = ("~/.config/vethlumi.toml", "/etc/vethlumi/client.toml")
 # By http, an office on another machine could be anybody on the way to it.
 LOCAL = re.compile(r"localhost|127(\.[0-9]{1,3}){3}|::1", re.ASCII)
 
 
 class BadSettings(Exception):
     """A file of settings that can't be used, or a setting that is missing. Its text says which."""
+
+
+def folder(found, usual):
+    """A folder of this user as platformdirs gives it: on Linux the usual one, unless a variable names another. This
+    counts only if it is absolute (XDG Base Directory Specification)."""
+    return found if os.path.isabs(found) else os.path.expanduser(usual)
+
+
+def shown(path):
+    """A path as people write it."""
+    home = os.path.expanduser("~")
+    return f"~{path.removeprefix(home)}" if path.startswith(f"{home}/") else path
+
+
+def files_of_settings():
+    """Where settings may be: for this user, there too where earlier versions looked, and for all users."""
+    own = folder(platformdirs.user_config_dir(), "~/.config")
+    return [*dict.fromkeys(map(shown, (f"{own}/vethlumi.toml", os.path.expanduser("~/.config/vethlumi.toml")))),
+            "/etc/vethlumi/client.toml"]
+
+
+FILES = files_of_settings()
 
 
 @dataclass
@@ -81,6 +104,5 @@ def read_settings(path=None, **given):
 
 
 def state_folder():
-    """The folder of the outbox. The variable counts only if it is absolute (XDG Base Directory Specification)."""
-    base = os.environ.get("XDG_STATE_HOME", "")
-    return os.path.abspath(f"{base if os.path.isabs(base) else os.path.expanduser('~/.local/state')}/vethlumi")
+    """The folder of the outbox."""
+    return os.path.abspath(folder(platformdirs.user_state_dir("vethlumi"), "~/.local/state/vethlumi"))
