@@ -13,7 +13,7 @@ import time
 
 import pytest
 
-from asking import department
+from asking import department, issue
 from fetching import Web, response
 from running import PROGRAMS, run, until
 
@@ -173,6 +173,55 @@ def test_it_asks_before_it_revokes(clients, alice):
         assert due == asking.returncode
         assert b"Revoke 1 certificate, 1 of which can still be used?" in told
     until(lambda: "revoked" == root.json("certs")[0]["state"])
+
+
+def test_it_says_that_a_key_id_ends_before_it_asks(clients, served, alice):
+    """What can't be used any more, and what has another key ID, is named by no command."""
+    for name, life in (("web/alice", "1h"), ("web/ally", "1h"), ("web/alice", "2h")):
+        assert 4 == clients["ana"]("--wait", "1", "request", name, alice, "--principals", "alice", "--life", life)[0]
+    key = " ".join(alice.read_text().split()[:2])
+    for name, message in (("issue", issue("web/alice", key=key)), ("revoke", "revoke-serial 4\n")):
+        assert 200 == served.post("ana", name, message).status
+    root = clients["root"]
+    until(lambda: "revoked" == root.json("certs")[-1]["state"])
+    status, _, told = root("revoke", "web/alice")
+    assert 2 == status and told.index("web/alice can never be used again") < told.index("Nobody can be asked")
+    assert ["1", "3"] == re.findall(r"^    vethlumi revoke (\S+)$", told, re.M)
+    for other in ("1", "1-3"):
+        assert "never" not in root("revoke", other)[2]
+    assert "answer n" not in root("revoke", "web/zoe")[2] and "web/zoe can never be" in root("revoke", "web/zoe")[2]
+
+
+def test_what_a_revoked_certificate_leaves_and_a_revoked_key_id_does_not(clients, alice):
+    """The office's own answers: what the command says is so."""
+    root, ana = clients["root"], clients["ana"]
+    words = "--wait", "1", "request", "web/alice", alice, "--principals", "alice"
+    assert 4 == ana(*words)[0] and 0 == root("revoke", "1", "--yes")[0]
+    assert 4 == ana(*words, "--life", "1h")[0] and 0 == root("revoke", "web/alice", "--yes")[0]
+    status, _, told = ana(*words, "--life", "2h")
+    assert 1 == status and "refused 16 KeyIdRevoked" in told
+
+
+@pytest.mark.parametrize("count, more", [(10, None), (11, "1"), (12, "2")])
+def test_of_many_certificates_ten_are_named(clients, served, alice, count, more):
+    key = " ".join(alice.read_text().split()[:2])
+    for number in range(count):
+        assert served.post("ana", f"k{number}", issue("web/alice", key=key)).text.startswith("issued")
+    told = clients["root"]("revoke", "web/alice")[2]
+    assert [*map(str, range(1, 11))] == re.findall(r"^    vethlumi revoke (\S+)$", told, re.M)
+    found = re.search(r"and the same for (\d+) more", told)
+    assert more == (found and found[1])
+
+
+def test_commands_of_two_names(clients, signed):
+    """They do the same, and say which name is the other's."""
+    root = clients["root"]
+    assert root("list", "--json") == root("krl", "--json")
+    names = [{*re.findall(r"^# TYPE (\w+)", root(it, "--last", "9")[1], re.M)} for it in ("figures", "metrics")]
+    assert names[0] == names[1] != set()
+    for other, name in (("krl", "list"), ("metrics", "figures")):
+        assert f"The same as vethlumi {name}." in root(other, "--help")[1]
+        assert re.search(rf"^  {other} +The same as {name}\.$", root("--help")[1], re.M)
 
 
 def test_a_certificate_of_another_ca_is_not_revoked(clients, alice, room):

@@ -237,7 +237,7 @@ def help_of(unpacked, command, *words):
 def test_each_command_of_the_client_has_a_manual_page(unpacked):
     found = re.search(r"^Commands:\n((?:  .*\n)+)", help_of(unpacked, unpacked / "usr/bin/vethlumi"), re.M)[1]
     names = re.findall(r"^  ([a-z]+) ", found, re.M)
-    assert {"request", "renew", "revoke", "department", "doctor"} < {*names}
+    assert {"request", "renew", "revoke", "department", "doctor", "list", "krl", "figures", "metrics"} < {*names}
     for name in [*names, "department-put", "department-show", "department-diff"]:
         with gzip.open(unpacked / f"usr/share/man/man1/vethlumi-{name}.1.gz", "rt") as it:
             assert re.search(rf"^vethlumi-{name} \\- [a-z]", it.read(), re.M)
@@ -255,6 +255,7 @@ printf '%s\\n' "${{COMPREPLY[@]}}"
     ("sshoffice ser", ["serve"]), ("sshoffice init --fir", ["--first"]), ("authority rev", ["revoke"]),
     ("fetch-list --cac", ["--cacert"]), ("vethlumi-front-setup --au", ["--authority"]), ("sshstation ju", ["judge"]),
     ("vethlumi depart", ["department"]), ("vethlumi request --princ", ["--principals"]),
+    ("vethlumi krl --ch", ["--check"]), ("vethlumi metr", ["metrics"]),
     ("vethlumi-install serv", ["server"]), ("vethlumi-install office --stat", ["--station"]),
 ])
 def test_bash_completes(unpacked, words, due):

@@ -1,5 +1,6 @@
 """Commands that look: status, list, signers, figures, outbox, doctor."""
 import collections
+import copy
 import sys
 import time
 
@@ -136,3 +137,15 @@ def doctor_(job, within, krl, fresh, as_json):
     else:
         print_table(("", "what", "found", "what to do"), [(it.state, it.what, it.found, it.advice) for it in found], "")
     sys.exit(any(it.state == "bad" for it in found))
+
+
+def also(name, command):
+    """Gives a command another name too, which help, manual pages and completions show."""
+    other = copy.copy(command)
+    other.name, other.short_help = name, f"The same as {command.name}."
+    other.epilog = f"The same as vethlumi {command.name}."
+    main.add_command(other)
+
+
+also("krl", list_)
+also("metrics", figures_)
