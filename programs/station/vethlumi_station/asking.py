@@ -266,8 +266,8 @@ class Office:
         return list(rows), is_whole
 
     def messages(self):
-        """What changes with each message that the front has seen accepted, or None if nobody says. It is a hint alone. A
-        front of several knows of its own messages alone."""
+        """What changes with each message that the front has seen accepted, or None if nobody says. It is a hint alone.
+        A front of several knows of its own messages alone."""
         if not self.is_tls or self.has_several or time.monotonic() < self.knows_at:
             return None
         found = self.own.tag("/v1/messages")

@@ -48,8 +48,8 @@ Other options:
   --cacert FILE    the authority that issued the front's certificate. Without it, all that this system trusts count
   --caller NAME    the station's name at an office without a front [default: station]
   --once           look for pending certificates once, and exit
-  --interval N     look for pending certificates every N seconds, and 50 times a second in the minute after one has come,
-                   if no front says when to look [default: 0.05]
+  --interval N     if no front says when to look for pending certificates: look every N seconds, but 50 times a second
+                   in the minute after one has come [default: 0.05]
 
 For each pending certificate, the station fetches the unsigned certificate, checks its digest and its serial, asks the
 guard (`sshstation judge`, which has to be on the PATH), signs, verifies the signature, delivers it, and prints `signed

@@ -48,9 +48,9 @@ class Station:
         self.rows, self.is_whole, self.silent_since, self.sent = [], True, 0, collections.deque()
         # The other CAs, when the files were last looked at, and what a refusal of the guard depends on.
         self.known, self.looked_at, self.rules = self.other_cas(), time.monotonic(), None
-        # When this round began, how long the next one waits, when a row was last new, and what the front last said of
-        # messages.
-        self.begun, self.pause, self.new_at, self.messages = 0, 0, float("-inf"), None
+        # When this round began, how long the next one waits, how soon a front may have it begin, when a row was last
+        # new, and what the front last said of messages.
+        self.begun, self.pause, self.soonest, self.new_at, self.messages = 0, 0, 0, float("-inf"), None
         self.lists = Lists(given, self.key, self.office, Room()) if given.lists else None
         self.guard = None
 
@@ -105,6 +105,7 @@ class Station:
         taken = now - self.begun
         is_long = taken > LONG_ANSWER and not is_new
         self.pause = min(TIMES_AS_LONG * taken, LONGEST_INTERVAL) if is_long else max(0, interval - taken)
+        self.soonest = now + self.pause if is_long else self.begun + OFTEN
 
     def try_all(self, new):
         """Tries to sign what is pending. What wasn't signed before comes last and in turn, so that it holds up nothing
@@ -136,10 +137,11 @@ class Station:
 
     def fetched(self, row):
         """What comes of fetching a body: the one that is kept, if it is."""
-        if row not in self.bodies:
-            return self.fetching.do(self.fetch, row)
         future = Future()
-        future.set_result(self.bodies[row])
+        if row in self.bodies:
+            future.set_result(self.bodies[row])
+        else:
+            self.fetching.do(future, self.fetch, row)
         return future
 
     def fetch(self, row, connection):
@@ -198,8 +200,10 @@ class Station:
                     # It is tried before the one at which the key hung.
                     self.left[row] = self.tries(row), 0, *hangs
                     continue
-                signature = self.signature_of(row, body, answer)
-                self.sent.append((row, self.delivering.do(self.deliver, row, signature)))
+                signature, future = self.signature_of(row, body, answer), Future()
+                # Noted before: if the station ends in between, it may have been sent.
+                self.sent.append((row, future))
+                self.delivering.do(future, self.deliver, row, signature)
             except Refused as refused:
                 self.leave(row, refused.args[0], None)
             except OtherCa as refused:
@@ -315,7 +319,7 @@ class Station:
         while (now := time.monotonic()) < end:
             end_if_told()
             if messages := self.office.messages():
-                if messages != self.messages and now > self.begun + OFTEN:
+                if messages != self.messages and now > self.soonest:
                     self.messages = messages
                     return
                 # While the front says so, the office is asked less often.

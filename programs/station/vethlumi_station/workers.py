@@ -1,5 +1,4 @@
 """Threads that ask the office, each by a connection of its own."""
-import concurrent.futures
 import queue
 import signal
 import threading
@@ -14,9 +13,8 @@ class Workers:
     def __init__(self, count, connect):
         self.left, self.connect, self.asked = count, connect, queue.SimpleQueue()
 
-    def do(self, work, *values):
-        """Has a thread call a function with these values and its connection. Returns a future of what that returns."""
-        future = concurrent.futures.Future()
+    def do(self, future, work, *values):
+        """Has a thread call a function with these values and its connection. The future gets what that returns."""
         self.asked.put((future, work, values))
         if self.left:
             self.left -= 1
@@ -25,7 +23,6 @@ class Workers:
                 threading.Thread(target=self.work, daemon=True).start()
             finally:
                 signal.pthread_sigmask(signal.SIG_SETMASK, before)
-        return future
 
     def work(self):
         connection = self.connect()
