@@ -104,13 +104,20 @@ def is_gone(pid):
         return True
 
 
+def guards_of(process):
+    """The guard that a station has begun, if it hasn't ended."""
+    with contextlib.suppress(OSError):
+        return children(process.pid)
+    return []
+
+
 def kill(process, kind):
     """Kills a station, its guard, or both. What is left of them ends by itself."""
-    guards = children(process.pid)
-    if kind == "both":
-        os.killpg(process.pid, signal.SIGKILL)
-    for it in guards if kind == "guard" else [process.pid] if kind == "station" else []:
-        with contextlib.suppress(ProcessLookupError):
+    guards = guards_of(process)
+    with contextlib.suppress(ProcessLookupError):
+        if kind == "both":
+            os.killpg(process.pid, signal.SIGKILL)
+        for it in guards if kind == "guard" else [process.pid] if kind == "station" else []:
             os.kill(it, signal.SIGKILL)
     if kind == "guard" and not guards:
         process.kill()
@@ -136,7 +143,7 @@ def test_station_and_guard_are_killed_while_callers_ask(served, sshstation, prog
         with open("said", "wb") as said:
             for number in range(kills):
                 process = station.begin(programs, stdout=said, stderr=said)
-                until(lambda: children(process.pid) or process.poll() is not None)
+                until(lambda: guards_of(process) or process.poll() is not None)
                 before = len(way.delivered)
                 if number % 2:
                     # Among signatures, and not only as it begins.
