@@ -17,6 +17,7 @@ import pytest
 import running
 from asking import CA, department, post, write_exchanges
 from running import left_out, preloaded, run
+from tracing import WRITES, Trace
 
 NOT_AN_OFFICE, DEVICE = b"sshoffice: NotAnOffice\n", b"sshoffice: Device\n"
 # The fingerprint is that of `ssh-keygen -l` for the key 11*32.
@@ -89,6 +90,24 @@ def seen(folder):
 def modes(folder, start="office.db"):
     """The modes of the database, of its log and of what else has a name that begins so."""
     return {path.name: stat.S_IMODE(path.stat().st_mode) for path in folder.glob(f"{start}*")}
+
+
+# ---- commands beside a server
+
+@pytest.mark.parametrize("command", ["init", *ASKING])
+def test_a_command_that_does_not_get_the_database_writes_nothing_to_it(office, laid, command):
+    """The server has it open. Such a run is none in the life of these files: the next finds what the server left."""
+    words = init("office.db") if command == "init" else filled(ASKING[command], "office.db")
+    with office.serving() as served:
+        served.post("root", "d1", department())
+        before = {name: it for name, it in seen(laid).items() if name.startswith("office.db")}
+        assert {"office.db", "office.db-wal"} <= {*before}
+        trace = Trace([office.program, *words])
+        assert (1, b"", DEVICE) == outcome(trace.done)
+        assert before == {name: it for name, it in seen(laid).items() if name.startswith("office.db")}
+        assert [] == [it.words for name in before for it in trace.of(str(laid / name), *WRITES)]
+        assert "department web" in served.get("/v1/departments").text
+    assert b"total 0 version 0\n" == office.table()
 
 
 # ---- commands that want an office

@@ -1,4 +1,3 @@
 pub mod LongFiles
-pub mod Printed
 pub mod RecordFiles
 pub mod Records

@@ -3,6 +3,7 @@ use Rattle.std.specs.Prelude.{◌≡◌, ℕ, List, [], ◌∷◌, ◌++◌, len
 use Rattle.std.specs.Fmt.{decimal}
 use Rattle.std.specs.Io.KnownBytes.{Appends}
 use Rattle.std.specs.List.{flat_map, list_any}
+use Rattle.wire.specs.Streams.{AppendsBeginning}
 use Rattle.office.specs.declared.opening.Opening.{Opening}
 use Rattle.office.specs.declared.arrival.Arrival.{Arrival}
 use Rattle.web.specs.declared.exchange.Exchange.{Exchange}
@@ -41,6 +42,11 @@ pub record Prints (before after keeps : Opening → List Arrival → Type 0) (sa
   pub forms : HaveForms exchanges given
   pub rows : AreGivenNoChange exchanges given → same
 
--- A register that meant a history gave each of the exchanges a response or a fault, whatever was printed.
-abbrev pub AreRun : (before after keeps : Opening → List Arrival → Type 0) → List Exchange → Type 0
-AreRun before after keeps exchanges = (given : List Given) × Serves before after keeps exchanges given
+-- The same, but a call of the output failed: what it took before is a beginning of what was to be printed.
+pub record PrintsBeginning (before after keeps : Opening → List Arrival → Type 0) (same : Type 0)
+    (exchanges : List Exchange) (old new : Option (List ℕ)) : Type 0 where
+  pub given : List Given
+  pub serves : Serves before after keeps exchanges given
+  pub printed : AppendsBeginning old new (all_given_text given)
+  pub forms : HaveForms exchanges given
+  pub rows : AreGivenNoChange exchanges given → same

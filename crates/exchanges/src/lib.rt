@@ -12,5 +12,5 @@ pub use exchange_reader::{
     ExchangesFault, MAX_EXCHANGES, MAX_FILE, MAX_RECORD_LINE, MAX_REQUEST, read_exchanges,
     the_first_bytes_tell_of_a_file,
 };
-pub use printing::{has_fault, print_given};
+pub use printing::{has_fault, print_given, print_number, print_piece};
 pub use running::{RunFault, apply_exchanges, print_all};

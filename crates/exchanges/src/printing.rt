@@ -1,31 +1,62 @@
 //! The output for exchanges.
 
-ghost use Rattle.std.specs.Prelude.{◌≡◌, OnOk};
-ghost use Rattle.std.specs.Io.KnownBytes.{Appends};
+ghost use Rattle.std.specs.Prelude.{◌≡◌, ◌<◌, ◌++◌, ◌∷◌, [], codes, decimal, is_ok};
+ghost use Rattle.lines.specs.Writing.{Writes};
 ghost use Rattle.exchanges.specs.Printing.{all_given_text, given_text, has_fault, is_fault};
 
-use std::io;
-use std::io::Write;
+use itoa::Buffer;
 use web::Given;
+use wire::{Failed, Sink, write_all};
+
+/// Prints a piece of a text, whose other pieces are printed by further calls. It fails exactly if a call of the output
+/// failed, which has then taken a beginning of the piece.
+pub fn print_piece<W: Sink>(out: &mut W, piece: &[u8]) -> Result<(), Failed>
+    requires { W.failed out.old < u64.MAX }
+    ensures { Writes W.taken W.failed W.room out.old out.new (is_ok result) piece.now }
+{
+    write_all(out, piece)
+}
+
+/// Prints a number in decimal, as a piece.
+pub fn print_number<W: Sink>(out: &mut W, number: u64) -> Result<(), Failed>
+    requires { W.failed out.old < u64.MAX }
+    ensures { Writes W.taken W.failed W.room out.old out.new (is_ok result) (decimal number) }
+{
+    let mut buffer = Buffer::new();
+    print_piece(out, buffer.format(number).as_bytes())
+}
+
+// The line before a response of this length.
+fn print_head<W: Sink>(out: &mut W, length: u64) -> Result<(), Failed>
+    requires { W.failed out.old < u64.MAX }
+    ensures { Writes W.taken W.failed W.room out.old out.new (is_ok result)
+        (codes "answer " ++ (decimal length ++ 10 ∷ [])) }
+{
+    print_piece(out, b"answer ")?;
+    print_number(out, length)?;
+    print_piece(out, b"\n")
+}
 
 // A line `answer LENGTH` and the bytes of a response, or a line `fault`.
-fn print_one<W: Write>(out: &mut W, given: &Given) -> io::Result<()>
-    ensures { OnOk result (Appends (W.contents out.old) (W.contents out.new) (given_text given.now)) }
+fn print_one<W: Sink>(out: &mut W, given: &Given) -> Result<(), Failed>
+    requires { W.failed out.old < u64.MAX }
+    ensures { Writes W.taken W.failed W.room out.old out.new (is_ok result) (given_text given.now) }
 {
     match given {
         Given::Answer(response) => {
             let response = response.as_slice();
-            let length = response.len();
-            writeln!(out, "answer {length}")?;
-            out.write_all(response)
+            print_head(out, response.len() as u64)?;
+            print_piece(out, response)
         }
-        Given::Fault => out.write_all(b"fault\n"),
+        Given::Fault => print_piece(out, b"fault\n"),
     }
 }
 
-/// Prints what the exchanges got, in order: a line `answer LENGTH` and the bytes of a response, or a line `fault`.
-pub fn print_given<W: Write>(out: &mut W, given: &[Given]) -> io::Result<()>
-    ensures { OnOk result (Appends (W.contents out.old) (W.contents out.new) (all_given_text given.now)) }
+/// Prints what the exchanges got, in order: a line `answer LENGTH` and the bytes of a response, or a line `fault`. It
+/// fails exactly if a call of the output failed. The output has then taken a beginning of that.
+pub fn print_given<W: Sink>(out: &mut W, given: &[Given]) -> Result<(), Failed>
+    requires { W.failed out.old < u64.MAX }
+    ensures { Writes W.taken W.failed W.room out.old out.new (is_ok result) (all_given_text given.now) }
 {
     for one in given {
         print_one(out, one)?;

@@ -3,6 +3,8 @@ use Rattle.std.proofs.Common.{◌≡◌, ℕ, List, [], ◌∷◌, Option, Resul
 use Rattle.std.specs.Prelude.{◌≤◌, IfErr, IfOk, IsTrue, OnOk, Vec}
 use Rattle.std.specs.declared.alloc.Global.{Global}
 use Rattle.std.specs.Io.KnownBytes.{Appends}
+use Rattle.wire.specs.Streams.{AppendsBeginning}
+use Rattle.sqlite.specs.State.{State}
 use Rattle.krl.specs.declared.ca_part.CaPart.{CaPart}
 use Rattle.krl.specs.declared.krl_head.KrlHead.{KrlHead}
 use Rattle.krl.specs.Published.{fits, published_text}
@@ -16,17 +18,17 @@ use Rattle.office.specs.Shows.{IsOffice}
 use Rattle.office.specs.Publication.{AreRevoked, head_of, published_parts}
 use Rattle.office.specs.History.{state}
 use Rattle.office_laws.specs.Lists.{AreExactList}
+use Rattle.store.specs.Meaning.{Tells}
 use Rattle.web.specs.declared.exchange.Exchange.{Exchange}
 use Rattle.web.specs.declared.exchange.Given.{Given}
 use Rattle.web.specs.declared.exchange.Given.TheVariants.{Answer, Fault}
 use Rattle.web.specs.Answers.{IsAnswered, ListFits, MayList, answer_text, with_ask}
 use Rattle.web.specs.Runs.{AllDue}
 use Rattle.web.specs.Causes.{IsOfAList}
-use Rattle.web.specs.Forms.{IsListText}
 use Rattle.web.proofs.Lists.{list_only}
 use Rattle.headline.specs.declared.publish_fault.PublishFault.{PublishFault}
 use Rattle.headline.specs.declared.publish_fault.PublishFault.TheVariants.{Store, Write}
-use Rattle.headline.specs.Headline.{AreExactLists, IsList, IsListResponse, OfStore, list_bytes}
+use Rattle.headline.specs.Headline.{AreExactLists, IsList, IsListOf, IsListResponse, OfStore, list_bytes}
 
 -- each list that fits is exact
 abbrev pub ListsAreExact : Type 0
@@ -48,26 +50,20 @@ module _ (exact : ListsAreExact) where
   is_list : (o : Opening) (l : List Arrival) → MayList o l → IsList o l (list_bytes o l)
   is_list o l may = record { same = refl; fits = may.fits; exact = exact o l may.office may.fits }
 
-  -- if a list was found in the tables, the written bytes are the published list
-  pub listed : {E : Type 0} (means : Opening → List Arrival → Type 0) → ((o : Opening) (l : List Arrival) → means o l → IsOffice o l)
-      → (r : Result (Unit {0}) E) (found : Revoked) (old new : Option (List ℕ))
-      → ((o : Opening) (l : List Arrival) → means o l → AreRevoked found (state o l))
-      → OnOk r (IsTrue (fits found.parts.items found.key_ids))
-      → OnOk r (Appends old new (published_text found.head found.parts.items found.key_ids))
-      → OnOk r ((bytes : List ℕ) × Appends old new bytes × IsListText bytes
-      × ((o : Opening) (l : List Arrival) → means o l → IsList o l bytes))
-  listed means office (Err e) found old new row fit written = tt
-  listed means office (Ok x) found old new row fit written = (
-    published_text found.head found.parts.items found.key_ids,
-    written,
-    record {
+  -- If a list was found in the tables and fits, its text is the published list.
+  found_list : (old : State) → ((o : Opening) (l : List Arrival) → Tells old o l → IsOffice o l) → (found : Revoked)
+      → ((o : Opening) (l : List Arrival) → Tells old o l → AreRevoked found (state o l))
+      → IsTrue (fits found.parts.items found.key_ids)
+      → IsListOf old (published_text found.head found.parts.items found.key_ids)
+  found_list old office found row fit = record {
+    text = record {
       head = found.head;
       parts = found.parts.items;
       key_ids = found.key_ids;
       sized = fit;
       text = refl;
-    },
-    λ o l m.
+    };
+    list = λ o l m.
         let s = state o l in
         let are = row o l m in
         let here : IsTrue (fits (published_parts s) found.key_ids) = subst (λ (ps : List CaPart). IsTrue (fits ps found.key_ids)) are.parts fit in
@@ -76,8 +72,26 @@ module _ (exact : ListsAreExact) where
         ap (λ (h : KrlHead). published_text h found.parts.items found.key_ids) are.head
         ∙ (ap (λ (ps : List CaPart). published_text (head_of s) ps found.key_ids) are.parts
         ∙ ap (λ (ids : List (List ℕ)). published_text (head_of s) (published_parts s) ids) are.key_ids) in
-        subst (λ (bytes : List ℕ). IsList o l bytes) (sym same) (is_list o l (record { office = office o l m; fits = fits_here })),
-  )
+        subst (λ (bytes : List ℕ). IsList o l bytes) (sym same) (is_list o l (record { office = office o l m; fits = fits_here }));
+  }
+
+  module _ (old : State) (office : (o : Opening) (l : List Arrival) → Tells old o l → IsOffice o l) (found : Revoked)
+      (row : (o : Opening) (l : List Arrival) → Tells old o l → AreRevoked found (state o l))
+      (held holds : Option (List ℕ)) where
+    -- all of it was written
+    pub listed : {E : Type 0} (r : Result (Unit {0}) E) → OnOk r (IsTrue (fits found.parts.items found.key_ids))
+        → OnOk r (Appends held holds (published_text found.head found.parts.items found.key_ids))
+        → OnOk r ((bytes : List ℕ) × Appends held holds bytes × IsListOf old bytes)
+    listed (Err e) fit written = tt
+    listed (Ok x) fit written =
+        (published_text found.head found.parts.items found.key_ids, written, found_list old office found row fit)
+
+    -- a beginning of it was written
+    pub part_listed : IsTrue (fits found.parts.items found.key_ids)
+        → AppendsBeginning held holds (published_text found.head found.parts.items found.key_ids)
+        → (bytes : List ℕ) × AppendsBeginning held holds bytes × IsListOf old bytes
+    part_listed fit written =
+        (published_text found.head found.parts.items found.key_ids, written, found_list old office found row fit)
 
   -- the specified response to a GET of the list is the response with the list
   is_response : (o : Opening) (l : List Arrival) (a : Ask) (moment : ℕ) (nonce response : List ℕ) → a ≡ get RevocationList

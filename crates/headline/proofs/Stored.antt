@@ -10,9 +10,9 @@ use Rattle.web.specs.declared.exchange.Exchange.{Exchange}
 use Rattle.web.specs.declared.exchange.Given.{Given}
 use Rattle.web.specs.Answers.{IsAnswered}
 use Rattle.web.specs.Runs.{Serves}
-use Rattle.exchanges.specs.Printing.{AreRun, Prints}
+use Rattle.exchanges.specs.Printing.{Prints, PrintsBeginning}
 use Rattle.headline.proofs.Listed.{AsksOneThing, ListsAreExact, in_run}
-use Rattle.headline.specs.Headline.{OfficeAnswers, OfficePrints, OfficeRuns}
+use Rattle.headline.specs.Headline.{OfficeAnswers, OfficePrints, OfficePrintsPart}
 use Rattle.store.specs.Transactions.{FailuresStay, IsAsBefore}
 
 -- tables that represent a history and are open
@@ -42,10 +42,6 @@ serves : (old new : State) (exchanges : List Exchange) (given : List Given) → 
 serves old new exchanges given keeps s = λ o l m.
     let r = s o l m in (r.0, r.1, r.2, λ answered. let k = r.3 answered in keeps o r.0 k.0 k.1)
 
-pub runs : (old new : State) (exchanges : List Exchange) → StoresWhereOpen new
-    → AreRun (Tells old) (Tells new) (AreOpen new) exchanges → OfficeRuns old new exchanges
-runs old new exchanges keeps are = (are.0, serves old new exchanges are.0 keeps are.1)
-
 pub prints : (old new : State) (exchanges : List Exchange) (held holds : Option (List ℕ)) (fault : Bool) → ListsAreExact → AsksOneThing
     → StoresWhereOpen new → Prints (Tells old) (Tells new) (AreOpen new) (AreSame old new) exchanges held holds fault
     → OfficePrints old new exchanges held holds fault
@@ -55,6 +51,21 @@ prints old new exchanges held holds fault exact one keeps p = record {
     serves = serves old new exchanges p.given keeps p.serves;
     printed = p.printed;
     faults = p.faults;
+    forms = p.forms;
+    rows = λ none is. (p.rows none is).0;
+  };
+  lists = λ o l m. let r = p.serves o l m in in_run exact one o l exchanges p.given r.0 r.1;
+}
+
+pub prints_part : (old new : State) (exchanges : List Exchange) (held holds : Option (List ℕ)) → ListsAreExact
+    → AsksOneThing → StoresWhereOpen new
+    → PrintsBeginning (Tells old) (Tells new) (AreOpen new) (AreSame old new) exchanges held holds
+    → OfficePrintsPart old new exchanges held holds
+prints_part old new exchanges held holds exact one keeps p = record {
+  prints = record {
+    given = p.given;
+    serves = serves old new exchanges p.given keeps p.serves;
+    printed = p.printed;
     forms = p.forms;
     rows = λ none is. (p.rows none is).0;
   };

@@ -3,6 +3,7 @@ use Rattle.std.specs.Prelude.{◌≡◌, ℕ, List, [], ◌∷◌, ◌++◌, Boo
 use Rattle.std.specs.Prelude.{Result, Ok, Err, Vec, slice_get, false, true}
 use Rattle.std.specs.Io.KnownBytes.{Appends}
 use Rattle.std.specs.declared.alloc.Global.{Global}
+use Rattle.wire.specs.Streams.{AppendsBeginning}
 use Rattle.sqlite.specs.State.{State}
 use Rattle.lines.specs.Keys.{key_blob}
 use Rattle.krl.specs.Format.{RevocationList, revokes}
@@ -34,7 +35,7 @@ use Rattle.web.specs.Causes.{StopsAt}
 use Rattle.web.specs.Forms.{IsListText}
 use Rattle.exchanges.specs.declared.running.RunFault.{RunFault}
 use Rattle.exchanges.specs.declared.running.RunFault.TheVariants as run
-use Rattle.exchanges.specs.Printing.{AreRun, Prints}
+use Rattle.exchanges.specs.Printing.{Prints, PrintsBeginning}
 use Rattle.headline.specs.declared.publish_fault.PublishFault.{PublishFault}
 use Rattle.headline.specs.declared.publish_fault.PublishFault.TheVariants.{Store, Write}
 
@@ -137,9 +138,10 @@ pub record OfficePrints (old new : State) (exchanges : List Exchange) (held hold
   pub prints : Prints (Tells old) (Tells new) (Stores new) (IsAsBeforeWhereOpen old new) exchanges held holds fault
   pub lists : (o : Opening) (l : List Arrival) → Tells old o l → AreExactLists o l exchanges prints.given
 
--- If the tables represented a history, the exchanges were run as specified, whatever was printed.
-abbrev pub OfficeRuns : (old new : State) → List Exchange → Type 0
-OfficeRuns old new exchanges = AreRun (Tells old) (Tells new) (Stores new) exchanges
+-- The same, but a call of the output failed: a beginning of the specified responses is printed.
+pub record OfficePrintsPart (old new : State) (exchanges : List Exchange) (held holds : Option (List ℕ)) : Type 0 where
+  pub prints : PrintsBeginning (Tells old) (Tells new) (Stores new) (IsAsBeforeWhereOpen old new) exchanges held holds
+  pub lists : (o : Opening) (l : List Arrival) → Tells old o l → AreExactLists o l exchanges prints.given
 
 -- if the batch succeeds, the specified responses are printed, and no fault
 abbrev pub PrintsDue : List Exchange → (held holds : Option (List ℕ)) → (old new : State) → Result (Unit {0}) RunFault
@@ -152,9 +154,10 @@ abbrev pub PrintsWithFaults : List Exchange → (held holds : Option (List ℕ))
 PrintsWithFaults exchanges held holds old new r =
     r ≡ Err run.Fault → OfficePrints old new exchanges held holds true
 
--- if the output fails and the tables represented a history, all exchanges were run
-abbrev pub RunsUnprinted : List Exchange → (old new : State) → Result (Unit {0}) RunFault → Type 0
-RunsUnprinted exchanges old new r = r ≡ Err run.Write → OfficeRuns old new exchanges
+-- if the output fails, a beginning of the specified responses is printed
+abbrev pub PrintsPart : List Exchange → (held holds : Option (List ℕ)) → (old new : State)
+    → Result (Unit {0}) RunFault → Type 0
+PrintsPart exchanges held holds old new r = r ≡ Err run.Write → OfficePrintsPart old new exchanges held holds
 
 -- ---- a list that is not written
 
@@ -177,10 +180,19 @@ IfFound (Err Write) P = P
 
 -- ---- publishing
 
--- if everything is written, the written bytes are a list: that of each history that the tables represented
+-- These bytes are a list: that of each history that the tables represented.
+pub record IsListOf (old : State) (bytes : List ℕ) : Type 0 where
+  pub text : IsListText bytes
+  pub list : (o : Opening) (l : List Arrival) → Tells old o l → IsList o l bytes
+
+-- if everything is written, the written bytes are such a list
 abbrev pub WritesList : (held holds : Option (List ℕ)) → (old new : State) → Result (Unit {0}) PublishFault → Type 0
-WritesList held holds old new r = OnOk r ((bytes : List ℕ) × Appends held holds bytes × IsListText bytes
-    × ((o : Opening) (l : List Arrival) → Tells old o l → IsList o l bytes))
+WritesList held holds old new r = OnOk r ((bytes : List ℕ) × Appends held holds bytes × IsListOf old bytes)
+
+-- if the writer failed, the written bytes are a beginning of one
+abbrev pub WritesPart : (held holds : Option (List ℕ)) → (old new : State) → Result (Unit {0}) PublishFault → Type 0
+WritesPart held holds old new r =
+    r ≡ Err Write → (bytes : List ℕ) × AppendsBeginning held holds bytes × IsListOf old bytes
 
 -- if the list was found, the tables durably represent each history that they represented before
 abbrev pub StoresWhereFound : (old new : State) → Result (Unit {0}) PublishFault → Type 0

@@ -27,11 +27,13 @@ ghost use Rattle.web.specs.Causes.{AsksPlainGet, IsOfAList};
 ghost use Rattle.web.specs.Forms.{HasForm};
 ghost use Rattle.web.specs.Runs.{AskNoChange};
 ghost use Rattle.office_laws.specs.Counting.{CountsUp};
+ghost use Rattle.wire.specs.Streams.{AppendsBeginning};
+ghost use Rattle.exchanges.specs.Running.{is_unprinted};
 ghost use Rattle.headline.specs.Headline.{AnswersDue, AnswersList, BodiesNameTheirSigners, BodiesStay};
 ghost use Rattle.headline.specs.Headline.{EqualVersionsAreEqualLists, FailsAsRegister, IsAsBeforeWhereOpen};
 ghost use Rattle.headline.specs.Headline.{KeepsTellingOnErr, ListsForgetNothing, OfStore, OfficeStops, PrintsDue};
-ghost use Rattle.headline.specs.Headline.{PrintsWithFaults, PublishFailsAsRegister, RunsUnprinted, StoresWhereFound};
-ghost use Rattle.headline.specs.Headline.{WritesList, has_writer_failed};
+ghost use Rattle.headline.specs.Headline.{PrintsPart, PrintsWithFaults, PublishFailsAsRegister, StoresWhereFound};
+ghost use Rattle.headline.specs.Headline.{WritesList, WritesPart, has_writer_failed};
 
 pub use exchanges::RunFault;
 use exchanges::apply_exchanges;
@@ -40,35 +42,39 @@ use office::{MOST_CAS, Registry, Revoked, StoreFault};
 pub use publish_fault::PublishFault;
 use sqlite::Alter;
 use std::alloc::Global;
-use std::io::Write;
 use store::{Store, what_is_open_is_stored};
 use web::{Exchange, answer};
 use wire::Sink;
 
 /// Runs exchanges in order over the tables of an office, whatever was lost, repeated or reordered on the way. What each
 /// one got is printed, in full even if some got a fault.
-pub fn replay<S: Alter, W: Write>(
+pub fn replay<S: Alter, W: Sink>(
     store: &mut Store<S>,
     alloc: Global,
     exchanges: &[Exchange],
     out: &mut W,
 ) -> Result<(), RunFault>
+    requires { W.failed out.old < u64.MAX }
+
     // Each exchange gets the response of the reference model after the first acceptances among the earlier arrivals
     // that had no fault; the response to a GET of the list is the exact list. The tables then represent the history
     // with all arrivals. If an exchange used the tables, they are open and durably represent that history. Whatever the
     // tables mean, there is a response for each exchange, of the form that its request asks for, and the database is
     // unchanged while the connection is open if each message was refused or got a fault.
-    ensures ok { On S.Store (PrintsDue exchanges.now (W.contents out.old) (W.contents out.new))
+    ensures ok { On S.Store (PrintsDue exchanges.now (W.taken out.old) (W.taken out.new))
         store.old.conn store.new.conn result }
 
     // The same, but some exchanges get a fault and are not part of the history. The tables durably represent it if they
     // have answered since the last fault.
-    ensures fault { On S.Store (PrintsWithFaults exchanges.now (W.contents out.old) (W.contents out.new))
+    ensures fault { On S.Store (PrintsWithFaults exchanges.now (W.taken out.old) (W.taken out.new))
         store.old.conn store.new.conn result }
 
-    // If the output fails and the tables represented a history, all exchanges were still run, whatever was printed. If
-    // memory was refused, none was run, and nothing is printed.
-    ensures write { On S.Store (RunsUnprinted exchanges.now) store.old.conn store.new.conn result }
+    // The same, but a call of the output failed: all exchanges were still run, and a beginning of what is due for them
+    // is printed. This fault is returned exactly if such a call failed. If memory was refused, none was run, and
+    // nothing is printed.
+    ensures write { On S.Store (PrintsPart exchanges.now (W.taken out.old) (W.taken out.new))
+        store.old.conn store.new.conn result }
+    ensures failed { W.failed out.new ≡ (if is_unprinted result then W.failed out.old + 1 else W.failed out.old) }
     ensures unrun { result ≡ Err RunFault.NoMemory → store.new ≡ store.old }
     ensures unprinted { result ≡ Err RunFault.NoMemory → out.new ≡ out.old }
 
@@ -161,6 +167,10 @@ fn write_found<W: Sink>(revoked: &Revoked, sink: &mut W) -> Result<(), PublishFa
     ensures fits { OnOk result (IsTrue (fits revoked.now.parts.items revoked.now.key_ids)) }
     ensures ok { OnOk result (Appends (W.taken sink.old) (W.taken sink.new)
         (published_text revoked.now.head revoked.now.parts.items revoked.now.key_ids)) }
+    ensures part { result ≡ Err PublishFault.Write
+        → IsTrue (fits revoked.now.parts.items revoked.now.key_ids)
+        × AppendsBeginning (W.taken sink.old) (W.taken sink.new)
+        (published_text revoked.now.head revoked.now.parts.items revoked.now.key_ids) }
     ensures unwritten { IfErr result (λ e. e ≢ PublishFault.Write → sink.new ≡ sink.old) }
     ensures failed { W.failed sink.new
         ≡ (if has_writer_failed result then W.failed sink.old + 1 else W.failed sink.old) }
@@ -192,6 +202,9 @@ pub fn publish<S: Alter, W: Sink>(
     // The written bytes are a list, whatever the tables mean. It is the office's, which revokes exactly what accepted
     // messages named.
     ensures list { On S.Store (WritesList (W.taken sink.old) (W.taken sink.new)) store.old.conn store.new.conn result }
+
+    // If the writer failed, it has taken a beginning of such a list.
+    ensures part { On S.Store (WritesPart (W.taken sink.old) (W.taken sink.new)) store.old.conn store.new.conn result }
 
     // The tables represent what they did, and durably if the list was found: they are then open, and no crash loses it.
     ensures same { Between S.Store KeepsTelling store.old.conn store.new.conn }

@@ -67,7 +67,7 @@ module _ (old new : State) (was : IsTrue old.is_open) where
       → Applies exchanges old new held holds r → AddsArrivals old new
   applied exchanges held holds (Ok done) h = printed exchanges held holds false h
   applied exchanges held holds (Err fault.Fault) h = printed exchanges held holds true h
-  applied exchanges held holds (Err fault.Write) h = adds_run old new _ exchanges h.0 h.1
+  applied exchanges held holds (Err fault.Write) h = adds_run old new _ exchanges h.prints.given h.prints.serves
   applied exchanges held holds (Err fault.NoMemory) h = adds_none old new h.1.tells
   applied exchanges held holds (Err (fault.Store e)) h = adds_none old new h.0.tells
   applied exchanges held holds (Err fault.File) h = absurd h
@@ -80,8 +80,8 @@ module _ (old new : State) (was : IsTrue old.is_open) where
   applied exchanges held holds (Err (fault.List x)) h = absurd h
 
   listed : (held holds : Option (List ℕ)) (r : Result Unit JobFault) → PrintsKrl old new held holds r → AddsArrivals old new
-  listed held holds (Ok done) h = adds_none old new (λ o l told. (h.1.3 o l told).1.tells)
-  listed held holds (Err fault.Write) h = adds_none old new (λ o l told. (h.1 o l told).tells)
+  listed held holds (Ok done) h = adds_none old new (λ o l told. (h.1.3 o l told).tells)
+  listed held holds (Err fault.Write) h = adds_none old new (λ o l told. (h.1.3 o l told).tells)
   listed held holds (Err fault.NoMemory) h = adds_none old new h.1.tells
   listed held holds (Err (fault.Store e)) h = adds_none old new h.1.tells
   listed held holds (Err fault.File) h = absurd h
@@ -96,8 +96,8 @@ module _ (old new : State) (was : IsTrue old.is_open) where
 
   reported : (which : Report) (held holds : Option (List ℕ)) (r : Result Unit JobFault)
       → IsReport which old new held holds r → AddsArrivals old new
-  reported which held holds (Ok done) h = adds_none old new (λ o l told. (h.3 o l told).1.tells)
-  reported which held holds (Err fault.Write) h = adds_none old new (λ o l told. (h o l told).tells)
+  reported which held holds (Ok done) h = adds_none old new (λ o l told. (h.2.is o l told).1.tells)
+  reported which held holds (Err fault.Write) h = adds_none old new (λ o l told. (h.2.is o l told).1.tells)
   reported which held holds (Err fault.NoMemory) h = adds_none old new h.tells
   reported which held holds (Err (fault.Store e)) h = adds_none old new h.tells
   reported which held holds (Err fault.File) h = absurd h
@@ -125,7 +125,7 @@ module _ (old new : State) (was : IsTrue old.is_open) where
   served connections source heard said held holds (Ok status) h clean =
       λ o l told. let more = h.4.served clean o l told in (more.more, more.history)
   served connections source heard said held holds (Err fault.Socket) h clean = adds_none old new (h.4 clean).1
-  served connections source heard said held holds (Err fault.Write) h clean = adds_none old new (h.3 clean).1
+  served connections source heard said held holds (Err fault.Write) h clean = adds_none old new (h.4 clean).1
   served connections source heard said held holds (Err fault.NoMemory) h clean = adds_none old new (h.3 clean).tells
   served connections source heard said held holds (Err (fault.Store e)) h clean =
       adds_none old new (h.3 clean).tells

@@ -1,7 +1,7 @@
 -- What a job does to the office that was opened, it does to the database as it was given.
 use Rattle.office_jobs.proofs.Words.{Applies, Arrival, Bool, DiskFailed, Err, Exchange, HasCleanDisk, IsAsBefore}
 use Rattle.office_jobs.proofs.Words.{IsExcused, IsOfARegister, IsOpened, IsTrue, IsUnopened, IsUnprinted, JobFault}
-use Rattle.office_jobs.proofs.Words.{KeepsTelling, List, OfficePrints, Ok, OnOk, Opening, Option, Result, RunFault}
+use Rattle.office_jobs.proofs.Words.{KeepsTelling, List, OfficePrints, OfficePrintsPart, Ok, OnOk, Opening, Option, Result, RunFault}
 use Rattle.office_jobs.proofs.Words.{State, StoreFault, Tells, arith, false, inl, inr, of_store, refl, run_result}
 use Rattle.office_jobs.proofs.Words.{subst, sym, true, ℕ, ◌∙◌, ◌≡◌}
 use Rattle.office.specs.declared.store_fault.StoreFault.TheVariants as store
@@ -10,7 +10,6 @@ use Rattle.office.specs.Faults.{HasRegisterCause}
 use Rattle.store.specs.Meaning.{Looks, RegisterHasFailed, opened_by}
 use Rattle.store.proofs.Words.{both_ways}
 use Rattle.exchanges.specs.declared.running.RunFault.TheVariants as run
-use Rattle.headline.specs.Headline.{OfficeRuns}
 use Rattle.office_jobs.specs.declared.job_fault.JobFault.TheVariants as fault
 use Rattle.office_jobs.specs.Opening.{IsOfRows}
 
@@ -120,9 +119,18 @@ prints_from old mid new es held holds fault before tells p = record {
   lists = λ o l m. p.lists o l (tells o l m);
 }
 
-runs_from : (old mid new : State) (es : List Exchange) → KeepsTelling old mid → OfficeRuns mid new es
-    → OfficeRuns old new es
-runs_from old mid new es tells r = (r.0, λ o l m. r.1 o l (tells o l m))
+part_from : (old mid new : State) (es : List Exchange) (held holds : Option (List ℕ)) → IsAsBefore old mid
+    → KeepsTelling old mid → OfficePrintsPart mid new es held holds → OfficePrintsPart old new es held holds
+part_from old mid new es held holds before tells p = record {
+  prints = record {
+    given = p.prints.given;
+    serves = λ o l m. p.prints.serves o l (tells o l m);
+    printed = p.prints.printed;
+    forms = p.prints.forms;
+    rows = λ none is. before_again old mid new before (p.prints.rows none is);
+  };
+  lists = λ o l m. p.lists o l (tells o l m);
+}
 
 -- nothing was run over an opened office
 unrun : (old mid new : State) (held holds : Option (List ℕ)) → IsOpened old mid → new ≡ mid → holds ≡ held
@@ -140,7 +148,7 @@ pub applied : (r : Result Unit RunFault) (done : Result Unit JobFault) (es : Lis
     (held holds : Option (List ℕ)) → done ≡ run_result r → IsOpened old mid
     → OnOk r (OfficePrints mid new es held holds false)
     → (r ≡ Err run.Fault → OfficePrints mid new es held holds true)
-    → (r ≡ Err run.Write → OfficeRuns mid new es)
+    → (r ≡ Err run.Write → OfficePrintsPart mid new es held holds)
     → (r ≡ Err run.NoMemory → new ≡ mid) → (r ≡ Err run.NoMemory → holds ≡ held)
     → Applies es old new held holds done
 applied (Ok x) done es old mid new held holds same opened ok fault write stays silent =
@@ -151,7 +159,7 @@ applied (Err run.Fault) done es old mid new held holds same opened ok fault writ
     (prints_from old mid new es held holds true opened.before opened.tells (fault refl))
 applied (Err run.Write) done es old mid new held holds same opened ok fault write stays silent =
     subst (λ (d : Result Unit JobFault). Applies es old new held holds d) (sym same)
-    (runs_from old mid new es opened.tells (write refl))
+    (part_from old mid new es held holds opened.before opened.tells (write refl))
 applied (Err run.NoMemory) done es old mid new held holds same opened ok fault write stays silent =
     subst (λ (d : Result Unit JobFault). Applies es old new held holds d) (sym same)
     (unrun old mid new held holds opened (stays refl) (silent refl))

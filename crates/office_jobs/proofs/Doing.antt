@@ -1,12 +1,12 @@
 -- What a job does is what its run was asked to do.
-use Rattle.office_jobs.proofs.Words.{All, Appends, Applies, Arrival, Asked, Asks, AsksExchanges, AsksOffice}
+use Rattle.office_jobs.proofs.Words.{All, Appends, AppendsBeginning, Applies, Arrival, Asked, Asks, AsksExchanges, AsksOffice}
 use Rattle.office_jobs.proofs.Words.{AsksServing, DoesOfficeJob, Err, Exchange, Given, HasCleanDisk, Heard, IsBlank}
 use Rattle.office_jobs.proofs.Words.{IsReport, IsTrue, IsUnmade, JobFault, KeepsTelling, List, PrintsKrl, MakesOffice}
 use Rattle.office_jobs.proofs.Words.{MigratesOffice, None, OfficeJob, Ok, Opening, Option, PlainText, Result}
-use Rattle.office_jobs.proofs.Words.{RevocationList, ServesOffice, Signers, State, StoreFault, Table, Tells, [], ap}
+use Rattle.office_jobs.proofs.Words.{RevocationList, ServesOffice, Signers, State, StoreFault, Stores, Table, Tells, [], ap}
 use Rattle.office_jobs.proofs.Words.{arith, codes, false, get, inl, inr, is_office_table, list_any, refl, response_text}
 use Rattle.office_jobs.proofs.Words.{subst, sym, ℕ, ◌∷◌, ◌≡◌, ◌≢◌}
-use Rattle.std.proofs.Common.{zero, suc}
+use Rattle.std.proofs.Common.{map, zero, suc}
 use Rattle.sqlite.specs.Tree.{Trees}
 use Rattle.store_sql.proofs.Words.{Schema}
 use Rattle.http_requests.specs.declared.resource.Resource.{Resource}
@@ -22,12 +22,14 @@ use Rattle.store.specs.Meaning.{IsHistory}
 use Rattle.web.specs.declared.exchange.Given.TheVariants as given
 use Rattle.web.specs.Answers.{MayList, resource_response}
 use Rattle.web.specs.Runs.{AllDue}
+use Rattle.headline.specs.Headline.{IsListOf}
 use Rattle.restart.specs.Runs.{Does as DoesAsked, IsUnfounded}
 use Rattle.office_jobs.specs.declared.job.OfficeJob.TheVariants as job
 use Rattle.office_jobs.specs.declared.job_fault.JobFault.TheVariants as fault
 use Rattle.office_jobs.specs.declared.reporting.Report.TheVariants as report
-use Rattle.office_jobs.specs.Asked.{AsksResource, IsShown, asked_in_visits}
+use Rattle.office_jobs.specs.Asked.{AsksResource, IsGiven, IsIdle, IsShown, asked_in_visits}
 use Rattle.office_jobs.specs.Asked.{founding_asked, nothing_asked}
+use Rattle.office_jobs.specs.Faults.{IsOfOpening}
 use Rattle.office_jobs.specs.Jobs.{IsLawfulJob, IsMaking}
 use Rattle.office_jobs.proofs.Asking.{asks_list, asks_signers, asks_table}
 
@@ -49,6 +51,12 @@ none_given [] k d within = absurd (omega (arith, within))
 none_given (x ∷ xs) zero d within = refl
 none_given (x ∷ xs) (suc k) d within = none_given xs k d (omega (arith, within))
 
+-- they are as many faults as exchanges
+faults_for : (exchanges : List Exchange) → all_faults exchanges ≡ map (λ _. given.Fault) exchanges
+unfolding all_faults
+faults_for [] = refl
+faults_for (x ∷ xs) = ap (λ (gs : List Given). given.Fault ∷ gs) (faults_for xs)
+
 one_fault : (x : Exchange) → all_faults (x ∷ []) ≡ given.Fault ∷ []
 unfolding all_faults
 one_fault x = refl
@@ -68,6 +76,46 @@ table_get = get_by (codes "GET /v1/table HTTP/1.1\r\n\r\n")
 
 nothing_given : All (λ (g : Given). g ≡ given.Fault) []
 nothing_given k d within = absurd (omega (arith, within))
+
+-- ---- a database that wasn't opened
+
+-- a fault of opening is one with which nothing was given, and nothing printed
+unopened_given : (es : List Exchange) (held : Option (List ℕ)) (e : JobFault) → IsOfOpening e
+    → IsGiven held held (Err e) (record { founds = None; exchanges = es; given = all_faults es })
+unopened_given es held fault.NoMemory h = (none_given es, refl)
+unopened_given es held (fault.Store e) h = (none_given es, refl)
+unopened_given es held other h = absurd h
+
+unopened_shown : (media : MediaType) (x : Exchange) (held : Option (List ℕ)) (e : JobFault) → IsOfOpening e
+    → IsShown media held held (Err e) (all_faults (x ∷ []))
+unopened_shown media x held fault.NoMemory h = (one_fault x, refl)
+unopened_shown media x held (fault.Store e) h = (one_fault x, refl)
+unopened_shown media x held other h = absurd h
+
+abbrev Unshown : Resource → MediaType → (held : Option (List ℕ)) → JobFault → Type 0
+Unshown resource media held e = (asked : Asked) × AsksResource resource media held held (Err e) asked × IsIdle asked
+
+unopened_get : (resource : Resource) (media : MediaType) (x : Exchange) → Asks x.request (get resource)
+    → (held : Option (List ℕ)) (e : JobFault) → IsOfOpening e → Unshown resource media held e
+unopened_get resource media x asks held e h = (
+  record { founds = None; exchanges = x ∷ []; given = all_faults (x ∷ []) },
+  record { founds = refl; get_of = x; asks = asks; one = refl; shown = unopened_shown media x held e h },
+  faults_for (x ∷ []),
+)
+
+-- what a job asked that didn't open its database
+pub unopened_asked : (job : OfficeJob) (held : Option (List ℕ)) (e : JobFault) → IsOfOpening e
+    → (asked : Asked) × AsksOffice job held held (Err e) asked × IsIdle asked
+unopened_asked (job.Init opening) held e h = (founding_asked opening.now, refl, refl)
+unopened_asked (job.Apply exchanges) held e h = (
+  record { founds = None; exchanges = exchanges.now; given = all_faults exchanges.now },
+  record { founds = refl; are_its = refl; given = unopened_given exchanges.now held e h },
+  faults_for exchanges.now,
+)
+unopened_asked job.Krl held e h = unopened_get RevocationList Bytes list_get asks_list held e h
+unopened_asked job.Signers held e h = unopened_get Signers PlainText signers_get asks_signers held e h
+unopened_asked job.Table held e h = unopened_get Table PlainText table_get asks_table held e h
+unopened_asked job.Migrate held e h = (nothing_asked, refl, refl)
 
 -- ---- a database without tables
 
@@ -147,9 +195,9 @@ module _ (old new : State) where
         (not_faulted fault.Fault (λ same. cc) refuses),
   )
   applied es held holds (Err fault.Write) refuses h = (
-    record { founds = None; exchanges = es; given = h.0 },
-    record { founds = refl; are_its = refl; given = tt },
-    ran es h.0 (λ o l told. let s = h.1 o l told in (s.0, s.1, s.2))
+    record { founds = None; exchanges = es; given = h.prints.given },
+    record { founds = refl; are_its = refl; given = h.prints.printed },
+    ran es h.prints.given (λ o l told. let s = h.prints.serves o l told in (s.0, s.1, s.2))
         (not_faulted fault.Write (λ same. cc) refuses),
   )
   applied es held holds (Err fault.NoMemory) refuses h = (
@@ -195,6 +243,22 @@ module _ (old new : State) where
               (not_blank done refuses),
         )
 
+    -- the same, with a beginning of the body printed
+    showed_part : (held holds : Option (List ℕ)) (body : List ℕ) → AppendsBeginning held holds body
+        → Refuses {A = Unit {0}} (Err fault.Write)
+        → ((o : Opening) (l : List Arrival) → Tells old o l
+        → (response_text 200 media body ≡ resource_response (state o l) resource)
+        × (get resource ≡ get RevocationList → MayList o l) × Tells new o l)
+        → Shown resource media held holds (Err fault.Write)
+    showed_part held holds body printed refuses is =
+        let gave : List Given = given.Answer (response_text 200 media body) ∷ [] in (
+          record { founds = None; exchanges = x ∷ []; given = gave },
+          record { founds = refl; get_of = x; asks = asks; one = refl; shown = (body, printed, refl) },
+          ran (x ∷ []) gave
+              (λ o l told. let due = is o l told in (l, (get resource, asks, due.0, due.1, refl), due.2))
+              (not_faulted fault.Write (λ same. cc) refuses),
+        )
+
     -- a fault
     unshown : (r : Result (Unit {0}) JobFault) (held holds : Option (List ℕ)) → Refuses r → KeepsTelling old new
         → IsShown media held holds r (all_faults (x ∷ [])) → Shown resource media held holds r
@@ -204,18 +268,27 @@ module _ (old new : State) where
       unrun (x ∷ []) r refuses tells,
     )
 
+  -- the list is the body of the response
+  list_shown : (bytes : List ℕ) → IsListOf old bytes
+      → ((o : Opening) (l : List Arrival) → Tells old o l → Stores new o l) → (o : Opening) (l : List Arrival)
+      → Tells old o l
+      → (response_text 200 Bytes bytes ≡ resource_response (state o l) RevocationList)
+      × (get RevocationList ≡ get RevocationList → MayList o l) × Tells new o l
+  list_shown bytes is kept o l told =
+      let it = is.list o l told in (
+        ap (response_text 200 Bytes) it.same,
+        λ _. record { office = told.history.office; fits = it.fits },
+        (kept o l told).tells,
+      )
+
   listed : (held holds : Option (List ℕ)) (r : Result (Unit {0}) JobFault) → Refuses r → PrintsKrl old new held holds r
       → Shown RevocationList Bytes held holds r
   listed held holds (Ok done) refuses h =
-      showed RevocationList Bytes list_get asks_list done held holds h.1.0 h.1.1 refuses (λ o l told.
-      let is = h.1.3 o l told in (
-        ap (response_text 200 Bytes) is.0.same,
-        λ _. record { office = told.history.office; fits = is.0.fits },
-        is.1.tells,
-      ))
+      showed RevocationList Bytes list_get asks_list done held holds h.1.0 h.1.1 refuses
+      (list_shown h.1.0 h.1.2 h.1.3)
   listed held holds (Err fault.Write) refuses h =
-      unshown RevocationList Bytes list_get asks_list (Err fault.Write) held holds refuses
-      (λ o l told. (h.1 o l told).tells) (one_fault list_get)
+      showed_part RevocationList Bytes list_get asks_list held holds h.1.0 h.1.1 refuses
+      (list_shown h.1.0 h.1.2 h.1.3)
   listed held holds (Err fault.NoMemory) refuses h =
       unshown RevocationList Bytes list_get asks_list (Err fault.NoMemory) held holds refuses h.1.tells
       (one_fault list_get, h.1.unprinted)
@@ -236,10 +309,10 @@ module _ (old new : State) where
       → IsReport report.Signers old new held holds r → Shown Signers PlainText held holds r
   signers_shown held holds (Ok done) refuses h =
       showed Signers PlainText signers_get asks_signers done held holds h.0 h.1 refuses (λ o l told.
-      let is = h.3 o l told in (ap (response_text 200 PlainText) is.0, λ other. absurd (cc), is.1.tells))
+      let is = h.2.is o l told in (ap (response_text 200 PlainText) is.0, λ other. absurd (cc), is.1.tells))
   signers_shown held holds (Err fault.Write) refuses h =
-      unshown Signers PlainText signers_get asks_signers (Err fault.Write) held holds refuses
-      (λ o l told. (h o l told).tells) (one_fault signers_get)
+      showed_part Signers PlainText signers_get asks_signers held holds h.0 h.1 refuses (λ o l told.
+      let is = h.2.is o l told in (ap (response_text 200 PlainText) is.0, λ other. absurd (cc), is.1.tells))
   signers_shown held holds (Err fault.NoMemory) refuses h =
       unshown Signers PlainText signers_get asks_signers (Err fault.NoMemory) held holds refuses h.tells
       (one_fault signers_get, h.unprinted)
@@ -260,10 +333,10 @@ module _ (old new : State) where
       → IsReport report.Table old new held holds r → Shown Table PlainText held holds r
   table_shown held holds (Ok done) refuses h =
       showed Table PlainText table_get asks_table done held holds h.0 h.1 refuses (λ o l told.
-      let is = h.3 o l told in (ap (response_text 200 PlainText) is.0, λ other. absurd (cc), is.1.tells))
+      let is = h.2.is o l told in (ap (response_text 200 PlainText) is.0, λ other. absurd (cc), is.1.tells))
   table_shown held holds (Err fault.Write) refuses h =
-      unshown Table PlainText table_get asks_table (Err fault.Write) held holds refuses
-      (λ o l told. (h o l told).tells) (one_fault table_get)
+      showed_part Table PlainText table_get asks_table held holds h.0 h.1 refuses (λ o l told.
+      let is = h.2.is o l told in (ap (response_text 200 PlainText) is.0, λ other. absurd (cc), is.1.tells))
   table_shown held holds (Err fault.NoMemory) refuses h =
       unshown Table PlainText table_get asks_table (Err fault.NoMemory) held holds refuses h.tells
       (one_fault table_get, h.unprinted)
@@ -414,7 +487,7 @@ module _ (old new : State) where
   serves_asked clean n nonces heard said held holds (Err fault.Socket) refuses h =
       (nothing_asked, refl, stays {A = ℕ} (Err fault.Socket) refuses (h.4 clean).1)
   serves_asked clean n nonces heard said held holds (Err fault.Write) refuses h =
-      (nothing_asked, refl, stays {A = ℕ} (Err fault.Write) refuses (h.3 clean).1)
+      (nothing_asked, refl, stays {A = ℕ} (Err fault.Write) refuses (h.4 clean).1)
   serves_asked clean n nonces heard said held holds (Err fault.NoMemory) refuses h =
       (nothing_asked, refl, stays {A = ℕ} (Err fault.NoMemory) refuses (h.3 clean).tells)
   serves_asked clean n nonces heard said held holds (Err (fault.Store e)) refuses h =

@@ -7,9 +7,11 @@ pub mod Bodies
 pub mod Carried
 pub mod Causes
 pub mod Commanded
+pub mod Counted
 pub mod Doing
 pub mod Ended
 pub mod Found
+pub mod Idle
 pub mod Made
 pub mod Meeting
 pub mod Printed

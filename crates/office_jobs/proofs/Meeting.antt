@@ -64,16 +64,16 @@ said_of (suc k) low Told Meets met lacking =
 -- connections served at a port whose line is printed
 pub served_at : (n port status : ℕ) (book book' : Option Book) (source first left : Option (List ℕ)) (said : List ℕ)
     (old new : State)
-    (held listening holds : Option (List ℕ)) → Appends held listening (listening_line port) → holds ≡ listening
+    (held holds : Option (List ℕ)) → Appends held holds (listening_line port)
     → first ≡ source → (status ≡ 0 → MeetsOver n book book' first left said old new) → (status ≡ 1 → new ≡ old)
     → (status ≡ 1 → said ≡ no_memory_line) → (HasCleanDisk new → Extends n (Tells old) (Tells new)) → status ≤ 1
     → ServesOffice n source (Some (Ok (book, port))) said old new held holds (Ok status)
-served_at n port status book book' source first left said old new held listening holds printed quiet same met unmet
+served_at n port status book book' source first left said old new held holds printed same met unmet
     lacking served low = (
       book,
       port,
       refl,
-      subst (λ (o : Option (List ℕ)). Appends held o (listening_line port)) (sym quiet) printed,
+      printed,
       record {
         met = λ done. (
           book',
@@ -115,7 +115,7 @@ served_from n source heard said old mid new held holds (Ok status) before tells 
 served_from n source heard said old mid new held holds (Err fault.Socket) before tells h =
     (h.0, h.1, h.2, h.3, λ clean. unmet_from old mid new (before clean) (tells clean) (h.4 clean))
 served_from n source heard said old mid new held holds (Err fault.Write) before tells h =
-    (h.0, h.1, h.2, λ clean. unmet_from old mid new (before clean) (tells clean) (h.3 clean))
+    (h.0, h.1, h.2, h.3, λ clean. unmet_from old mid new (before clean) (tells clean) (h.4 clean))
 served_from n source heard said old mid new held holds (Err fault.NoMemory) before tells h =
     let no = h.0 in absurd (cc)
 served_from n source heard said old mid new held holds (Err (fault.Store e)) before tells h =

@@ -1,18 +1,18 @@
 -- The list and the reports of a database, as they are printed.
-use Rattle.office_jobs.proofs.Words.{Appends, Arrival, DiskFailed, Err, HasCleanDisk, IfErr, IsAsBefore, IsExcused}
+use Rattle.office_jobs.proofs.Words.{Appends, AppendsBeginning, Arrival, DiskFailed, Err, HasCleanDisk, IfErr, IsAsBefore, IsExcused}
 use Rattle.office_jobs.proofs.Words.{IsOfARegister, IsOpened, IsReport, IsTrue, IsUnopened, IsUnprinted, JobFault}
 use Rattle.office_jobs.proofs.Words.{KeepsTelling, List, NoMemory, Ok, OnOk, Opening, Option, PrintsKrl, Report}
-use Rattle.office_jobs.proofs.Words.{Reports, Result, State, StoreFault, Stores, Tells, Write, of_store, subst, sym}
+use Rattle.office_jobs.proofs.Words.{Reports, Result, State, StoreFault, Stores, Tells, Write, of_store, refl, subst, sym}
 use Rattle.office_jobs.proofs.Words.{ℕ, ◌≡◌, ◌≢◌}
 use Rattle.office.specs.Faults.{HasRegisterCause}
 use Rattle.office.specs.declared.store_fault.StoreFault.TheVariants as store
 use Rattle.headline.specs.declared.publish_fault.PublishFault.{PublishFault}
 use Rattle.headline.specs.declared.publish_fault.PublishFault.TheVariants as publish
-use Rattle.headline.specs.Headline.{IfFound, IsList, OfStore}
+use Rattle.headline.specs.Headline.{IfFound, IsListOf, OfStore}
 use Rattle.store.specs.Meaning.{RegisterHasFailed}
-use Rattle.web.specs.Forms.{IsListText}
 use Rattle.office_jobs.specs.declared.job_fault.JobFault.TheVariants.{Store}
 use Rattle.office_jobs.specs.Faults.{publish_result}
+use Rattle.office_jobs.specs.Reporting.{IsReportOf}
 use Rattle.office_jobs.proofs.Carried.{before_again, before_open, excused, left_from, unopened_left}
 
 -- ---- the list
@@ -43,11 +43,15 @@ left mid new held holds e silent tells only = record {
   only = λ is_open o l m. only o l m;
 }
 
+-- the list of an office that was opened is that of the database
+list_from : (old mid : State) (bytes : List ℕ) → KeepsTelling old mid → IsListOf mid bytes → IsListOf old bytes
+list_from old mid bytes tells is = record { text = is.text; list = λ o l m. is.list o l (tells o l m) }
+
 pub listed : (r : Result Unit PublishFault) (done : Result Unit JobFault) (old mid new : State)
     (held holds : Option (List ℕ))
     → done ≡ publish_result r → IsOpened old mid
-    → OnOk r ((bytes : List ℕ) × Appends held holds bytes × IsListText bytes
-    × ((o : Opening) (l : List Arrival) → Tells mid o l → IsList o l bytes))
+    → OnOk r ((bytes : List ℕ) × Appends held holds bytes × IsListOf mid bytes)
+    → (r ≡ Err publish.Write → (bytes : List ℕ) × AppendsBeginning held holds bytes × IsListOf mid bytes)
     → KeepsTelling mid new
     → IfFound r ((o : Opening) (l : List Arrival) → Tells mid o l → Stores new o l)
     → (IsTrue new.is_open → IsAsBefore mid new)
@@ -55,28 +59,22 @@ pub listed : (r : Result Unit PublishFault) (done : Result Unit JobFault) (old m
     → IfErr r (OfStore (λ e. (o : Opening) (l : List Arrival) → Tells mid o l → IsOfARegister e))
     → HasCleanDisk new → IfErr r (OfStore (λ e. HasRegisterCause e (RegisterHasFailed mid new)))
     → PrintsKrl old new held holds done
-listed (Ok x) done old mid new held holds same opened list tells found before silent only clean cause =
+listed (Ok x) done old mid new held holds same opened list part tells found before silent only clean cause =
     subst (λ (d : Result Unit JobFault). PrintsKrl old new held holds d) (sym same) (
       before_again old mid new opened.before (before_open mid new before),
-      (list.0, list.1, list.2, λ o l m. (list.3 o l (opened.tells o l m), found o l (opened.tells o l m))),
+      (list.0, list.1, list_from old mid list.0 opened.tells list.2, λ o l m. found o l (opened.tells o l m)),
     )
-listed (Err publish.Write) done old mid new held holds same opened list tells found before silent only clean cause =
+listed (Err publish.Write) done old mid new held holds same opened list part tells found before silent only clean cause =
     subst (λ (d : Result Unit JobFault). PrintsKrl old new held holds d) (sym same) (
       before_again old mid new opened.before (before_open mid new before),
-      λ o l m. found o l (opened.tells o l m),
+      (let it = part refl in
+      (it.0, it.1, list_from old mid it.0 opened.tells it.2, λ o l m. found o l (opened.tells o l m))),
     )
-listed (Err (publish.Store e)) done old mid new held holds same opened list tells found before silent only clean cause =
+listed (Err (publish.Store e)) done old mid new held holds same opened list part tells found before silent only clean cause =
     subst (λ (d : Result Unit JobFault). PrintsKrl old new held holds d) (sym same)
     (of_fault e old new held holds (before_again old mid new opened.before (before_open mid new before))
     (left_from old mid new held holds e opened (left mid new held holds e (silent (λ is_write. cc)) tells
     (λ o l m. excused e mid new clean o l m (only o l m) cause))))
-
-pub lists_as : (old new newer : State) (held is_held holds is_holds : Option (List ℕ)) (r : Result Unit JobFault)
-    → newer ≡ new → is_held ≡ held → is_holds ≡ holds → PrintsKrl old new held holds r → PrintsKrl old newer is_held is_holds r
-lists_as old new newer held is_held holds is_holds r same before after lists =
-    subst (λ (s : State). PrintsKrl old s is_held is_holds r) (sym same)
-    (subst (λ (h : Option (List ℕ)). PrintsKrl old new h is_holds r) (sym before)
-    (subst (λ (h : Option (List ℕ)). PrintsKrl old new held h r) (sym after) lists))
 
 -- ---- reports
 
@@ -99,11 +97,18 @@ unreported report e f old new held holds same u silent =
           (report_fault report e old new held holds (unopened_left old new held holds e u silent));
     }
 
+-- the report of an office that was opened is that of the database
+report_from : (report : Report) (old mid new : State) (text : List ℕ) → KeepsTelling old mid
+    → IsReportOf report mid new text → IsReportOf report old new text
+report_from report old mid new text tells it = record { form = it.form; is = λ o l m. it.is o l (tells o l m) }
+
 -- a report's result for an opened office is its result for the database
 came_from : (report : Report) (old mid new : State) (held holds : Option (List ℕ)) (r : Result Unit JobFault)
     → IsOpened old mid → IsReport report mid new held holds r → IsReport report old new held holds r
-came_from report old mid new held holds (Ok x) opened is = (is.0, is.1, is.2, λ o l m. is.3 o l (opened.tells o l m))
-came_from report old mid new held holds (Err Write) opened is = λ o l m. is o l (opened.tells o l m)
+came_from report old mid new held holds (Ok x) opened is =
+    (is.0, is.1, report_from report old mid new is.0 opened.tells is.2)
+came_from report old mid new held holds (Err Write) opened is =
+    (is.0, is.1, report_from report old mid new is.0 opened.tells is.2)
 came_from report old mid new held holds (Err NoMemory) opened is =
     left_from old mid new held holds store.NoMemory opened is
 came_from report old mid new held holds (Err (Store e)) opened is = left_from old mid new held holds e opened is

@@ -1,8 +1,9 @@
 -- The body of the response to a request for a report.
-use Rattle.office_jobs.proofs.Words.{Appends, Arrival, Asks, Err, IfErr, IsReport, IsUnprinted, JobFault, List, None}
+use Rattle.office_jobs.proofs.Words.{Appends, AppendsBeginning, Arrival, Asks, Err, IfErr, IsReport, IsUnprinted, JobFault, List, None}
 use Rattle.office_jobs.proofs.Words.{Ok, OnOk, Opening, Option, PlainText, Report, Result, Some, State, Stores, Tells}
 use Rattle.office_jobs.proofs.Words.{Write, ap, arith, get, length, length-append, refl, resource_of, response_text}
 use Rattle.office_jobs.proofs.Words.{subst, sym, ℕ, ◌+◌, ◌<◌, ◌^◌, ◌∙◌, ◌≡◌}
+use Rattle.std.specs.Prelude.{OnErr}
 use Rattle.http_requests.specs.Asks.{Ask}
 use Rattle.http_requests.specs.Responses.{response_head}
 use Rattle.office.specs.declared.store_fault.StoreFault.TheVariants as store
@@ -15,7 +16,7 @@ use Rattle.web.specs.Forms.{HasForm, MayAnswer, MayShow}
 use Rattle.web.specs.Reports.{signer_rows}
 use Rattle.headline.specs.Headline.{OfficeAnswers}
 use Rattle.office_jobs.specs.declared.reporting.Report.TheVariants.{Signers, Table}
-use Rattle.office_jobs.specs.Reporting.{report_text}
+use Rattle.office_jobs.specs.Reporting.{IsReportOf, report_text}
 use Rattle.office_jobs.proofs.Bodies.{found_is, not_found}
 
 -- a request has at most one reading
@@ -93,26 +94,37 @@ has_form report request response looked body one asks form same short finds =
 
 -- ---- the outcome
 
+-- the body that is found is that of a report
+is_report : (report : Report) (old new : State) (request : List ℕ) (moment : ℕ)
+    (nonce response looked body : List ℕ) → OneAsk → Asks request (get (resource_of report))
+    → OfficeAnswers old new request moment nonce response → looked ≡ response → length response < 2 ^ 64
+    → HasForm request response → Finds (Some body) looked → IsReportOf report old new body
+is_report report old new request moment nonce response looked body one asks answers same short form finds = record {
+  form = has_form report request response looked body one asks form same short finds;
+  is = λ o l m.
+      let is = found_report report old new request moment nonce response looked
+      (Some body) one asks answers same short finds o l m in
+      (found_is body (report_text report (state o l)) is.0, is.1);
+}
+
 pub reported : (report : Report) (old new : State) (held holds : Option (List ℕ)) (request : List ℕ) (moment : ℕ)
     (nonce response looked body : List ℕ) (r : Result Unit JobFault) → OneAsk → Asks request (get (resource_of report))
     → OfficeAnswers old new request moment nonce response → looked ≡ response → length response < 2 ^ 64
     → HasForm request response → Finds (Some body) looked → OnOk r (Appends held holds body)
-    → IfErr r (λ e. e ≡ Write) → IsReport report old new held holds r
+    → OnErr r (AppendsBeginning held holds body) → IfErr r (λ e. e ≡ Write) → IsReport report old new held holds r
 reported report old new held holds request moment nonce response looked body
-    (Ok x) one asks answers same short form finds ok only = (
+    (Ok x) one asks answers same short form finds ok part only = (
       body,
       ok,
-      has_form report request response looked body one asks form same short finds,
-      λ o l m.
-          let is = found_report report old new request moment nonce response looked
-          (Some body) one asks answers same short finds o l m in
-          (found_is body (report_text report (state o l)) is.0, is.1),
+      is_report report old new request moment nonce response looked body one asks answers same short form finds,
     )
 reported report old new held holds request moment nonce response looked body
-    (Err e) one asks answers same short form finds ok only =
-    subst (λ (e : JobFault). IsReport report old new held holds (Err e)) (sym only) (λ o l m.
-    (found_report report old new request moment nonce response looked
-    (Some body) one asks answers same short finds o l m).1)
+    (Err e) one asks answers same short form finds ok part only =
+    subst (λ (e : JobFault). IsReport report old new held holds (Err e)) (sym only) (
+      body,
+      part,
+      is_report report old new request moment nonce response looked body one asks answers same short form finds,
+    )
 
 -- if the tables represent a history, the response has a body
 pub unfound : (report : Report) (old new : State) (held : Option (List ℕ)) (request : List ℕ) (moment : ℕ)

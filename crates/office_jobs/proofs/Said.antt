@@ -1,8 +1,9 @@
 -- What the second output takes.
-use Rattle.office_jobs.proofs.Words.{Appends, Err, ErrorKind, IfErr, JobFault, List, None, Ok, OnOk, Option, Result}
-use Rattle.office_jobs.proofs.Words.{Some, Write, [], append_assoc, arith, inl, inr, refl, subst, sym, ℕ, ◌++◌, ◌<◌}
+use Rattle.office_jobs.proofs.Words.{Appends, AppendsBeginning, Err, ErrorKind, IfErr, JobFault, List, None, Ok, OnOk, Option, Result}
+use Rattle.office_jobs.proofs.Words.{Some, Write, [], append_assoc, ap, arith, inl, inr, length, refl, subst, sym, ℕ, ◌++◌, ◌<◌}
 use Rattle.office_jobs.proofs.Words.{◌≡◌, ◌≤◌}
 use Rattle.std.proofs.Common.{append-nil}
+use Rattle.std.proofs.lemmas.List.{take_all}
 use Rattle.std.proofs.KnownBytes.{Appends-trans}
 use Rattle.std.specs.Io.KnownBytes.{Keeps}
 use Rattle.std.specs.Prelude.{IsOk, OnErr}
@@ -60,20 +61,39 @@ pub told_of : (Told : List ℕ → Type 0) (said : List ℕ) (result other : Res
 told_of Told said result other same told =
     subst (λ (r : Result ℕ JobFault). Told (said ++ result_line r)) (sym same) told
 
+-- the whole text is a beginning of it
+pub begins_whole : (held holds : Option (List ℕ)) (text : List ℕ) → Appends held holds text
+    → AppendsBeginning held holds text
+begins_whole held holds text all = record {
+  count = length text;
+  grown = subst (Appends held holds) (sym (take_all (length text) text (omega arith))) all;
+}
+
 -- a text that was asked for
 pub shows : (shown ended : Result Unit JobFault) (text : List ℕ) (held between holds : Option (List ℕ)) (is : ℕ)
-    (Told : List ℕ → Type 0) → OnOk shown (Appends held between text) → IfErr shown (λ e. e ≡ Write)
+    (Told : List ℕ → Type 0) (Heeded : Result ℕ JobFault → Type 0) → OnOk shown (Appends held between text)
+    → OnErr shown (AppendsBeginning held between text) → IfErr shown (λ e. e ≡ Write)
     → IfErr shown (λ e. ended ≡ Err e) → (IsOk shown → IfErr ended (λ e. e ≡ Write)) → Keeps between holds
     → is ≡ status ended → (IsOk ended → Told []) → IfErr ended (λ fault. Told (fault_line fault))
-    → Shows text held holds Told is
-shows (Ok x) (Ok y) text held between holds is Told printed only fault ok kept same silent told =
-    inl (same, silent refl, between, printed, kept)
-shows (Ok x) (Err e) text held between holds is Told printed only fault ok kept same silent told =
-    inr (same, subst (λ (e : JobFault). Told (fault_line e)) (ok refl) told)
-shows (Err e) (Ok y) text held between holds is Told printed only fault ok kept same silent told = absurd cc
-shows (Err e) (Err e') text held between holds is Told printed only fault ok kept same silent told =
-    let write : e' ≡ Write = cc in
-    inr (same, subst (λ (e : JobFault). Told (fault_line e)) write told)
+    → (IsOk ended → Heeded (Ok 0)) → (ended ≡ Err Write → Heeded (Err Write))
+    → Shows text held holds Told Heeded is
+shows (Ok x) (Ok y) text held between holds is Told Heeded printed part only fault ok kept same silent told done lost =
+    (between, kept, inl (same, silent refl, printed, done refl))
+shows (Ok x) (Err e) text held between holds is Told Heeded printed part only fault ok kept same silent told done lost =
+    let write : e ≡ Write = ok refl in (
+      between,
+      kept,
+      inr (same, subst (λ (e : JobFault). Told (fault_line e)) write told, begins_whole held between text printed,
+          lost (ap Err write)),
+    )
+shows (Err e) (Ok y) text held between holds is Told Heeded printed part only fault ok kept same silent told done lost =
+    absurd cc
+shows (Err e) (Err e') text held between holds is Told Heeded printed part only fault ok kept same silent told done lost =
+    let write : e' ≡ Write = cc in (
+      between,
+      kept,
+      inr (same, subst (λ (e : JobFault). Told (fault_line e)) write told, part, lost (ap Err write)),
+    )
 
 -- ---- a line that is printed in pieces, of which the last may fail
 

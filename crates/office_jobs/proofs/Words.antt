@@ -1,7 +1,7 @@
 -- Names from the libraries and the definitions, for several proof files.
 pub use Rattle.exchanges.specs.Reading.{rest_after}
 pub use Rattle.exchanges.specs.declared.running.RunFault.{RunFault}
-pub use Rattle.headline.specs.Headline.{OfficePrints}
+pub use Rattle.headline.specs.Headline.{OfficePrints, OfficePrintsPart}
 pub use Rattle.http_requests.specs.Asks.{Asks, get}
 pub use Rattle.http_requests.specs.Responses.{response_text}
 pub use Rattle.http_requests.specs.declared.resource.Resource.TheVariants.{RevocationList, Signers, Table}
@@ -33,11 +33,13 @@ pub use Rattle.store.specs.Transactions.{IsAsBefore}
 pub use Rattle.store_sql.specs.Look.{is_office_table}
 pub use Rattle.store_sql.specs.Schema.{whole}
 pub use Rattle.values.specs.declared.limits.TheConstants.{LAST_SERIAL}
+pub use Rattle.wire.specs.Streams.{AppendsBeginning}
 pub use Rattle.web.specs.declared.exchange.Exchange.{Exchange}
 pub use Rattle.web.specs.declared.exchange.Given.{Given}
 pub use Rattle.office_jobs.specs.Applying.{Applies, AppliesAll}
 pub use Rattle.office_jobs.specs.Asked.{AsksExchanges, AsksOffice, AsksServing}
-pub use Rattle.office_jobs.specs.Faults.{IsOfATrial, IsOfExchanges, of_store, run_result}
+pub use Rattle.office_jobs.specs.Ending.{Heeds, failures_after}
+pub use Rattle.office_jobs.specs.Faults.{IsOfATrial, IsOfExchanges, IsUnwritten, of_store, run_result}
 pub use Rattle.office_jobs.specs.Finding.{OpensFor, OpensThere}
 pub use Rattle.office_jobs.specs.Jobs.{DoesOfficeJob}
 pub use Rattle.office_jobs.specs.Listing.{PrintsKrl}

@@ -2,6 +2,7 @@
 use Rattle.std.specs.Prelude.{◌≡◌, ◌∷◌, ℕ, List, [], length, map, flat_map, false, true, Option, Some, None, Result, Ok}
 use Rattle.std.specs.Prelude.{Err}
 use Rattle.std.specs.Io.KnownBytes.{Appends, Consumes}
+use Rattle.wire.specs.Streams.{AppendsBeginning}
 use Rattle.http_requests.specs.declared.resource.Resource.{Resource}
 use Rattle.http_requests.specs.declared.resource.Resource.TheVariants as resource
 use Rattle.http_requests.specs.declared.response.MediaType.{MediaType}
@@ -23,6 +24,12 @@ use Rattle.office_jobs.specs.declared.job_fault.JobFault.{JobFault}
 use Rattle.office_jobs.specs.declared.job_fault.JobFault.TheVariants.{Fault, Write}
 use Rattle.office_jobs.specs.Serving.{Heard}
 
+-- ---- runs that gave no response
+
+-- every exchange got a fault
+abbrev pub IsIdle : Asked → Type 0
+IsIdle asked = asked.given ≡ map (λ _. given.Fault) asked.exchanges
+
 -- ---- jobs
 
 -- no exchange, and no new office
@@ -34,11 +41,11 @@ abbrev pub founding_asked : Opening → Asked
 founding_asked opening = record { founds = Some opening; exchanges = []; given = [] }
 
 -- All responses and faults of the exchanges are printed, and `Fault` means that some are faults. Or the output failed,
--- and nothing is said about what was printed. Or no response was given, and nothing is printed.
+-- and a beginning of them is printed. Or no response was given, and nothing is printed.
 abbrev pub IsGiven : (held holds : Option (List ℕ)) → Result (Unit {0}) JobFault → Asked → Type 0
 IsGiven held holds (Ok done) asked = Appends held holds (all_given_text asked.given) × (has_fault asked.given ≡ false)
 IsGiven held holds (Err Fault) asked = Appends held holds (all_given_text asked.given) × (has_fault asked.given ≡ true)
-IsGiven held holds (Err Write) asked = Unit {0}
+IsGiven held holds (Err Write) asked = AppendsBeginning held holds (all_given_text asked.given)
 IsGiven held holds (Err other) asked = GivesNone asked × (holds ≡ held)
 
 -- these exchanges were asked, with these responses and faults
@@ -48,11 +55,13 @@ pub record AsksExchanges (exchanges : List Exchange) (held holds : Option (List 
   pub are_its : asked.exchanges ≡ exchanges
   pub given : IsGiven held holds r asked
 
--- The body of the response is printed. Or the request got a fault, and nothing is printed, unless the output failed.
+-- The body of the response is printed, or a beginning of it if the output failed. Or the request got a fault, and
+-- nothing is printed.
 abbrev pub IsShown : MediaType → (held holds : Option (List ℕ)) → Result (Unit {0}) JobFault → List Given → Type 0
 IsShown media held holds (Ok done) gave =
     (body : List ℕ) × Appends held holds body × (gave ≡ Answer (response_text 200 media body) ∷ [])
-IsShown media held holds (Err Write) gave = gave ≡ given.Fault ∷ []
+IsShown media held holds (Err Write) gave =
+    (body : List ℕ) × AppendsBeginning held holds body × (gave ≡ Answer (response_text 200 media body) ∷ [])
 IsShown media held holds (Err other) gave = (gave ≡ given.Fault ∷ []) × (holds ≡ held)
 
 -- A GET of this resource was asked, with this response or fault. The body of the response has this type.

@@ -124,29 +124,31 @@ module _ {W File Tables Incoming Reader Writer : Type 0} (store : store.Ghosts T
   Runs other held holds said result = EndsCommand (DoesJob other held) holds result × (said ≡ [])
 
   -- The same, with the status, and with what the second output takes: the lines of the connections' faults, and then
-  -- that of the job's fault.
-  pub record RunsJob (job : Job) (held holds : Option (List ℕ)) (Told : List ℕ → Type 0) (status : ℕ) : Type 0 where
+  -- that of the job's fault. `Heeded` says how a result heeds the failures of the output.
+  pub record RunsJob (job : Job) (held holds : Option (List ℕ)) (Told : List ℕ → Type 0)
+      (Heeded : Result ℕ JobFault → Type 0) (status : ℕ) : Type 0 where
     pub result : Result ℕ JobFault
     pub said : List ℕ
     pub runs : Runs job held holds said result
     pub is_its : status ≡ status_by result
     pub told : Told (said ++ result_line result)
+    pub heeds : Heeded result
 
   -- The arguments name a job, and this was its effect. Or they name none, nothing was asked of the world, and this is
   -- what they were answered with. `Told` says which text the second output takes.
   abbrev pub RunsWords : (words : List (List ℕ)) → (held holds : Option (List ℕ)) → (Told : List ℕ → Type 0)
-      → (status : ℕ) → Type 0
-  RunsWords words held holds Told status =
-      ((job : Job) × Names words job × RunsJob job held holds Told status)
-      ⊎ ((fault : WordsFault) × IsFaultOf words fault × (w' ≡ w) × AnswersWords fault held holds Told status)
+      → (Heeded : Result ℕ JobFault → Type 0) → (status : ℕ) → Type 0
+  RunsWords words held holds Told Heeded status =
+      ((job : Job) × Names words job × RunsJob job held holds Told Heeded status)
+      ⊎ ((fault : WordsFault) × IsFaultOf words fault × (w' ≡ w) × AnswersWords fault held holds Told Heeded status)
 
 -- The same in a world that had this property before, and has that one afterwards.
 pub record RunsWordsOver {W File Tables Incoming Reader Writer : Type 0} (store : store.Ghosts Tables)
     (world : Ghosts W File (Held Tables) Incoming Reader Writer) (remaining : File → Option (List ℕ))
     (book : Incoming → Option Book) (Begins Left : W → Type 0) (words : List (List ℕ)) (held holds : Option (List ℕ))
-    (Told : List ℕ → Type 0) (status : ℕ) : Type 0 where
+    (Told : List ℕ → Type 0) (Heeded : Result ℕ JobFault → Type 0) (status : ℕ) : Type 0 where
   pub before : W
   pub after : W
   pub begins : Begins before
   pub left : Left after
-  pub runs : RunsWords store world remaining book before after words held holds Told status
+  pub runs : RunsWords store world remaining book before after words held holds Told Heeded status

@@ -1,5 +1,5 @@
 -- The end of a job.
-use Rattle.std.specs.Prelude.{ℕ, Result, Ok, Err}
+use Rattle.std.specs.Prelude.{◌≡◌, ◌<◌, ◌+◌, ℕ, Result, Ok, Err}
 use Rattle.sqlite.specs.declared.error.Error.{Error}
 use Rattle.sqlite.specs.declared.error.Error.TheVariants.{SqliteFailure}
 use Rattle.sqlite.specs.declared.error.ErrorCode.TheVariants.{OutOfMemory}
@@ -7,7 +7,7 @@ use Rattle.office.specs.declared.store_fault.StoreFault.TheVariants.{Device}
 use Rattle.files.specs.declared.ending.EndFault.{EndFault}
 use Rattle.files.specs.declared.ending.EndFault.TheVariants.{GivenUp, Uncopied}
 use Rattle.office_jobs.specs.declared.job_fault.JobFault.{JobFault}
-use Rattle.office_jobs.specs.declared.job_fault.JobFault.TheVariants.{NoMemory, Store}
+use Rattle.office_jobs.specs.declared.job_fault.JobFault.TheVariants.{NoMemory, Store, Write}
 
 -- the fault of a database that was not opened or closed
 abbrev pub of_database : Error → JobFault
@@ -29,3 +29,15 @@ closed (Ok x) (Err fault) = Err (of_end fault)
 abbrev pub status : {A : Type 0} → Result A JobFault → ℕ
 status (Ok x) = 0
 status (Err e) = 1
+
+-- How often calls of an output have failed after a job that printed to it: once more if the fault is the output's.
+abbrev pub failures_after : {A : Type 0} → ℕ → Result A JobFault → ℕ
+failures_after before (Err Write) = before + 1
+failures_after before other = before
+
+-- A job that was done had no call of the output fail, and all of its output was flushed. `Write` is its fault only if
+-- such a call failed.
+abbrev pub Heeds : {A : Type 0} → (before after : ℕ) → (flushed : Type 0) → Result A JobFault → Type 0
+Heeds before after flushed (Ok x) = (after ≡ before) × flushed
+Heeds before after flushed (Err Write) = before < after
+Heeds before after flushed (Err other) = Unit {0}

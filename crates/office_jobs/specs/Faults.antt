@@ -121,3 +121,14 @@ abbrev pub IsOfADatabase : JobFault → Type 0
 IsOfADatabase NoMemory = Unit {0}
 IsOfADatabase (Store fault) = fault ≡ store.Device
 IsOfADatabase other = ⊥
+
+-- The faults of looking up, making or opening a database.
+abbrev pub IsOfOpening : JobFault → Type 0
+IsOfOpening NoMemory = Unit {0}
+IsOfOpening (Store fault) = Unit {0}
+IsOfOpening other = ⊥
+
+-- Any fault but that of the output.
+abbrev pub IsUnwritten : JobFault → Type 0
+IsUnwritten Write = ⊥
+IsUnwritten other = Unit {0}

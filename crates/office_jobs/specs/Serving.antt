@@ -3,6 +3,7 @@ use Rattle.std.specs.Prelude.{◌≡◌, ◌≤◌, ℕ, List, [], length, map, 
 use Rattle.std.specs.Prelude.{Ok, Err}
 use Rattle.std.specs.declared.io.ErrorKind.{ErrorKind}
 use Rattle.std.specs.Io.KnownBytes.{Appends, Consumes}
+use Rattle.wire.specs.Streams.{AppendsBeginning}
 use Rattle.sqlite.specs.State.{HasCleanDisk, State}
 use Rattle.office.specs.declared.store_fault.StoreFault.TheVariants as store
 use Rattle.web.specs.Runs.{Serves as AllServed}
@@ -58,7 +59,7 @@ ServesOffice connections source heard said old new held holds (Err Socket) =
     (kind : ErrorKind) × (heard ≡ Some (Err kind)) × (holds ≡ held) × (said ≡ [])
     × (HasCleanDisk new → IsAsBefore old new × KeepsTelling old new)
 ServesOffice connections source heard said old new held holds (Err Write) =
-    (at : Option Book × ℕ) × (heard ≡ Some (Ok at)) × (said ≡ [])
+    (at : Option Book × ℕ) × (heard ≡ Some (Ok at)) × AppendsBeginning held holds (listening_line at.1) × (said ≡ [])
     × (HasCleanDisk new → IsAsBefore old new × KeepsTelling old new)
 ServesOffice connections source heard said old new held holds (Err NoMemory) =
     (heard ≡ None) × (holds ≡ held) × (said ≡ []) × (HasCleanDisk new → IsUnopened old new store.NoMemory)

@@ -5,12 +5,14 @@ use Rattle.std.specs.Prelude.{IsTrue}
 use Rattle.std.specs.declared.io.ErrorKind.{ErrorKind}
 use Rattle.std.specs.declared.net.socket_addr.SocketAddrV4.{SocketAddrV4}
 use Rattle.std.specs.Io.KnownBytes.{Appends}
+use Rattle.wire.specs.Streams.{AppendsBeginning}
 use Rattle.std.specs.Net.Addr.{ipv4_octets}
 use Rattle.std.specs.Net.Socket.{v4_ip, v4_port}
 use Rattle.sqlite_trees.specs.declared.store.Store as store
 use Rattle.sqlite.specs.declared.error.Error.{Error}
 use Rattle.sqlite.specs.Held.{Held, state}
 use Rattle.sqlite.specs.State.{HasCleanDisk, State}
+use Rattle.sqlite_wal.specs.Recovery.{Image}
 use Rattle.store_sql.specs.Honest.{IsOutside, IsUnlimited, On, StaysClean}
 use Rattle.lines.specs.declared.key_line.KeyLine.{KeyLine}
 use Rattle.office.specs.declared.opening.Opening.{Opening}
@@ -19,6 +21,7 @@ use Rattle.store.specs.Transactions.{IsAtRest}
 use Rattle.files.specs.declared.ending.EndFault.{EndFault}
 use Rattle.restart.specs.Ending.{IsEnd}
 use Rattle.restart.specs.Lives.{Asked, End}
+use Rattle.restart.specs.Lives.End.{closed as closed_end}
 use Rattle.restart.specs.Runs.{AddsArrivals, AreRuns, DoesOver, KeepsOffice, RunsOn}
 use Rattle.web.specs.declared.exchange.Exchange.{Exchange}
 use Rattle.exchanges.specs.Exchanges.{AreExchanges, IsBadRecord, exchanges_text}
@@ -27,7 +30,7 @@ use Rattle.office_jobs.specs.declared.world.World.{Ghosts}
 use Rattle.office_jobs.specs.declared.job_fault.JobFault.{JobFault}
 use Rattle.office_jobs.specs.declared.job_fault.JobFault.TheVariants.{BadExchange, Write}
 use Rattle.office_jobs.specs.Applying.{AppliesAll}
-use Rattle.office_jobs.specs.Asked.{AsksExchanges, AsksServing, founding_asked}
+use Rattle.office_jobs.specs.Asked.{AsksExchanges, AsksServing, IsIdle, founding_asked}
 use Rattle.office_jobs.specs.Ending.{closed}
 use Rattle.office_jobs.specs.Faults.{IsOfAnOpening, IsOfExchanges}
 use Rattle.office_jobs.specs.Finding.{OpensNew, OpensThere}
@@ -70,10 +73,16 @@ pub record KeepsDatabases {W File Tables Incoming Reader Writer : Type 0} (store
       → HasCleanDisk (state store last)
       × ((asked : Asked) → DoesOver store asked conn last → AreRuns world.image asked end (world.leaves w' last))
 
--- this was printed, or the output failed
+-- A run that was asked something, and gave no response. If it left the files as it found them, it is a run of the
+-- program, and extends each lifetime that has left them.
+pub record IdlesOn (Gave : Asked → Type 0) (image : Image) : Type 0 where
+  pub on : RunsOn Gave image closed_end (λ left. left ≡ image)
+  pub idle : IsIdle on.asked
+
+-- this was printed, or the output failed and a beginning of it is printed
 abbrev pub PrintsText : List ℕ → (held holds : Option (List ℕ)) → Result (Unit {0}) JobFault → Type 0
 PrintsText told held holds (Ok done) = Appends held holds told
-PrintsText told held holds (Err e) = e ≡ Write
+PrintsText told held holds (Err e) = (e ≡ Write) × AppendsBeginning held holds told
 
 -- ---- the contents of files
 
@@ -160,16 +169,19 @@ module _ {W File Tables Incoming Reader Writer : Type 0} (store : store.Ghosts T
         → RunsOn (Asks opened between conn last outcome did) world.image end (world.leaves w' last)
     pub came : result ≡ closed outcome closing
 
-  -- The database was opened once, like this, and this was done over the connection. Or it wasn't, and nothing was done.
+  -- The database was opened once, like this, and this was done over the connection. Or it wasn't, and nothing was
+  -- done: no response was given, and if the files stay as they were, no lifetime of theirs ends with this run.
   pub record RunsIn {A : Type 0} (Opens : W → Result (Held Tables) JobFault → W → Type 0)
       (Did : W → W → Held Tables → Held Tables → Result A JobFault → Type 0)
       (Asks : (before after : W) (conn last : Held Tables) (r : Result A JobFault) → Did before after conn last r
       → Asked → Type 0)
-      (Nothing : Type 0) (result : Result A JobFault) : Type 0 where
+      (AsksUnopened : Result A JobFault → Asked → Type 0) (Nothing : Type 0) (result : Result A JobFault)
+      : Type 0 where
     pub found : Result (Held Tables) JobFault
     pub opened : W
     pub is_opened : Opens w found opened
     pub ran : Follows (RunsOver Did Asks opened) ((w' ≡ opened) × Nothing) found result
+    pub unopened : (e : JobFault) → found ≡ Err e → IdlesOn (AsksUnopened (Err e)) world.image
 
   -- This was done between the tables, and nothing else was asked of the world. Other databases than those that are
   -- wanted are refused, whatever the disk has returned.
@@ -188,7 +200,7 @@ module _ {W File Tables Incoming Reader Writer : Type 0} (store : store.Ghosts T
     pub between : Option (List ℕ)
     pub done : Result (Unit {0}) JobFault
     pub ran : RunsIn Opens (Quietly Wants (λ old new. Did old new held between)) (λ _ _ _ _ r _.
-        Asks held between r) (between ≡ held) done
+        Asks held between r) (λ r. Asks held between r) (between ≡ held) done
     pub told_of : Follows (λ _. PrintsText told between holds) (holds ≡ between) done result
 
   -- The exchanges of the file were applied. Or it has none, and then nothing was looked up or opened, and nothing is
@@ -221,4 +233,5 @@ module _ {W File Tables Incoming Reader Writer : Type 0} (store : store.Ghosts T
       (λ before after conn last r. ServesAt store world book port connections nonces held holds said before after conn
       last r × WantsOffice store conn last r)
       (λ _ _ _ _ r did. AsksServing connections nonces (heard_of book did.0.heard) r)
+      (λ r. AsksServing connections nonces None r)
       ((holds ≡ held) × (said ≡ [])) result

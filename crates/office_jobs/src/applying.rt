@@ -1,10 +1,12 @@
 //! Exchanges applied to an office.
 
-ghost use Rattle.std.specs.Prelude.{◌≡◌, ◌≢◌, ℕ, Err, IfErr, IfSome, OnOk, false, true};
+ghost use Rattle.std.specs.Prelude.{◌≡◌, ◌≢◌, ◌<◌, ◌+◌, ℕ, Err, IfErr, IfSome, OnOk, false, if◌then◌else◌, true};
 ghost use Rattle.exchanges.specs.Exchanges.{IsBadRecord};
+ghost use Rattle.exchanges.specs.Running.{is_unprinted};
 ghost use Rattle.office_jobs.specs.Applying.{Applies};
+ghost use Rattle.office_jobs.specs.Ending.{failures_after};
 ghost use Rattle.office_jobs.specs.Faults.{IsOfATrial, run_result};
-ghost use Rattle.office_jobs.specs.Trial.{AppliesToTrial};
+ghost use Rattle.office_jobs.specs.Trial.{AppliesPartToTrial, AppliesToTrial};
 ghost use Rattle.office_jobs.specs.Opening.{HeedsRows};
 ghost use Rattle.std.specs.List.{list_any};
 ghost use Rattle.store_sql.specs.Look.{is_office_table};
@@ -21,12 +23,14 @@ use headline::replay;
 use office::StoreFault;
 use sqlite::{Alter, Connection};
 use std::alloc::Global;
-use std::io::{Read, Write};
+use std::io::Read;
 use web::Exchange;
+use wire::Sink;
 
 // The result of a batch, as that of a job.
 fn of_a_run(done: Result<(), RunFault>) -> Result<(), JobFault>
-    ensures { result ≡ run_result done }
+    ensures value { result ≡ run_result done }
+    ensures counts { (n : ℕ) → failures_after n result ≡ (if is_unprinted done then n + 1 else n) }
 {
     match done {
         Ok(()) => Ok(()),
@@ -35,7 +39,7 @@ fn of_a_run(done: Result<(), RunFault>) -> Result<(), JobFault>
 }
 
 /// Runs exchanges over the office in a database, and prints what each one got.
-pub fn apply_over<S: Alter, W: Write>(
+pub fn apply_over<S: Alter, W: Sink>(
     alloc: Global,
     conn: Connection<S>,
     exchanges: &[Exchange],
@@ -43,9 +47,13 @@ pub fn apply_over<S: Alter, W: Write>(
 ) -> (Result<(), JobFault>, Connection<S>)
     requires outside { IsOutside S.Store conn }
     requires unlimited { IsUnlimited S.Store conn }
-    ensures applies { On S.Store (λ old new. Applies exchanges.now old new (W.contents out.old) (W.contents out.new))
+    requires prints { W.failed out.old < u64.MAX }
+    ensures applies { On S.Store (λ old new. Applies exchanges.now old new (W.taken out.old) (W.taken out.new))
         conn result.1 result.0 }
     ensures honest { StaysClean S.Store conn result.1 }
+
+    // `Write` is the fault exactly if a call of the output failed.
+    ensures failed { W.failed out.new ≡ failures_after (W.failed out.old) result.0 }
 
     // If no exchange is a message, the database is unchanged, whatever its tables mean.
     ensures reads { AskNoChange exchanges.now → Between S.Store IsAsBefore conn result.1 }
@@ -69,18 +77,25 @@ pub fn apply_over<S: Alter, W: Write>(
 
 /// Runs the exchanges from a file's reader over the in-memory office, and prints what each one got.
 #[tactic(auto, using(crate::proofs::Causes::of_file, crate::proofs::Causes::not_run, crate::proofs::Causes::of_office))]
-pub fn apply_to_trial<R: Read + Drop, W: Write>(
+pub fn apply_to_trial<R: Read + Drop, W: Sink>(
     alloc: Global,
     file: R,
     out: &mut W,
 ) -> Result<(), JobFault>
+    requires { W.failed out.old < u64.MAX }
+
     // Each exchange is answered, and each answer is the specified one.
-    ensures ok { OnOk result (IfSome (R.remaining file) (λ text. AppliesToTrial text (W.contents out.old)
-        (W.contents out.new) false)) }
+    ensures ok { OnOk result (IfSome (R.remaining file) (λ text. AppliesToTrial text (W.taken out.old)
+        (W.taken out.new) false)) }
 
     // Everything is printed, and an exchange got no response.
     ensures fault { result ≡ Err JobFault.Fault → IfSome (R.remaining file) (λ text. AppliesToTrial text
-        (W.contents out.old) (W.contents out.new) true) }
+        (W.taken out.old) (W.taken out.new) true) }
+
+    // A call of the output failed, and a beginning of it is printed. `Write` is the fault exactly in this case.
+    ensures part { result ≡ Err JobFault.Write → IfSome (R.remaining file) (λ text. AppliesPartToTrial text
+        (W.taken out.old) (W.taken out.new)) }
+    ensures failed { W.failed out.new ≡ failures_after (W.failed out.old) result }
 
     // The file isn't an exchange file: this is its first bad record.
     ensures bad { (k : ℕ) → result ≡ Err (JobFault.BadExchange k)

@@ -1,10 +1,11 @@
 //! Doing jobs, in a world.
 
-ghost use Rattle.std.specs.Prelude.{◌≡◌, ◌≤◌, ℕ, List, [], IfOk, map, string_bytes};
+ghost use Rattle.std.specs.Prelude.{◌≡◌, ◌≤◌, ◌<◌, ℕ, List, [], IfOk, IsOk, map, string_bytes};
 ghost use Rattle.std.specs.Io.KnownBytes.{Keeps};
 ghost use Rattle.command_line.specs.Answers.{AreBad};
 ghost use Rattle.office_jobs.specs.Commands.{ChecksIn, DoesJob, IsFlushed, IsServing, Runs, RunsJob, RunsWords};
 ghost use Rattle.office_jobs.specs.Commands.{TestsItself};
+ghost use Rattle.office_jobs.specs.Ending.{Heeds, failures_after};
 ghost use Rattle.office_jobs.specs.Finding.{WithFile};
 ghost use Rattle.office_jobs.specs.Making.{due_opening};
 ghost use Rattle.office_jobs.specs.Names.{Takes};
@@ -19,31 +20,33 @@ use crate::file_opening::open_file;
 use crate::founding::Founding;
 use crate::job::OfficeJob;
 use crate::job_fault::JobFault;
-use crate::output::write_out;
+use crate::output::{Output, write_out};
 use crate::second_output::tell_text;
 use crate::trial::trial_office;
 use crate::whole::{apply_in, do_in, found_in, serve_in};
 use crate::world::World;
 use command_line::{Job, WordsFault, read_words};
 use sqlite::{Alter, Connection};
-use std::io::{ErrorKind, Write};
+use std::io::ErrorKind;
 use wire::Sink;
 
 /// The status for invalid arguments.
 const BAD_WORDS: u8 = 2;
 
 // Makes an office with the key of the file at a path.
-fn found_at<S: Alter, W: World<Conn = Connection<S>> + AllocGlobal, O: Write>(
+fn found_at<S: Alter, W: World<Conn = Connection<S>> + AllocGlobal, O: Sink>(
     world: &mut W,
     db: &str,
     ca: &str,
     founding: &Founding<'_>,
     out: O,
 ) -> (Result<(), JobFault>, O)
-    requires { KeepsDatabases S.Store W.World }
-    ensures { WithFile W.World W.File.remaining world.old world.new ca.now
+    requires keeps { KeepsDatabases S.Store W.World }
+    requires prints { O.failed out ≡ 0 }
+    ensures founds { WithFile W.World W.File.remaining world.old world.new ca.now
         (λ text opened. FoundsIn S.Store W.World W.Incoming.book opened world.new db.now (due_opening founding.now) text
-        (O.contents out) (O.contents result.1)) (O.contents result.1 ≡ O.contents out) result.0 }
+        (O.taken out) (O.taken result.1)) (O.taken result.1 ≡ O.taken out) result.0 }
+    ensures failed { O.failed result.1 ≡ failures_after (O.failed out) result.0 }
 {
     match open_file(world, ca) {
         Ok(ca) => found_in(world, db, ca, founding, out),
@@ -52,16 +55,18 @@ fn found_at<S: Alter, W: World<Conn = Connection<S>> + AllocGlobal, O: Write>(
 }
 
 // Applies the exchanges of the file at a path to the office in a database.
-fn apply_at<S: Alter, W: World<Conn = Connection<S>> + AllocGlobal, O: Write>(
+fn apply_at<S: Alter, W: World<Conn = Connection<S>> + AllocGlobal, O: Sink>(
     world: &mut W,
     db: &str,
     file: &str,
     out: O,
 ) -> (Result<(), JobFault>, O)
-    requires { KeepsDatabases S.Store W.World }
-    ensures { WithFile W.World W.File.remaining world.old world.new file.now
-        (λ text opened. AppliesIn S.Store W.World W.Incoming.book opened world.new db.now text (O.contents out)
-        (O.contents result.1)) (O.contents result.1 ≡ O.contents out) result.0 }
+    requires keeps { KeepsDatabases S.Store W.World }
+    requires prints { O.failed out ≡ 0 }
+    ensures applies { WithFile W.World W.File.remaining world.old world.new file.now
+        (λ text opened. AppliesIn S.Store W.World W.Incoming.book opened world.new db.now text (O.taken out)
+        (O.taken result.1)) (O.taken result.1 ≡ O.taken out) result.0 }
+    ensures failed { O.failed result.1 ≡ failures_after (O.failed out) result.0 }
 {
     match open_file(world, file) {
         Ok(file) => apply_in(world, db, file, out),
@@ -70,14 +75,16 @@ fn apply_at<S: Alter, W: World<Conn = Connection<S>> + AllocGlobal, O: Write>(
 }
 
 // Applies the exchanges of the file at a path to the in-memory office.
-fn try_at<W: World + AllocGlobal, O: Write>(
+fn try_at<W: World + AllocGlobal, O: Sink>(
     world: &mut W,
     file: &str,
     out: &mut O,
 ) -> Result<(), JobFault>
-    ensures { WithFile W.World W.File.remaining world.old world.new file.now
-        (λ text opened r. (world.new ≡ opened) × TriesFile text (O.contents out.old) (O.contents out.new) r)
-        (O.contents out.new ≡ O.contents out.old) result }
+    requires { O.failed out.old < u64.MAX }
+    ensures tries { WithFile W.World W.File.remaining world.old world.new file.now
+        (λ text opened r. (world.new ≡ opened) × TriesFile text (O.taken out.old) (O.taken out.new) r)
+        (O.taken out.new ≡ O.taken out.old) result }
+    ensures failed { O.failed out.new ≡ failures_after (O.failed out.old) result }
 {
     match open_file(world, file) {
         Ok(file) => apply_to_trial(world.alloc(), file, out),
@@ -86,7 +93,7 @@ fn try_at<W: World + AllocGlobal, O: Write>(
 }
 
 // Checks the list of a file for a certificate, under the CA of the file at a path.
-fn check_by<W: World + AllocGlobal, O: Write>(
+fn check_by<W: World + AllocGlobal, O: Sink>(
     world: &mut W,
     ca: &str,
     list: &str,
@@ -94,9 +101,11 @@ fn check_by<W: World + AllocGlobal, O: Write>(
     key_id: &str,
     out: &mut O,
 ) -> Result<(), JobFault>
-    ensures { WithFile W.World W.File.remaining world.old world.new ca.now
+    requires { O.failed out.old < u64.MAX }
+    ensures checks { WithFile W.World W.File.remaining world.old world.new ca.now
         (λ text opened. ChecksIn W.World W.File.remaining opened world.new list.now serial key_id.now text
-        (O.contents out.old) (O.contents out.new)) (O.contents out.new ≡ O.contents out.old) result }
+        (O.taken out.old) (O.taken out.new)) (O.taken out.new ≡ O.taken out.old) result }
+    ensures failed { O.failed out.new ≡ failures_after (O.failed out.old) result }
 {
     match open_file(world, ca) {
         Ok(ca) => check_in(world, ca, list, serial, key_id, out),
@@ -105,8 +114,10 @@ fn check_by<W: World + AllocGlobal, O: Write>(
 }
 
 /// Has the in-memory office serve itself one request, and prints that the answer was the specified one.
-fn test_itself<W: World + AllocGlobal, O: Write>(world: &mut W, out: &mut O) -> Result<(), JobFault>
-    ensures { TestsItself W.World world.old world.new (O.contents out.old) (O.contents out.new) result }
+fn test_itself<W: World + AllocGlobal, O: Sink>(world: &mut W, out: &mut O) -> Result<(), JobFault>
+    requires { O.failed out.old < u64.MAX }
+    ensures tests { TestsItself W.World world.old world.new (O.taken out.old) (O.taken out.new) result }
+    ensures failed { O.failed out.new ≡ failures_after (O.failed out.old) result }
 {
     match trial_office(world.alloc()) {
         Ok(office) => {
@@ -120,7 +131,7 @@ fn test_itself<W: World + AllocGlobal, O: Write>(world: &mut W, out: &mut O) -> 
 }
 
 // Serves an office with the nonces of the file at a path.
-fn serve_at<S: Alter, W: World<Conn = Connection<S>> + AllocGlobal, O: Write, E: Sink>(
+fn serve_at<S: Alter, W: World<Conn = Connection<S>> + AllocGlobal, O: Output, E: Sink>(
     world: &mut W,
     db: &str,
     nonces: &str,
@@ -131,13 +142,15 @@ fn serve_at<S: Alter, W: World<Conn = Connection<S>> + AllocGlobal, O: Write, E:
 ) -> Result<u8, JobFault>
     requires keeps { KeepsDatabases S.Store W.World }
     requires tells { E.failed err.old ≡ 0 }
+    requires prints { O.failed out.old < u64.MAX }
     ensures serves { (said : List ℕ)
         × Takes (E.failed err.old) (E.failed err.new) (E.taken err.old) (E.taken err.new) said
         × WithFile W.World W.File.remaining world.old world.new nonces.now
         (λ source opened. ServesIn S.Store W.World W.Incoming.book opened world.new db.now port connections source
-        (O.contents out.old) (O.contents out.new) said) ((O.contents out.new ≡ O.contents out.old) × (said ≡ []))
+        (O.taken out.old) (O.taken out.new) said) ((O.taken out.new ≡ O.taken out.old) × (said ≡ []))
         result }
     ensures status { IfOk result (λ status. status ≤ 1) }
+    ensures heeds { Heeds (O.failed out.old) (O.failed out.new) (O.is_flushed out.new) result }
 {
     match open_file(world, nonces) {
         Ok(nonces) => serve_in(world, db, nonces, port, connections, out, err),
@@ -146,9 +159,12 @@ fn serve_at<S: Alter, W: World<Conn = Connection<S>> + AllocGlobal, O: Write, E:
 }
 
 // The result of a job, once its output is flushed. The status of a job that was done is 0.
-fn ended<O: Write>(done: Result<(), JobFault>, out: O) -> (Result<u8, JobFault>, O)
-    ensures kept { Keeps (O.contents out) (O.contents result.1) }
+fn ended<O: Output>(done: Result<(), JobFault>, out: O) -> (Result<u8, JobFault>, O)
+    requires { O.failed out < u64.MAX }
+    ensures kept { Keeps (O.taken out) (O.taken result.1) }
     ensures flushed { IsFlushed done result.0 }
+    ensures heeds { IsOk done → Heeds (O.failed out) (O.failed result.1) (O.is_flushed result.1) result.0 }
+    ensures least { O.failed out ≤ O.failed result.1 }
 {
     let mut out = out;
     match flushed(&mut out, done) {
@@ -158,15 +174,17 @@ fn ended<O: Write>(done: Result<(), JobFault>, out: O) -> (Result<u8, JobFault>,
 }
 
 // Does a job in a world, except serving.
-fn done_by<S: Alter, W: World<Conn = Connection<S>> + AllocGlobal, O: Write>(
+fn done_by<S: Alter, W: World<Conn = Connection<S>> + AllocGlobal, O: Sink>(
     world: &mut W,
     job: &Job,
     out: O,
 ) -> (Result<(), JobFault>, O)
     requires keeps { KeepsDatabases S.Store W.World }
     requires unserved { IsServing job.now → ⊥ }
-    ensures { DoesJob S.Store W.World W.File.remaining W.Incoming.book world.old world.new job.now (O.contents out)
-        (O.contents result.1) result.0 }
+    requires prints { O.failed out ≡ 0 }
+    ensures does { DoesJob S.Store W.World W.File.remaining W.Incoming.book world.old world.new job.now (O.taken out)
+        (O.taken result.1) result.0 }
+    ensures failed { O.failed result.1 ≡ failures_after (O.failed out) result.0 }
 {
     let mut out = out;
     match job {
@@ -214,7 +232,7 @@ fn done_by<S: Alter, W: World<Conn = Connection<S>> + AllocGlobal, O: Write>(
 }
 
 // Does a job in a world, or serves.
-fn run_job<S: Alter, W: World<Conn = Connection<S>> + AllocGlobal, O: Write, E: Sink>(
+fn run_job<S: Alter, W: World<Conn = Connection<S>> + AllocGlobal, O: Output, E: Sink>(
     world: &mut W,
     job: &Job,
     out: O,
@@ -222,11 +240,13 @@ fn run_job<S: Alter, W: World<Conn = Connection<S>> + AllocGlobal, O: Write, E: 
 ) -> (Result<u8, JobFault>, O)
     requires keeps { KeepsDatabases S.Store W.World }
     requires tells { E.failed err.old ≡ 0 }
+    requires prints { O.failed out ≡ 0 }
     ensures runs { (said : List ℕ)
         × Takes (E.failed err.old) (E.failed err.new) (E.taken err.old) (E.taken err.new) said
-        × Runs S.Store W.World W.File.remaining W.Incoming.book world.old world.new job.now (O.contents out)
-        (O.contents result.1) said result.0 }
+        × Runs S.Store W.World W.File.remaining W.Incoming.book world.old world.new job.now (O.taken out)
+        (O.taken result.1) said result.0 }
     ensures status { IfOk result.0 (λ status. status ≤ 1) }
+    ensures heeds { Heeds (O.failed out) (O.failed result.1) (O.is_flushed result.1) result.0 }
     ensures silent { (IsServing job.now → ⊥) → err.new ≡ err.old }
 {
     match job {
@@ -250,7 +270,7 @@ fn run_job<S: Alter, W: World<Conn = Connection<S>> + AllocGlobal, O: Write, E: 
 
 /// Does a job in a world: opens its files, then its database, does the job, closes the database, and prints the result
 /// to `out`, or the line of a fault to `err`. Returns the status and `out`. What `err` doesn't take is lost.
-pub fn do_job<S: Alter, W: World<Conn = Connection<S>> + AllocGlobal, O: Write, E: Sink>(
+pub fn do_job<S: Alter, W: World<Conn = Connection<S>> + AllocGlobal, O: Output, E: Sink>(
     world: &mut W,
     job: &Job,
     out: O,
@@ -258,9 +278,10 @@ pub fn do_job<S: Alter, W: World<Conn = Connection<S>> + AllocGlobal, O: Write, 
 ) -> (u8, O)
     requires keeps { KeepsDatabases S.Store W.World }
     requires tells { E.failed err.old ≡ 0 }
-    ensures runs { RunsJob S.Store W.World W.File.remaining W.Incoming.book world.old world.new job.now (O.contents out)
-        (O.contents result.1) (Takes (E.failed err.old) (E.failed err.new) (E.taken err.old) (E.taken err.new))
-        result.0 }
+    requires prints { O.failed out ≡ 0 }
+    ensures runs { RunsJob S.Store W.World W.File.remaining W.Incoming.book world.old world.new job.now (O.taken out)
+        (O.taken result.1) (Takes (E.failed err.old) (E.failed err.new) (E.taken err.old) (E.taken err.new))
+        (Heeds (O.failed out) (O.failed result.1) (O.is_flushed result.1)) result.0 }
     ensures status { result.0 ≤ 1 }
 
     // If a job was done, only a server prints anything to `err`.
@@ -273,10 +294,12 @@ pub fn do_job<S: Alter, W: World<Conn = Connection<S>> + AllocGlobal, O: Write, 
 }
 
 // Prints a text that was asked for.
-fn show<O: Write, E: Sink>(text: &String, out: &mut O, err: &mut E) -> u8
-    requires { E.failed err.old ≡ 0 }
-    ensures shown { Shows (string_bytes text.now) (O.contents out.old) (O.contents out.new)
-        (Takes (E.failed err.old) (E.failed err.new) (E.taken err.old) (E.taken err.new)) result }
+fn show<O: Output, E: Sink>(text: &String, out: &mut O, err: &mut E) -> u8
+    requires tells { E.failed err.old ≡ 0 }
+    requires prints { O.failed out.old ≡ 0 }
+    ensures shown { Shows (string_bytes text.now) (O.taken out.old) (O.taken out.new)
+        (Takes (E.failed err.old) (E.failed err.new) (E.taken err.old) (E.taken err.new))
+        (Heeds (O.failed out.old) (O.failed out.new) (O.is_flushed out.new)) result }
     ensures status { result ≤ 1 }
 {
     let shown = write_out(out, text.as_bytes());
@@ -284,10 +307,12 @@ fn show<O: Write, E: Sink>(text: &String, out: &mut O, err: &mut E) -> u8
 }
 
 // The answer to arguments that ask for no job: clap's text, or a fault.
-fn answer_words<O: Write, E: Sink>(fault: WordsFault, out: &mut O, err: &mut E) -> u8
-    requires { E.failed err.old ≡ 0 }
-    ensures answers { AnswersWords fault (O.contents out.old) (O.contents out.new)
-        (Takes (E.failed err.old) (E.failed err.new) (E.taken err.old) (E.taken err.new)) result }
+fn answer_words<O: Output, E: Sink>(fault: WordsFault, out: &mut O, err: &mut E) -> u8
+    requires tells { E.failed err.old ≡ 0 }
+    requires prints { O.failed out.old ≡ 0 }
+    ensures answers { AnswersWords fault (O.taken out.old) (O.taken out.new)
+        (Takes (E.failed err.old) (E.failed err.new) (E.taken err.old) (E.taken err.new))
+        (Heeds (O.failed out.old) (O.failed out.new) (O.is_flushed out.new)) result }
     ensures status { result ≤ 2 }
     ensures bad { result ≡ 2 → IsOfBadWords fault }
 {
@@ -302,7 +327,7 @@ fn answer_words<O: Write, E: Sink>(fault: WordsFault, out: &mut O, err: &mut E) 
 }
 
 /// Does the job that the arguments ask for, or prints clap's text. Returns the status and `out`.
-pub fn do_words<S: Alter, W: World<Conn = Connection<S>> + AllocGlobal, O: Write, E: Sink>(
+pub fn do_words<S: Alter, W: World<Conn = Connection<S>> + AllocGlobal, O: Output, E: Sink>(
     world: &mut W,
     words: &[String],
     out: O,
@@ -310,9 +335,11 @@ pub fn do_words<S: Alter, W: World<Conn = Connection<S>> + AllocGlobal, O: Write
 ) -> (u8, O)
     requires keeps { KeepsDatabases S.Store W.World }
     requires tells { E.failed err.old ≡ 0 }
+    requires prints { O.failed out ≡ 0 }
     ensures runs { RunsWords S.Store W.World W.File.remaining W.Incoming.book world.old world.new
-        (map string_bytes words.now) (O.contents out) (O.contents result.1)
-        (Takes (E.failed err.old) (E.failed err.new) (E.taken err.old) (E.taken err.new)) result.0 }
+        (map string_bytes words.now) (O.taken out) (O.taken result.1)
+        (Takes (E.failed err.old) (E.failed err.new) (E.taken err.old) (E.taken err.new))
+        (Heeds (O.failed out) (O.failed result.1) (O.is_flushed result.1)) result.0 }
     ensures status { result.0 ≤ 2 }
     ensures bad { result.0 ≡ 2 → AreBad (map string_bytes words.now) }
 {

@@ -1,6 +1,7 @@
 //! Opening databases for a job. A new office's database is made if it doesn't exist, and any other has to exist.
 
-ghost use Rattle.std.specs.Prelude.{◌≡◌};
+ghost use Rattle.std.specs.Prelude.{◌≡◌, IfErr};
+ghost use Rattle.office_jobs.specs.Faults.{IsOfOpening};
 ghost use Rattle.office_jobs.specs.Finding.{Opens, OpensFor, OpensNew, OpensThere, of_look, of_looking, of_making};
 
 use crate::ending::database_fault;
@@ -12,7 +13,8 @@ use std::io::ErrorKind;
 
 // The fault for a database that can't be looked up or made.
 fn unfound_fault(kind: ErrorKind) -> JobFault
-    ensures { result ≡ of_look kind }
+    ensures value { result ≡ of_look kind }
+    ensures only { IsOfOpening result }
 {
     match kind {
         ErrorKind::OutOfMemory => JobFault::NoMemory,
@@ -22,7 +24,8 @@ fn unfound_fault(kind: ErrorKind) -> JobFault
 
 // The result of looking up a database: it exists, or this is the fault.
 fn looked_for(there: Result<bool, ErrorKind>) -> Result<(), JobFault>
-    ensures { result ≡ of_looking there }
+    ensures value { result ≡ of_looking there }
+    ensures only { IfErr result IsOfOpening }
 {
     match there {
         Ok(true) => Ok(()),
@@ -33,7 +36,8 @@ fn looked_for(there: Result<bool, ErrorKind>) -> Result<(), JobFault>
 
 // The result of making a database.
 fn made(done: Result<(), ErrorKind>) -> Result<(), JobFault>
-    ensures { result ≡ of_making done }
+    ensures value { result ≡ of_making done }
+    ensures only { IfErr result IsOfOpening }
 {
     match done {
         Ok(()) => Ok(()),
@@ -42,7 +46,8 @@ fn made(done: Result<(), ErrorKind>) -> Result<(), JobFault>
 }
 
 fn opened<W: World>(world: &mut W, path: &str) -> Result<W::Conn, JobFault>
-    ensures { Opens W.World path.now world.old result world.new }
+    ensures opens { Opens W.World path.now world.old result world.new }
+    ensures only { IfErr result IsOfOpening }
 {
     match world.open_database(path) {
         Ok(conn) => Ok(conn),
@@ -52,7 +57,8 @@ fn opened<W: World>(world: &mut W, path: &str) -> Result<W::Conn, JobFault>
 
 /// Opens the database at a path, which has to exist. If it doesn't, nothing is opened.
 pub(crate) fn open_there<W: World>(world: &mut W, path: &str) -> Result<W::Conn, JobFault>
-    ensures { OpensThere W.World path.now world.old result world.new }
+    ensures opens { OpensThere W.World path.now world.old result world.new }
+    ensures only { IfErr result IsOfOpening }
 {
     match looked_for(world.has_database(path)) {
         Ok(()) => opened(world, path),
@@ -62,7 +68,8 @@ pub(crate) fn open_there<W: World>(world: &mut W, path: &str) -> Result<W::Conn,
 
 /// Opens the database at a path, which is made if it doesn't exist. If it can't be made, nothing is opened.
 pub(crate) fn open_new<W: World>(world: &mut W, path: &str) -> Result<W::Conn, JobFault>
-    ensures { OpensNew W.World path.now world.old result world.new }
+    ensures opens { OpensNew W.World path.now world.old result world.new }
+    ensures only { IfErr result IsOfOpening }
 {
     match made(world.make_database(path)) {
         Ok(()) => opened(world, path),
@@ -76,7 +83,8 @@ pub(crate) fn open_for<W: World>(
     path: &str,
     job: &OfficeJob<'_>,
 ) -> Result<W::Conn, JobFault>
-    ensures { OpensFor W.World path.now job.now world.old result world.new }
+    ensures opens { OpensFor W.World path.now job.now world.old result world.new }
+    ensures only { IfErr result IsOfOpening }
 {
     match job {
         OfficeJob::Init(_) => open_new(world, path),

@@ -1,25 +1,28 @@
 //! The end of a job.
 
-ghost use Rattle.std.specs.Prelude.{◌≡◌, ◌≤◌, ◌<◌, Err, IfErr, IsOk, Ok, OnOk};
+ghost use Rattle.std.specs.Prelude.{◌≡◌, ◌≤◌, ◌<◌, ◌+◌, ◌++◌, ◌∷◌, Err, IfErr, IsOk, Ok, OnErr, OnOk, codes, decimal};
+ghost use Rattle.std.specs.Prelude.{is_ok};
 ghost use Rattle.std.specs.Io.KnownBytes.{Appends, Keeps};
-ghost use Rattle.std.specs.Prelude.{codes};
-ghost use Rattle.office_jobs.specs.Ending.{closed, of_database, of_end, status};
-ghost use Rattle.office_jobs.specs.Faults.{IsOfADatabase, of_selftest};
+ghost use Rattle.wire.specs.Streams.{AppendsBeginning};
+ghost use Rattle.lines.specs.Digests.{fingerprint_text};
+ghost use Rattle.lines.specs.Writing.{Writes};
+ghost use Rattle.office_jobs.specs.Ending.{Heeds, closed, failures_after, of_database, of_end, status};
+ghost use Rattle.office_jobs.specs.Faults.{IsOfADatabase, IsOfOpening, of_selftest};
 ghost use Rattle.office_jobs.specs.Jobs.{told_text};
 ghost use Rattle.office_jobs.specs.Making.{ready_text};
 ghost use Rattle.office_jobs.specs.Names.{Takes, fault_line};
 
 use crate::job::OfficeJob;
 use crate::job_fault::JobFault;
-use crate::output::write_out;
+use crate::output::{Output, write_out};
 use crate::second_output::tell_fault;
+use exchanges::{print_number, print_piece};
 use files::EndFault;
 use lines::{KeyLine, fingerprint};
 use office::{Opening, StoreFault};
 use server::SelftestFault;
 use sqlite::{Error, ErrorCode};
-use std::io::Write;
-use wire::Sink;
+use wire::{Failed, Sink};
 
 /// The status of a job that was done.
 const DONE: u8 = 0;
@@ -31,6 +34,7 @@ const FAULT: u8 = 1;
 pub fn database_fault(error: Error) -> JobFault
     ensures value { result ≡ of_database error }
     ensures only { IsOfADatabase result }
+    ensures opening { IsOfOpening result }
 {
     match error {
         Error::SqliteFailure(ErrorCode::OutOfMemory) => JobFault::NoMemory,
@@ -62,25 +66,52 @@ pub fn closed<T: Copy>(
     }
 }
 
-fn tell_opening<W: Write>(out: &mut W, opening: &Opening) -> Result<(), JobFault>
-    ensures ok { OnOk result (Appends (W.contents out.old) (W.contents out.new) (ready_text opening.now)) }
-    ensures only { IfErr result (λ e. e ≡ JobFault.Write) }
+// Prints the serials of an office.
+fn print_serials<O: Sink>(out: &mut O, opening: &Opening) -> Result<(), Failed>
+    requires { O.failed out.old < u64.MAX }
+    ensures { Writes O.taken O.failed O.room out.old out.new (is_ok result)
+        (codes "office ready " ++ (decimal opening.now.first ++ (32 ∷ (decimal opening.now.last ++ codes "\nca ")))) }
 {
-    let (first, last) = (opening.first, opening.last);
+    print_piece(out, b"office ready ")?;
+    print_number(out, opening.first)?;
+    print_piece(out, b" ")?;
+    print_number(out, opening.last)?;
+    print_piece(out, b"\nca ")
+}
+
+// Prints the serials of an office, and the fingerprint of its CA.
+fn print_opening<O: Sink>(out: &mut O, opening: &Opening) -> Result<(), Failed>
+    requires { O.failed out.old < u64.MAX }
+    ensures { Writes O.taken O.failed O.room out.old out.new (is_ok result) (ready_text opening.now) }
+{
     let key = KeyLine {
         key: opening.ca,
         comment: None,
     };
-    if write!(out, "office ready {first} {last}\nca ").is_err() {
-        return Err(JobFault::Write);
+    print_serials(out, opening)?;
+    print_piece(out, fingerprint(&key).as_slice())?;
+    print_piece(out, b"\n")
+}
+
+fn tell_opening<O: Sink>(out: &mut O, opening: &Opening) -> Result<(), JobFault>
+    requires { O.failed out.old < u64.MAX }
+    ensures ok { OnOk result (Appends (O.taken out.old) (O.taken out.new) (ready_text opening.now)) }
+    ensures part { OnErr result (AppendsBeginning (O.taken out.old) (O.taken out.new) (ready_text opening.now)) }
+    ensures failed { O.failed out.new ≡ failures_after (O.failed out.old) result }
+    ensures only { IfErr result (λ e. e ≡ JobFault.Write) }
+{
+    match print_opening(out, opening) {
+        Ok(()) => Ok(()),
+        Err(_) => Err(JobFault::Write),
     }
-    write_out(out, fingerprint(&key).as_slice())?;
-    write_out(out, b"\n")
 }
 
 // Prints the message for a job that was done.
-fn tell<W: Write>(out: &mut W, job: &OfficeJob<'_>) -> Result<(), JobFault>
-    ensures ok { OnOk result (Appends (W.contents out.old) (W.contents out.new) (told_text job.now)) }
+fn tell<O: Sink>(out: &mut O, job: &OfficeJob<'_>) -> Result<(), JobFault>
+    requires { O.failed out.old < u64.MAX }
+    ensures ok { OnOk result (Appends (O.taken out.old) (O.taken out.new) (told_text job.now)) }
+    ensures part { OnErr result (AppendsBeginning (O.taken out.old) (O.taken out.new) (told_text job.now)) }
+    ensures failed { O.failed out.new ≡ failures_after (O.failed out.old) result }
     ensures only { IfErr result (λ e. e ≡ JobFault.Write) }
 {
     match job {
@@ -91,14 +122,17 @@ fn tell<W: Write>(out: &mut W, job: &OfficeJob<'_>) -> Result<(), JobFault>
 }
 
 /// Prints the message for a job once its database is closed, if the job was done.
-pub fn finish<W: Write>(
-    out: &mut W,
+pub fn finish<O: Sink>(
+    out: &mut O,
     job: &OfficeJob<'_>,
     done: Result<(), JobFault>,
 ) -> Result<(), JobFault>
+    requires { O.failed out.old < u64.MAX }
     ensures fault { IfErr done (λ e. result ≡ Err e) }
     ensures silent { IfErr done (λ _. out.new ≡ out.old) }
-    ensures ok { OnOk result (Appends (W.contents out.old) (W.contents out.new) (told_text job.now)) }
+    ensures ok { OnOk result (Appends (O.taken out.old) (O.taken out.new) (told_text job.now)) }
+    ensures part { IsOk done → OnErr result (AppendsBeginning (O.taken out.old) (O.taken out.new) (told_text job.now)) }
+    ensures failed { IsOk done → O.failed out.new ≡ failures_after (O.failed out.old) result }
     ensures only { IsOk done → IfErr result (λ e. e ≡ JobFault.Write) }
 {
     done?;
@@ -106,10 +140,14 @@ pub fn finish<W: Write>(
 }
 
 /// Prints that an office passed its own test, if it did.
-pub fn test_ended<W: Write>(out: &mut W, tested: Result<(), SelftestFault>) -> Result<(), JobFault>
+pub fn test_ended<O: Sink>(out: &mut O, tested: Result<(), SelftestFault>) -> Result<(), JobFault>
+    requires { O.failed out.old < u64.MAX }
     ensures fault { IfErr tested (λ e. result ≡ Err (of_selftest e)) }
     ensures silent { IfErr tested (λ _. out.new ≡ out.old) }
-    ensures ok { OnOk result (Appends (W.contents out.old) (W.contents out.new) (codes "selftest ok\n")) }
+    ensures ok { OnOk result (Appends (O.taken out.old) (O.taken out.new) (codes "selftest ok\n")) }
+    ensures part { IsOk tested
+        → OnErr result (AppendsBeginning (O.taken out.old) (O.taken out.new) (codes "selftest ok\n")) }
+    ensures failed { O.failed out.new ≡ failures_after (O.failed out.old) result }
     ensures only { IsOk tested → IfErr result (λ e. e ≡ JobFault.Write) }
 {
     match tested {
@@ -118,11 +156,15 @@ pub fn test_ended<W: Write>(out: &mut W, tested: Result<(), SelftestFault>) -> R
     }
 }
 
-/// The result of a job, once its output is flushed. Nothing more is printed.
-pub fn flushed<W: Write>(out: &mut W, done: Result<(), JobFault>) -> Result<(), JobFault>
+/// The result of a job, once its output is flushed. Nothing more is printed. If the job was done, the fault is `Write`
+/// exactly if the flush failed.
+pub fn flushed<O: Output>(out: &mut O, done: Result<(), JobFault>) -> Result<(), JobFault>
+    requires { O.failed out.old < u64.MAX }
     ensures fault { IfErr done (λ e. result ≡ Err e) }
     ensures ok { IsOk done → IfErr result (λ e. e ≡ JobFault.Write) }
-    ensures kept { Keeps (W.contents out.old) (W.contents out.new) }
+    ensures kept { Keeps (O.taken out.old) (O.taken out.new) }
+    ensures heeds { IsOk done → Heeds (O.failed out.old) (O.failed out.new) (O.is_flushed out.new) result }
+    ensures least { O.failed out.old ≤ O.failed out.new }
 {
     let flushed = out.flush().is_ok();
     match done {

@@ -5,7 +5,7 @@ ghost use Rattle.std.specs.List.{list_any};
 ghost use Rattle.store_sql.specs.Look.{is_office_name};
 ghost use Rattle.store_sql.specs.Honest.{IsOutside, IsUnlimited, On, StaysClean, tables_of};
 ghost use Rattle.office.specs.Openings.{IsOpening, made_opening};
-ghost use Rattle.office_jobs.specs.Faults.{IsOfAnOpening};
+ghost use Rattle.office_jobs.specs.Faults.{IsOfAnOpening, IsUnwritten};
 ghost use Rattle.office_jobs.specs.Making.{MakesOffice};
 
 use crate::job_fault::JobFault;
@@ -55,6 +55,7 @@ pub fn make_over<S: Alter>(
     requires lawful { IsOpening opening.now }
     ensures makes { On S.Store (MakesOffice opening.now) conn result.1 result.0 }
     ensures honest { StaysClean S.Store conn result.1 }
+    ensures unwritten { IfErr result.0 IsUnwritten }
 
     // A database with a table that has one of an office's names is refused and left unchanged.
     ensures already { IsTrue (list_any is_office_name (tables_of S.Store conn))

@@ -1,9 +1,10 @@
 //! The jobs for the office in a database, and doing them.
 
-ghost use Rattle.std.specs.Prelude.{◌≡◌, false};
+ghost use Rattle.std.specs.Prelude.{◌≡◌, ◌<◌, false};
 ghost use Rattle.std.specs.List.{list_any};
 ghost use Rattle.store_sql.specs.Look.{is_office_table};
 ghost use Rattle.store_sql.specs.Honest.{IsOutside, IsUnlimited, On, StaysClean, tables_of};
+ghost use Rattle.office_jobs.specs.Ending.{failures_after};
 ghost use Rattle.office_jobs.specs.Jobs.{DoesOfficeJob, IsLawfulJob, IsMaking, RefusesNone, Wants};
 
 use crate::applying::apply_over;
@@ -15,8 +16,8 @@ use crate::reporting::{Report, report_over};
 use office::Opening;
 use sqlite::{Alter, Connection};
 use std::alloc::Global;
-use std::io::Write;
 use web::Exchange;
+use wire::Sink;
 
 /// A job for the office in a database.
 #[derive(Clone, Copy)]
@@ -47,7 +48,7 @@ pub struct Done<S: Alter, W> {
 
 /// Does a job over the connection to its database. No transaction may be open, and queries must have no limit on their
 /// steps.
-pub fn do_on<S: Alter, W: Write>(
+pub fn do_on<S: Alter, W: Sink>(
     alloc: Global,
     conn: Connection<S>,
     job: &OfficeJob<'_>,
@@ -56,9 +57,13 @@ pub fn do_on<S: Alter, W: Write>(
     requires outside { IsOutside S.Store conn }
     requires unlimited { IsUnlimited S.Store conn }
     requires lawful { IsLawfulJob job.now }
-    ensures does { On S.Store (λ old new. DoesOfficeJob job.now old new (W.contents out) (W.contents result.out))
+    requires prints { W.failed out < u64.MAX }
+    ensures does { On S.Store (λ old new. DoesOfficeJob job.now old new (W.taken out) (W.taken result.out))
         conn result.conn result.outcome }
     ensures honest { StaysClean S.Store conn result.conn }
+
+    // `Write` is the fault exactly if a call of the output failed.
+    ensures failed { W.failed result.out ≡ failures_after (W.failed out) result.outcome }
 
     // A database without an office's table is refused and left unchanged, unless the job makes an office.
     ensures none { (IsMaking job.now → ⊥) → list_any is_office_table (tables_of S.Store conn) ≡ false
@@ -77,7 +82,10 @@ pub fn do_on<S: Alter, W: Write>(
             let (outcome, conn) = apply_over(alloc, conn, exchanges, &mut out);
             Done { outcome, conn, out }
         }
-        OfficeJob::Krl => list_over(alloc, conn, out),
+        OfficeJob::Krl => {
+            let (outcome, conn) = list_over(alloc, conn, &mut out);
+            Done { outcome, conn, out }
+        }
         OfficeJob::Signers => {
             let (outcome, conn) = report_over(alloc, conn, Report::Signers, &mut out);
             Done { outcome, conn, out }

@@ -13,6 +13,7 @@ mod adding;
 mod applying;
 mod checking;
 mod command;
+mod console;
 mod database_opening;
 mod ending;
 mod file_opening;
@@ -32,5 +33,7 @@ mod whole;
 mod world;
 
 pub use command::{do_job, do_no_words, do_words};
+pub use console::Console;
+pub use output::Output;
 pub use trial::MemoryOffice;
 pub use world::World;

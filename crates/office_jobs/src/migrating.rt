@@ -1,6 +1,7 @@
 //! Migrating an office from the previous schema.
 
-ghost use Rattle.std.specs.Prelude.{◌≡◌, Err, false, true};
+ghost use Rattle.std.specs.Prelude.{◌≡◌, Err, IfErr, false, true};
+ghost use Rattle.office_jobs.specs.Faults.{IsUnwritten};
 ghost use Rattle.std.specs.List.{list_any};
 ghost use Rattle.store_sql.specs.Look.{is_ca_name, is_office_table};
 ghost use Rattle.store_sql.specs.Honest.{IsOutside, IsUnlimited, On, StaysClean, tables_of};
@@ -21,6 +22,7 @@ pub fn migrate_over<S: Alter>(
     requires unlimited { IsUnlimited S.Store conn }
     ensures migrates { On S.Store MigratesOffice conn result.1 result.0 }
     ensures honest { StaysClean S.Store conn result.1 }
+    ensures unwritten { IfErr result.0 IsUnwritten }
 
     // A database without an office, or one that was migrated, is refused and left unchanged.
     ensures none { list_any is_office_table (tables_of S.Store conn) ≡ false

@@ -7,6 +7,7 @@ ghost use Rattle.http_requests.specs.declared.response.MediaType.TheVariants.{Pl
 ghost use Rattle.http_requests.specs.Asks.{Asks, get};
 ghost use Rattle.http_requests.specs.Responses.{response_text};
 ghost use Rattle.exchanges.specs.Reading.{rest_after, cut_of};
+ghost use Rattle.office_jobs.specs.Ending.{failures_after};
 ghost use Rattle.office_jobs.specs.Reporting.{Reports, resource_of};
 ghost use Rattle.office_jobs.specs.Opening.{HeedsRows};
 ghost use Rattle.std.specs.List.{list_any};
@@ -20,7 +21,7 @@ use headline::respond;
 use office::StoreFault;
 use sqlite::{Alter, Connection};
 use std::alloc::Global;
-use std::io::Write;
+use wire::Sink;
 use store::Store;
 
 /// A report: the body of the response to a GET of its resource.
@@ -94,15 +95,17 @@ fn body_of(response: &[u8]) -> Option<&[u8]>
 }
 
 // Prints a report of an open office.
-fn report_in<S: Alter, W: Write>(
+fn report_in<S: Alter, W: Sink>(
     store: &mut Store<S>,
     alloc: Global,
     report: Report,
     out: &mut W,
 ) -> Result<(), JobFault>
-    ensures reports { On S.Store (λ old new. Reports report old new (W.contents out.old) (W.contents out.new))
+    requires { W.failed out.old < u64.MAX }
+    ensures reports { On S.Store (λ old new. Reports report old new (W.taken out.old) (W.taken out.new))
         store.old.conn store.new.conn result }
     ensures honest { StaysClean S.Store store.old.conn store.new.conn }
+    ensures failed { W.failed out.new ≡ failures_after (W.failed out.old) result }
 {
     http_requests::one_ask();
     match respond(store, alloc, report.request(), 0, &[0; 32]) {
@@ -115,7 +118,7 @@ fn report_in<S: Alter, W: Write>(
 }
 
 /// Prints a report of the office in a database.
-pub fn report_over<S: Alter, W: Write>(
+pub fn report_over<S: Alter, W: Sink>(
     alloc: Global,
     conn: Connection<S>,
     report: Report,
@@ -123,9 +126,13 @@ pub fn report_over<S: Alter, W: Write>(
 ) -> (Result<(), JobFault>, Connection<S>)
     requires outside { IsOutside S.Store conn }
     requires unlimited { IsUnlimited S.Store conn }
-    ensures reports { On S.Store (λ old new. Reports report old new (W.contents out.old) (W.contents out.new))
+    requires prints { W.failed out.old < u64.MAX }
+    ensures reports { On S.Store (λ old new. Reports report old new (W.taken out.old) (W.taken out.new))
         conn result.1 result.0 }
     ensures honest { StaysClean S.Store conn result.1 }
+
+    // `Write` is the fault exactly if a call of the output failed.
+    ensures failed { W.failed out.new ≡ failures_after (W.failed out.old) result.0 }
 
     // A database without an office's table is refused and left unchanged.
     ensures none { list_any is_office_table (tables_of S.Store conn) ≡ false

@@ -4,6 +4,7 @@ use Rattle.server.proofs.Words.{LATEST_MOMENT, List, None, Ok, OnOk, Opening, Op
 use Rattle.server.proofs.Words.{WhereTold, [], answered, ap, closed, cut, inl, inr, refl, subst, sym, with_ask, ℕ, ◌++◌}
 use Rattle.server.proofs.Words.{◌∙◌, ◌∷◌, ◌≡◌, ◌≤◌}
 use Rattle.std.proofs.Common.{take, Some}
+use Rattle.std.specs.Prelude.{Bool, false, true}
 use Rattle.std.proofs.lemmas.List.Elements.{All-head}
 use Rattle.wire.specs.Streams.{AppendsBeginning}
 use Rattle.http_requests.proofs.OneAsk.{one_of}
@@ -34,20 +35,21 @@ took_all None written taken wrote took = absurd wrote
 took_all (Some all) written taken wrote took = let same : all ≡ taken = cc in sym same ∙ wrote
 
 -- the book after a request that was served, and after these bytes were written
-told_held : (talk : Talk) (written : List ℕ) (reader reader' writer writer' : Option (List ℕ)) (old mid new : Option
-    Book)
+told_held : (talk : Talk) (written : List ℕ) (whole : Bool) (reader reader' writer writer' : Option (List ℕ))
+    (old mid new : Option Book)
     → WhereTold (IsConnectionAccepted reader writer talk.exchange.moment) old mid → Consumes reader reader' talk.exchange.request
     → IsOneRequest reader' talk.exchange.request
-    → Appends writer writer' written → WhereTold (IsEnded writer') mid new → WhereTold (IsHeld talk written) old new
-told_held talk written reader reader' writer writer' None mid new accepted taken one wrote ended = tt
-told_held talk written reader reader' writer writer' (Some old) None new accepted taken one wrote ended = absurd
+    → Appends writer writer' written → WhereTold (IsEnded writer' whole) mid new
+    → WhereTold (IsHeld talk (record { bytes = written; whole = whole })) old new
+told_held talk written whole reader reader' writer writer' None mid new accepted taken one wrote ended = tt
+told_held talk written whole reader reader' writer writer' (Some old) None new accepted taken one wrote ended = absurd
     accepted
-told_held talk written reader reader' writer writer' (Some old) (Some mid) None accepted taken one wrote ended =
+told_held talk written whole reader reader' writer writer' (Some old) (Some mid) None accepted taken one wrote ended =
     absurd ended
-told_held talk written reader reader' writer writer' (Some old) (Some mid) (Some new) accepted taken one wrote ended =
+told_held talk written whole reader reader' writer writer' (Some old) (Some mid) (Some new) accepted taken one wrote ended =
     let parts = split_request accepted.sent reader' talk.exchange.request
     (subst (λ (r : Option (List ℕ)). Consumes r reader' talk.exchange.request) accepted.gives taken) one in
-    let all = took_all writer' written ended.written
+    let all = took_all writer' written ended.bytes
     (subst (λ (w : Option (List ℕ)). Appends w writer' written) accepted.silent wrote) ended.took in
     let same = parts.1 in
     let coming = accepted.coming in
@@ -64,7 +66,7 @@ told_held talk written reader reader' writer writer' (Some old) (Some mid) (Some
 told_closed : (fault : ServeFault) (drawn : List ℕ) (silent : IsSilent (Serving fault) drawn)
     (reader writer writer' : Option (List ℕ)) (moment : ℕ) (old mid new : Option Book)
     → WhereTold (IsConnectionAccepted reader writer moment) old mid → writer' ≡ writer
-    → WhereTold (IsEnded writer') mid new
+    → WhereTold (IsEnded writer' false) mid new
     → WhereTold (TellsVisit (closed (record { fault = Serving fault; drawn = drawn; silent = silent }))) old new
 told_closed fault drawn silent reader writer writer' moment None mid new accepted same ended = tt
 told_closed fault drawn silent reader writer writer' moment (Some old) None new accepted same ended = absurd accepted
@@ -72,7 +74,7 @@ told_closed fault drawn silent reader writer writer' moment (Some old) (Some mid
 told_closed fault drawn silent reader writer writer' moment (Some old) (Some mid) (Some new) accepted same ended =
     let silence = accepted.silent in
     let took = ended.took in
-    let nothing : ended.written ≡ [] = cc in
+    let nothing : ended.bytes ≡ [] = cc in
     let coming = accepted.coming in
     let coming' = ended.coming in
     let kept = accepted.kept in
@@ -96,7 +98,7 @@ serves_one x response before after keeps answers o l m =
 
 -- if the first `count` bytes of its response were written, the talk was cut
 told_cut : (talk : Talk) (count : ℕ) (old new : Option Book)
-    → WhereTold (IsHeld talk (take count talk.response)) old new → WhereTold (TellsVisit (cut talk)) old new
+    → WhereTold (IsHeld talk (record { bytes = take count talk.response; whole = false })) old new → WhereTold (TellsVisit (cut talk)) old new
 told_cut talk count None new held = tt
 told_cut talk count (Some old) None held = absurd held
 told_cut talk count (Some old) (Some new) held = (count, held)
@@ -109,8 +111,11 @@ fails A fault = Err fault
 module _ (S W : Type 0) (register : Ghosts S) (taken_by : W → Option (List ℕ))
     (reader reader' source source' : Option (List ℕ))
     (w w' : W) (s s' : S) (old mid new : Option Book) (moment : ℕ) (lawful : moment ≤ LATEST_MOMENT)
-    (accepted : WhereTold (IsConnectionAccepted reader (taken_by w) moment) old mid)
-    (ended : WhereTold (IsEnded (taken_by w')) mid new) where
+    (accepted : WhereTold (IsConnectionAccepted reader (taken_by w) moment) old mid) where
+  -- it was ended as one whose entire response was written, or as another
+  abbrev Ended : Bool → Type 0
+  Ended whole = WhereTold (IsEnded (taken_by w') whole) mid new
+
   -- its request was served
   abbrev IsServed : Type 0
   IsServed = Served reader reader' source source' moment register s s'
@@ -131,12 +136,12 @@ module _ (S W : Type 0) (register : Ghosts S) (taken_by : W → Option (List ℕ
       (Keeps register.means register.is_open s') (x.answered h)
 
   -- the response was written
-  answered_by : {T : Type 0} (t : T) (x : IsServed) → Appends (taken_by w) (taken_by w') x.response
+  answered_by : {T : Type 0} (t : T) (x : IsServed) → Appends (taken_by w) (taken_by w') x.response → Ended true
       → Visits {A = T} (Ok t) old new source source' register s s'
-  answered_by t x wrote = record {
+  answered_by t x wrote ended = record {
     visit = answered (talk_of x);
     ends = tt;
-    told = told_held (talk_of x) x.response reader reader' (taken_by w) (taken_by w') old mid new accepted x.taken x.one
+    told = told_held (talk_of x) x.response true reader reader' (taken_by w) (taken_by w') old mid new accepted x.taken x.one
         wrote ended;
     drawn = x.nonce_taken;
     served = talk_served x;
@@ -144,12 +149,12 @@ module _ (S W : Type 0) (register : Ghosts S) (taken_by : W → Option (List ℕ
   }
 
   -- a prefix of the response was written
-  cut_by : {T : Type 0} (x : IsServed) → AppendsBeginning (taken_by w) (taken_by w') x.response
+  cut_by : {T : Type 0} (x : IsServed) → AppendsBeginning (taken_by w) (taken_by w') x.response → Ended false
       → Visits {A = T} (Err (Serving Write)) old new source source' register s s'
-  cut_by x wrote = record {
+  cut_by x wrote ended = record {
     visit = cut (talk_of x);
     ends = refl;
-    told = told_cut (talk_of x) wrote.count old new (told_held (talk_of x) (take wrote.count x.response) reader reader'
+    told = told_cut (talk_of x) wrote.count old new (told_held (talk_of x) (take wrote.count x.response) false reader reader'
         (taken_by w) (taken_by w') old mid new accepted x.taken x.one wrote.grown ended);
     drawn = x.nonce_taken;
     served = talk_served x;
@@ -160,8 +165,8 @@ module _ (S W : Type 0) (register : Ghosts S) (taken_by : W → Option (List ℕ
   closed_by : {T : Type 0} (fault : ServeFault) (drawn : List ℕ) → Consumes source source' drawn
       → IsSilent (Serving fault) drawn → w' ≡ w
       → (register.is_honest s' → (o : Opening) (l : List Arrival) → register.means s o l → register.means s' o l)
-      → LeavesRows register s s' → Visits {A = T} (Err (Serving fault)) old new source source' register s s'
-  closed_by fault drawn consumed silent same kept before = record {
+      → LeavesRows register s s' → Ended false → Visits {A = T} (Err (Serving fault)) old new source source' register s s'
+  closed_by fault drawn consumed silent same kept before ended = record {
     visit = closed (record { fault = Serving fault; drawn = drawn; silent = silent });
     ends = refl;
     told = told_closed fault drawn silent reader (taken_by w) (taken_by w') moment old mid new accepted
@@ -177,34 +182,37 @@ module _ (S W : Type 0) (register : Ghosts S) (taken_by : W → Option (List ℕ
       → IfUnserved (fails A fault) (w' ≡ w)
       → (register.is_honest s' → IfUnserved (fails A fault) ((o : Opening) (l : List Arrival) → register.means s o l
       → register.means s' o l)) → Draws (fails A fault) source source'
-      → IfUnserved (fails A fault) (LeavesRows register s s')
+      → IfUnserved (fails A fault) (LeavesRows register s s') → Ended false
       → Visits {A = T} (Err (Serving fault)) old new source source' register s s'
-  failed_by Read broke same kept drew before = closed_by Read drew.drawn drew.consumed drew.size same kept before
-  failed_by Nonces broke same kept drew before = closed_by Nonces drew.drawn drew.consumed drew.size same kept before
-  failed_by Store broke same kept drew before = closed_by Store drew.drawn drew.consumed drew.size same kept before
-  failed_by NoMemory broke same kept drew before =
-      closed_by NoMemory drew.drawn drew.consumed drew.size same kept before
-  failed_by Write broke same kept drew before = let cut = broke refl in cut_by cut.0 cut.1
+  failed_by Read broke same kept drew before ended =
+      closed_by Read drew.drawn drew.consumed drew.size same kept before ended
+  failed_by Nonces broke same kept drew before ended =
+      closed_by Nonces drew.drawn drew.consumed drew.size same kept before ended
+  failed_by Store broke same kept drew before ended =
+      closed_by Store drew.drawn drew.consumed drew.size same kept before ended
+  failed_by NoMemory broke same kept drew before ended =
+      closed_by NoMemory drew.drawn drew.consumed drew.size same kept before ended
+  failed_by Write broke same kept drew before ended = let cut = broke refl in cut_by cut.0 cut.1 ended
 
   -- serving succeeded
   pub answered_visit : {T A : Type 0} (t : T) (a : A) (served : Result A ServeFault) → served ≡ Ok a
-      → OnOk served ((x : IsServed) × Appends (taken_by w) (taken_by w') x.response)
+      → OnOk served ((x : IsServed) × Appends (taken_by w) (taken_by w') x.response) → Ended true
       → Visits {A = T} (Ok t) old new source source' register s s'
-  answered_visit t a (Ok b) is wrote = answered_by t wrote.0 wrote.1
-  answered_visit t a (Err fault) is wrote = absurd (cc)
+  answered_visit t a (Ok b) is wrote ended = answered_by t wrote.0 wrote.1 ended
+  answered_visit t a (Err fault) is wrote ended = absurd (cc)
 
   -- serving ended with a fault
   pub failed_visit : {T A : Type 0} (fault : ServeFault) (served : Result A ServeFault) → served ≡ Err fault
       → (served ≡ Err Write → (x : IsServed) × AppendsBeginning (taken_by w) (taken_by w') x.response)
       → IfUnserved served (w' ≡ w) → (register.is_honest s' → IfUnserved served ((o : Opening) (l : List Arrival)
       → register.means s o l → register.means s' o l)) → Draws served source source'
-      → IfUnserved served (LeavesRows register s s')
+      → IfUnserved served (LeavesRows register s s') → Ended false
       → Visits {A = T} (Err (Serving fault)) old new source source' register s s'
-  failed_visit fault (Ok a) is broke same kept drew before = absurd (cc)
-  failed_visit {T} {A} fault (Err e) is broke same kept drew before =
+  failed_visit fault (Ok a) is broke same kept drew before ended = absurd (cc)
+  failed_visit {T} {A} fault (Err e) is broke same kept drew before ended =
       let one : e ≡ fault = cc in
       subst (λ (f : ServeFault). Visits {A = T} (Err (Serving f)) old new source source' register s s') one
-      (failed_by {A = A} e broke same kept drew before)
+      (failed_by {A = A} e broke same kept drew before ended)
 
 -- if accepting failed, nothing was written, and no nonce drawn
 silent : (fault : Fault) → IsOfAccepting fault → IsSilent fault []

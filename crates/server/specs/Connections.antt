@@ -1,6 +1,6 @@
 -- What connections do to a listener, to a nonce source and to a register.
 use Rattle.std.specs.Prelude.{◌≡◌, ◌≤◌, ◌+◌, ℕ, List, [], ◌∷◌, ◌++◌, length, take, map, flat_map}
-use Rattle.std.specs.Prelude.{All, Option, Some, Result, Ok, Err}
+use Rattle.std.specs.Prelude.{All, Option, Some, Result, Ok, Err, false, true}
 use Rattle.std.specs.Io.KnownBytes.{Appends, Consumes}
 use Rattle.office.specs.declared.opening.Opening.{Opening}
 use Rattle.office.specs.declared.arrival.Arrival.{Arrival}
@@ -18,7 +18,7 @@ use Rattle.web.specs.Requests.{IsOneRequest}
 use Rattle.web.specs.Served.{LeavesRows}
 use Rattle.server.specs.declared.connection_fault.Fault.{Fault}
 use Rattle.server.specs.declared.connection_fault.Fault.TheVariants.{Socket, Clock, Serving}
-use Rattle.server.specs.Books.{Coming, Book, IsMet, WhereTold}
+use Rattle.server.specs.Books.{Coming, Book, IsMet, WhereTold, Written}
 use Rattle.server.specs.Names.{connection_line}
 
 -- a request that was served, at a valid time and with a whole nonce, and its response, of the form that it asks for
@@ -68,9 +68,8 @@ EndsWith (closed silence) (Err fault) = silence.fault ≡ fault
 
 -- ---- the listener
 
--- The request is a prefix of what the connection sent, its time is that of the connection, and these bytes were written
--- on it.
-pub record IsHeld (talk : Talk) (written : List ℕ) (old new : Book) : Type 0 where
+-- The request is a prefix of what the connection sent, its time is that of the connection, and this was written on it.
+pub record IsHeld (talk : Talk) (written : Written) (old new : Book) : Type 0 where
   pub left : List ℕ
   pub one : IsOneRequest (Some left) talk.exchange.request
   pub met : IsMet old new (record { sent = talk.exchange.request ++ left; moment = talk.exchange.moment }) written
@@ -80,12 +79,14 @@ pub record IsHeld (talk : Talk) (written : List ℕ) (old new : Book) : Type 0 w
 abbrev pub TellsFault : Fault → (old new : Book) → Type 0
 TellsFault Socket old new = (old.coming ≡ []) × (new ≡ old)
 TellsFault Clock old new = ⊥
-TellsFault (Serving fault) old new = (next : Coming) × IsMet old new next []
+TellsFault (Serving fault) old new =
+    (next : Coming) × IsMet old new next (record { bytes = []; whole = false })
 
--- the book after a visit
+-- The book after a visit. A connection is ended as one with a whole response exactly if it was answered.
 abbrev pub TellsVisit : Visit → (old new : Book) → Type 0
-TellsVisit (answered talk) old new = IsHeld talk talk.response old new
-TellsVisit (cut talk) old new = (count : ℕ) × IsHeld talk (take count talk.response) old new
+TellsVisit (answered talk) old new = IsHeld talk (record { bytes = talk.response; whole = true }) old new
+TellsVisit (cut talk) old new =
+    (count : ℕ) × IsHeld talk (record { bytes = take count talk.response; whole = false }) old new
 TellsVisit (closed silence) old new = TellsFault silence.fault old new
 
 -- the same for a sequence of visits

@@ -44,9 +44,14 @@ pub(crate) fn serve_connection<R: AllocGlobal, L: Listener, S: Registry, N: Sour
         moment,
         nonces,
     );
-    listener.end(reader, writer, served.is_ok());
     match served {
-        Ok(()) => Ok(()),
-        Err(fault) => Err(Fault::Serving(fault)),
+        Ok(()) => {
+            listener.end(reader, writer, true);
+            Ok(())
+        }
+        Err(fault) => {
+            listener.end(reader, writer, false);
+            Err(Fault::Serving(fault))
+        }
     }
 }

@@ -24,5 +24,5 @@ pub use listener::{Connection, Listener};
 pub use loopback::Loopback;
 pub use own_client::selftest;
 pub use patience::{CONNECTION_SECONDS, STEP_SECONDS};
-pub use scripted::{ScriptedConnection, ScriptedListener};
+pub use scripted::{ScriptedConnection, ScriptedListener, Written};
 pub use serve::{serve_keeping, serve_on};

@@ -46,8 +46,8 @@ pub trait Listener {
         ensures only { IfErr result IsOfAccepting }
         ensures open { IfOk result (λ _. is_open self.new) };
 
-    /// Ends a connection that was accepted. `whole` says whether the entire response was written.
+    /// Ends a connection that was accepted. `whole` says whether the entire response was written, and is recorded.
     fn end(&mut self, reader: Self::Reader, writer: Self::Writer, whole: bool)
         requires { is_open self.old }
-        ensures { WhereTold (IsEnded (Self.Writer.taken writer)) (book self.old) (book self.new) };
+        ensures { WhereTold (IsEnded (Self.Writer.taken writer) whole) (book self.old) (book self.new) };
 }

@@ -18,12 +18,21 @@ pub struct ScriptedConnection<'a> {
     ghost lawful: { moment ≤ 253402300799 },
 }
 
+/// What was written on a connection.
+#[derive(Drop)]
+pub struct Written {
+    /// The bytes.
+    pub bytes: Vec<u8>,
+    /// Whether it was ended as a connection whose entire response was written.
+    pub whole: bool,
+}
+
 /// A listener of in-memory connections, in order. It keeps what is written on each.
 #[derive(Drop)]
 pub struct ScriptedListener<'a> {
     all: &'a [ScriptedConnection<'a>],
     accepted: usize,
-    written: Vec<Vec<u8>>,
+    written: Vec<Written>,
     alloc: Global,
     ghost room: { length all.now ≤ vec_capacity written },
     ghost met: { vec_len written ≤ accepted },
@@ -54,10 +63,10 @@ impl<'a> ScriptedListener<'a> {
     }
 
     /// What was written on each connection that was handled.
-    pub fn written(&self) -> &[Vec<u8>]
+    pub fn written(&self) -> &[Written]
         ensures { ⟦<ScriptedListener<'a> as Listener>⟧.book self.now
             ≡ Some (record {
-              written = map (λ v. v.items) result.now;
+              written = map (λ w. record { bytes = w.bytes.items; whole = w.whole }) result.now;
               coming =
                   map (λ c. record { sent = c.sent.now; moment = c.moment }) (drop self.now.accepted self.now.all.now);
             }) }
@@ -72,7 +81,7 @@ impl<'a> Listener for ScriptedListener<'a> {
     type Writer = VecSink;
 
     ghost book = { λ s. Some (record {
-      written = map (λ v. v.items) s.written.items;
+      written = map (λ w. record { bytes = w.bytes.items; whole = w.whole }) s.written.items;
       coming =
           map (λ c. record { sent = c.sent.now; moment = c.moment }) (drop s.accepted s.all.now);
     }) };
@@ -92,7 +101,8 @@ impl<'a> Listener for ScriptedListener<'a> {
         })
     }
 
-    fn end(&mut self, _reader: ScriptedReader<'a>, writer: VecSink, _whole: bool) {
-        self.written.push(writer.into_vec()).unwrap();
+    fn end(&mut self, _reader: ScriptedReader<'a>, writer: VecSink, whole: bool) {
+        let bytes = writer.into_vec();
+        self.written.push(Written { bytes, whole }).unwrap();
     }
 }

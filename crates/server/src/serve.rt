@@ -11,7 +11,6 @@ use crate::listener::Listener;
 use crate::report::{report, report_no_memory};
 use http_requests::Routes;
 use office::Registry;
-use std::io::Write;
 use waiting::Waiting;
 use wire::{Sink, Source};
 
@@ -25,16 +24,15 @@ const FAULT: u8 = 1;
 ///
 /// The fault of a connection is printed to `err` as a line `sshoffice: connection K NAME`, K from 1, and the next one
 /// is served. The result is 0; if there is no memory to begin with, the line `sshoffice: NoMemory` is printed and the
-/// result is 1. Nothing is printed to `out`. What `err` doesn't take is lost.
+/// result is 1. What `err` doesn't take is lost.
 ///
 /// The counts of failures of the nonce source and of `err` leave room for one more per connection.
-pub fn serve_on<R: AllocGlobal, L: Listener, S: Registry, N: Source, O: Write, E: Sink>(
+pub fn serve_on<R: AllocGlobal, L: Listener, S: Registry, N: Source, E: Sink>(
     rt: &R,
     listener: &mut L,
     store: &mut S,
     nonces: &mut N,
     connections: u64,
-    out: &mut O,
     err: &mut E,
 ) -> u8
     requires draws { N.failed nonces.old + connections ≤ u64.MAX }
@@ -61,7 +59,6 @@ pub fn serve_on<R: AllocGlobal, L: Listener, S: Registry, N: Source, O: Write, E
     ensures drawn { N.failed nonces.new ≤ N.failed nonces.old + connections }
     ensures lost { result ≡ 0 → E.failed err.new ≤ E.failed err.old + connections }
     ensures lost_once { result ≡ 1 → E.failed err.new ≤ E.failed err.old + 1 }
-    ensures quiet { out.new ≡ out.old }
 {
     let Ok(routes) = Routes::new(rt.alloc()) else {
         report_no_memory(err);
@@ -76,13 +73,12 @@ pub fn serve_on<R: AllocGlobal, L: Listener, S: Registry, N: Source, O: Write, E
 
 /// Like `serve_on`, but takes the register by value and returns it with the status. The list of pending certificates is
 /// cached in memory between requests.
-pub fn serve_keeping<R: AllocGlobal, L: Listener, S: Registry, N: Source, O: Write, E: Sink>(
+pub fn serve_keeping<R: AllocGlobal, L: Listener, S: Registry, N: Source, E: Sink>(
     rt: &R,
     listener: &mut L,
     store: S,
     nonces: &mut N,
     connections: u64,
-    out: &mut O,
     err: &mut E,
 ) -> (u8, S)
     requires draws { N.failed nonces.old + connections ≤ u64.MAX }
@@ -101,9 +97,8 @@ pub fn serve_keeping<R: AllocGlobal, L: Listener, S: Registry, N: Source, O: Wri
     ensures drawn { N.failed nonces.new ≤ N.failed nonces.old + connections }
     ensures lost { result.0 ≡ 0 → E.failed err.new ≤ E.failed err.old + connections }
     ensures lost_once { result.0 ≡ 1 → E.failed err.new ≤ E.failed err.old + 1 }
-    ensures quiet { out.new ≡ out.old }
 {
     let mut office = Waiting::new(rt.alloc(), store);
-    let status = serve_on(rt, listener, &mut office, nonces, connections, out, err);
+    let status = serve_on(rt, listener, &mut office, nonces, connections, err);
     (status, office.into_register())
 }

@@ -194,10 +194,11 @@ module _ {W File Tables Incoming Reader Writer : Type 0} (store : store.Ghosts T
         did_job (job.Check ca list serial key_id) held h.0.between h.0.done h.0.did
     ran_job job.Selftest held holds said result h = did_job job.Selftest held h.0.between h.0.done h.0.did
 
-    becomes : (words : List (List ℕ)) (held holds : Option (List ℕ)) (Told : List ℕ → Type 0) (status : ℕ)
-        → RunsWords store world remaining book w w' words held holds Told status → Is w'
-    becomes words held holds Told status (inl it) = ran_job it.0 held holds it.2.said it.2.result it.2.runs
-    becomes words held holds Told status (inr it) = the_same w' it.2
+    becomes : (words : List (List ℕ)) (held holds : Option (List ℕ)) (Told : List ℕ → Type 0)
+        (Heeded : Result ℕ JobFault → Type 0) (status : ℕ)
+        → RunsWords store world remaining book w w' words held holds Told Heeded status → Is w'
+    becomes words held holds Told Heeded status (inl it) = ran_job it.0 held holds it.2.said it.2.result it.2.runs
+    becomes words held holds Told Heeded status (inr it) = the_same w' it.2
 
 -- what became of the files of a database that weren't opened before
 pub given_back : {S D W File Incoming Reader Writer : Type 0} {g : disk.Ghosts D} (store : store.Ghosts (FileStore D g))
@@ -209,11 +210,11 @@ pub given_back : {S D W File Incoming Reader Writer : Type 0} {g : disk.Ghosts D
     → ((between after : W) (last : Held (FileStore D g)) (closing : Result (Unit {0}) EndFault)
     → world.closes between last closing after → AreLeftAs (ClosesFiles last closing) (files_of after))
     → files_of w ≡ Unopened start → (words : List (List ℕ)) (held holds : Option (List ℕ)) (Told : List ℕ → Type 0)
-    (status : ℕ)
-    → RunsWords store world remaining book w w' words held holds Told status
+    (Heeded : Result ℕ JobFault → Type 0) (status : ℕ)
+    → RunsWords store world remaining book w w' words held holds Told Heeded status
     → (files : DatabaseFiles S D) → files ≡ files_of w' → AreGivenBack g image start files
 given_back {S} {D} {W} {File} {Incoming} {Reader} {Writer} {g} store world remaining book still w w' image start
-    files_of opens closes begins words held holds Told status runs files same =
+    files_of opens closes begins words held holds Told Heeded status runs files same =
     subst (λ (it : DatabaseFiles S D). AreGivenBack g image start it) (sym same)
     (becomes store world remaining book still w w' (λ it. AreGivenBack g image start (files_of it))
     (not_opened g image start (files_of w) begins)
@@ -221,4 +222,4 @@ given_back {S} {D} {W} {File} {Incoming} {Reader} {Writer} {g} store world remai
     (opens w after path (Err error) opened))
     (λ between last closing closed. were_left g image start (files_of w') (ClosesFiles last closing)
     (closes between w' last closing closed))
-    words held holds Told status runs)
+    words held holds Told Heeded status runs)

@@ -9,6 +9,7 @@ ghost use Rattle.sqlite.specs.Opening.{is_open_error};
 ghost use Rattle.files.specs.Opening.{OpensOrFails};
 ghost use Rattle.command_line.specs.Answers.{AreBad};
 ghost use Rattle.office_jobs.specs.Commands.{RunsWordsOver};
+ghost use Rattle.office_jobs.specs.Ending.{Heeds};
 ghost use Rattle.office_jobs.specs.Names.{Takes};
 ghost use Rattle.sshoffice.specs.declared.database_files.DatabaseFiles.TheVariants.{Unopened};
 ghost use Rattle.sshoffice.specs.DatabaseFiles.{AreCleanOf, AreGivenBack, AreLeftAs, ClosesFiles, MayBecome};
@@ -17,7 +18,7 @@ ghost use Rattle.sshoffice.specs.DatabaseFiles.{OpensFiles, OpensOnce};
 use crate::database_files::DatabaseFiles;
 use crate::file_making::make_file;
 use files::{EndFault, OpenFault};
-use office_jobs::{MemoryOffice, World, do_words};
+use office_jobs::{MemoryOffice, Output, World, do_words};
 use restart::{end_at, open_at};
 use server::{Listener, Loopback, SelftestFault, selftest};
 use sqlite::{Connection, Error, ErrorCode, FileFrom, FileStore, Start};
@@ -25,7 +26,7 @@ use sqlite_disk::Disk;
 use std::alloc::{Alloc, Global};
 use std::cell::OnceCell;
 use std::fs;
-use std::io::{ErrorKind, Read, Write};
+use std::io::{ErrorKind, Read};
 use std::mem::replace;
 use std::net::{SocketAddr, SocketAddrV4, TcpListener};
 use wire::Sink;
@@ -203,22 +204,25 @@ fn listen_in<'a>(
 /// Does what the arguments ask for in the world of the system. Returns the status, `out`, and what became of the files
 /// of the job's database. `start` represents their contents. Only this function does a job over a file's connection:
 /// such a call takes half a minute to prove.
-pub fn run<S: Start, O: Write, E: Sink>(
+pub fn run<S: Start, O: Output, E: Sink>(
     rt: &HostRuntime,
     start: S,
     words: &[String],
     out: O,
     err: &mut E,
 ) -> (u8, O, FilesAt<S>)
-    requires { E.failed err.old ≡ 0 }
+    requires tells { E.failed err.old ≡ 0 }
+    requires prints { O.failed out ≡ 0 }
 
     // The arguments had this effect in a world whose files weren't opened before, and this is what became of them. If
-    // no call of `err` has failed, it has taken the lines of all faults, and nothing else.
+    // no call of `err` has failed, it has taken the lines of all faults, and nothing else. `Write` is a fault only if a
+    // call of `out` failed.
     ensures runs { RunsWordsOver over_files ⟦<Host<'static, S> as World>⟧
         ⟦<fs::File as Read>⟧.remaining ⟦<Loopback<'static, HostRuntime> as Listener>⟧.book
         (λ host. host.files ≡ Unopened start) (λ host. host.files ≡ result.2) (map string_bytes words.now)
-        (O.contents out) (O.contents result.1)
-        (Takes (E.failed err.old) (E.failed err.new) (E.taken err.old) (E.taken err.new)) result.0 }
+        (O.taken out) (O.taken result.1)
+        (Takes (E.failed err.old) (E.failed err.new) (E.taken err.old) (E.taken err.new))
+        (Heeds (O.failed out) (O.failed result.1) (O.is_flushed result.1)) result.0 }
 
     // They weren't opened, and `start` is given back; or an open of them failed, and left them like this; or they were
     // opened, and `runs` says how their connection has left them.

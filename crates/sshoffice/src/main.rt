@@ -10,7 +10,7 @@ mod file_making;
 mod host;
 
 use crate::host::run;
-use office_jobs::do_no_words;
+use office_jobs::{Console, do_no_words};
 use sqlite::Unknown;
 use std::io::BufWriter;
 use std::process::ExitCode;
@@ -27,7 +27,7 @@ fn status_by(rt: &HostRuntime) -> u8 {
     let mut err = FromWrite::new(rt.stderr());
     let out = BufWriter::new(rt.alloc(), rt.stdout());
     match (words_of(rt), out) {
-        (Ok(words), Ok(out)) => run(rt, Unknown, words.as_slice(), out, &mut err).0,
+        (Ok(words), Ok(out)) => run(rt, Unknown, words.as_slice(), Console::new(out), &mut err).0,
         (Err(fault), _) => do_no_words(fault.kind(), &mut err),
         (_, Err(fault)) => do_no_words(fault.kind(), &mut err),
     }

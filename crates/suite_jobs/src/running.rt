@@ -1,7 +1,7 @@
 //! The files and the requests of the tests, and a job in a world in memory.
 
 use crate::script::{Script, ScriptedFile};
-use office_jobs::do_words;
+use office_jobs::{Console, do_words};
 use server::ScriptedConnection;
 use std::alloc::Alloc;
 use std::test::Fail;
@@ -128,11 +128,12 @@ pub fn run_in(script: &mut Script<'_>, arguments: &[&str]) -> Result<Ran, Fail> 
         words.push(String::from_str(alloc, argument)?)?;
     }
     let mut err = FromWrite::new(Vec::new(alloc));
-    let (status, out) = do_words(script, words.as_slice(), Vec::new(alloc), &mut err);
+    let out = Console::new(Vec::new(alloc));
+    let (status, out) = do_words(script, words.as_slice(), out, &mut err);
     Ok(Ran {
         calls: script.take_calls(),
         status,
-        out,
+        out: out.into_inner(),
         err: err.into_inner(),
     })
 }

@@ -68,7 +68,6 @@ fn connections_in_memory_are_met_in_turn(rt: HostRuntime) -> Result<(), Fail> {
     let mut listener = ScriptedListener::new(rt.alloc(), &all)?;
     let mut office = new_office(&rt)?;
     let mut nonces = ScriptedNonces::new(0x33, 96, Ending::Ends);
-    let mut out = Vec::new(rt.alloc());
     let mut err = VecSink::new(Vec::new(rt.alloc()));
     let status = serve_on(
         &rt,
@@ -76,7 +75,6 @@ fn connections_in_memory_are_met_in_turn(rt: HostRuntime) -> Result<(), Fail> {
         &mut office,
         &mut nonces,
         4,
-        &mut out,
         &mut err,
     );
     assert_eq!(rt; status, 0);
@@ -86,9 +84,10 @@ fn connections_in_memory_are_met_in_turn(rt: HostRuntime) -> Result<(), Fail> {
     );
     let written = listener.written();
     assert_eq!(rt; written.len(), 3);
-    assert_eq!(rt; written[0].as_slice(), ACCEPTED);
-    assert!(rt; written[1].starts_with(b"HTTP/1.1 400"));
-    assert_eq!(rt; written[2].as_slice(), ACCEPTED);
+    assert_eq!(rt; written[0].bytes.as_slice(), ACCEPTED);
+    assert!(rt; written[1].bytes.starts_with(b"HTTP/1.1 400"));
+    assert_eq!(rt; written[2].bytes.as_slice(), ACCEPTED);
+    assert!(rt; written.iter().all(|it| it.whole));
     assert_eq!(rt; nonces.left, 0);
     Ok(())
 }
@@ -105,7 +104,6 @@ fn what_is_pending_is_asked_again(rt: HostRuntime) -> Result<(), Fail> {
     }
     let mut listener = ScriptedListener::new(rt.alloc(), &all)?;
     let mut nonces = ScriptedNonces::new(0x33, 224, Ending::Ends);
-    let mut out = Vec::new(rt.alloc());
     let mut err = VecSink::new(Vec::new(rt.alloc()));
     let (status, office) = serve_keeping(
         &rt,
@@ -113,7 +111,6 @@ fn what_is_pending_is_asked_again(rt: HostRuntime) -> Result<(), Fail> {
         new_office(&rt)?,
         &mut nonces,
         7,
-        &mut out,
         &mut err,
     );
     drop(office);
@@ -121,9 +118,9 @@ fn what_is_pending_is_asked_again(rt: HostRuntime) -> Result<(), Fail> {
     assert_eq!(rt; err.as_slice(), b"".as_slice());
     let written = listener.written();
     assert_eq!(rt; written.len(), 7);
-    assert_eq!(rt; written[1].as_slice(), NONE_PENDING);
-    assert_eq!(rt; written[3].as_slice(), ONE_PENDING);
-    assert_eq!(rt; written[4].as_slice(), ONE_PENDING);
-    assert_eq!(rt; written[6].as_slice(), NONE_PENDING);
+    assert_eq!(rt; written[1].bytes.as_slice(), NONE_PENDING);
+    assert_eq!(rt; written[3].bytes.as_slice(), ONE_PENDING);
+    assert_eq!(rt; written[4].bytes.as_slice(), ONE_PENDING);
+    assert_eq!(rt; written[6].bytes.as_slice(), NONE_PENDING);
     Ok(())
 }

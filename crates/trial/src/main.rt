@@ -19,6 +19,7 @@ use std::io::{BufWriter, Write};
 use std::process::ExitCode;
 use std::rt::Env;
 use std::{env, fs, io};
+use wire::FromWrite;
 
 /// The status if all exchanges of the file were answered.
 const DONE: u8 = 0;
@@ -37,9 +38,10 @@ fn words_of<R: Env + AllocGlobal>(rt: &R) -> io::Result<Vec<String>> {
 // Applies the exchanges of the file at a path, and prints what they got.
 fn apply_file(rt: &HostRuntime, path: &str) -> Result<(), TrialFault> {
     let file = fs::open(rt, path).map_err(|error| TrialFault::of_file(error.kind()))?;
-    let mut out = BufWriter::new(rt.alloc(), rt.stdout()).map_err(|_| TrialFault::NoMemory)?;
-    let applied = apply_to_trial(rt.alloc(), file, &mut out);
-    let flushed = out.flush().map_err(|_| TrialFault::Write);
+    let out = BufWriter::new(rt.alloc(), rt.stdout()).map_err(|_| TrialFault::NoMemory)?;
+    let mut sink = FromWrite::new(out);
+    let applied = apply_to_trial(rt.alloc(), file, &mut sink);
+    let flushed = sink.into_inner().flush().map_err(|_| TrialFault::Write);
     applied.and(flushed)
 }
 

@@ -2,14 +2,21 @@ use Rattle.std.proofs.Common.{length}
 use Rattle.sqlite.specs.Held.{state}
 use Rattle.store.specs.Meaning.{Tells}
 use Rattle.web.proofs.Lists.{few_parts}
-use Rattle.headline.proofs.Listed.{listed, unwritten_only}
+use Rattle.headline.proofs.Listed.{listed, part_listed, unwritten_only}
 use Rattle.headline.proofs.publish.Goals as goal
 
 pub returns-clause-list : goal.returns-clause-list
 returns-clause-list g c honest =
-    listed c.the_list_is_exact.ensures (Tells (state g.S.Store c.args.store.now.conn)) (λ o l m. m.history.office)
-    c.write_found.result c.in_ok-revoked.revoked (g.W.Sink.taken c.args.sink.now) (g.W.Sink.taken c.write_found.new.sink)
-    (λ o l m. c.in_ok-revoked.ensures.row honest o l m) c.write_found.ensures.fits c.write_found.ensures.ok
+    listed c.the_list_is_exact.ensures (state g.S.Store c.args.store.now.conn) (λ o l m. m.history.office)
+    c.in_ok-revoked.revoked (λ o l m. c.in_ok-revoked.ensures.row honest o l m) (g.W.Sink.taken c.args.sink.now)
+    (g.W.Sink.taken c.write_found.new.sink) c.write_found.result c.write_found.ensures.fits c.write_found.ensures.ok
+
+pub returns-clause-part : goal.returns-clause-part
+returns-clause-part g c honest failed =
+    let it = c.write_found.ensures.part failed in
+    part_listed c.the_list_is_exact.ensures (state g.S.Store c.args.store.now.conn) (λ o l m. m.history.office)
+    c.in_ok-revoked.revoked (λ o l m. c.in_ok-revoked.ensures.row honest o l m) (g.W.Sink.taken c.args.sink.now)
+    (g.W.Sink.taken c.write_found.new.sink) it.0 it.1
 
 pub returns-clause-only : goal.returns-clause-only
 returns-clause-only g c honest =

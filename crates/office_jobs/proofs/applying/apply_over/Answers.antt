@@ -1,6 +1,15 @@
-use Rattle.office_jobs.proofs.Words.{Applies, HasCleanDisk, IsAsBefore, State, ap, state, subst, sym}
+use Rattle.office_jobs.proofs.Words.{Applies, HasCleanDisk, IsAsBefore, State, ap, of_store, state, subst, sym, ◌∙◌}
 use Rattle.office_jobs.proofs.Carried.{applied, before_again, before_open, of_an_office, of_refused_rows}
+use Rattle.office_jobs.proofs.Counted.{of_a_store, uncounted_as}
 use Rattle.office_jobs.proofs.applying.apply_over.Goals as goal
+
+pub returns-in-Ok-clause-failed : goal.returns-in-Ok-clause-failed
+returns-in-Ok-clause-failed g c =
+    c.replay.ensures.failed ∙ sym (c.of_a_run-done.ensures.counts (g.W.Sink.failed c.args.out.now))
+
+pub returns-in-Err-clause-failed : goal.returns-in-Err-clause-failed
+returns-in-Err-clause-failed g c =
+    uncounted_as (Unit {0}) _ (of_store c.in-Err.fault) c.from.result c.from.ensures (of_a_store c.in-Err.fault)
 
 pub returns-in-Ok-clause-applies : goal.returns-in-Ok-clause-applies
 returns-in-Ok-clause-applies g c honest =
@@ -8,15 +17,15 @@ returns-in-Ok-clause-applies g c honest =
     let clean : HasCleanDisk (state g.S.Store c.replay.new.store.conn) = subst HasCleanDisk back honest in
     let run = c.replay in
     subst (λ (s : State). Applies c.args.exchanges.now (state g.S.Store c.args.conn) s
-    (g.W.Write.contents c.args.out.now) (g.W.Write.contents run.new.out) c.of_a_run-done.result) (sym back)
+    (g.W.Sink.taken c.args.out.now) (g.W.Sink.taken run.new.out) c.of_a_run-done.result) (sym back)
     (applied run.result c.of_a_run-done.result
     c.args.exchanges.now (state g.S.Store c.args.conn) (state g.S.Store c.in-Ok.store.conn)
     (state g.S.Store run.new.store.conn)
-    (g.W.Write.contents c.args.out.now) (g.W.Write.contents run.new.out) c.of_a_run-done.ensures
+    (g.W.Sink.taken c.args.out.now) (g.W.Sink.taken run.new.out) c.of_a_run-done.ensures.value
     (c.in-Ok.ensures.opened (run.ensures.honest clean)) (run.ensures.ok clean) (run.ensures.fault clean)
     (run.ensures.write clean)
     (λ e. ap (λ s. state g.S.Store s.conn) (run.ensures.unrun e))
-    (λ e. ap g.W.Write.contents (run.ensures.unprinted e)))
+    (λ e. ap g.W.Sink.taken (run.ensures.unprinted e)))
 
 pub returns-in-Ok-clause-honest : goal.returns-in-Ok-clause-honest
 returns-in-Ok-clause-honest g c = λ honest.

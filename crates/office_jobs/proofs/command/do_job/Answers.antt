@@ -16,6 +16,7 @@ returns-in-Ok-default-clause-runs g c =
           (Takes (g.E.Sink.failed c.args.err.now) (g.E.Sink.failed c.run_job.new.err) (g.E.Sink.taken c.args.err.now)
           (g.E.Sink.taken c.run_job.new.err)) ran.0 c.run_job.result.0 (Ok c.in-Ok-default.status)
           c.in-Ok-default.is-0 (takes_all _ _ _ _ ran.0 ran.1);
+      heeds = c.run_job.ensures.heeds;
     }
 
 pub returns-in-Err-default-clause-runs : goal.returns-in-Err-default-clause-runs
@@ -32,4 +33,5 @@ returns-in-Err-default-clause-runs g c =
           (Err c.in-Err-default.fault) c.in-Err-default.is-0
           (takes_both _ _ _ _ _ _ _ ran.0 _ c.requires.tells (omega arith) c.status_of.ensures.least ran.1
           c.status_of.ensures.told);
+      heeds = c.run_job.ensures.heeds;
     }

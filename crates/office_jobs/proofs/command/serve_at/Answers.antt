@@ -1,6 +1,11 @@
-use Rattle.office_jobs.proofs.Words.{Err, Ok, [], refl}
+use Rattle.office_jobs.proofs.Words.{Err, Ok, [], refl, ℕ}
 use Rattle.office_jobs.proofs.Said.{takes_none}
+use Rattle.office_jobs.proofs.Counted.{heeds_unwritten, of_a_file}
 use Rattle.office_jobs.proofs.command.serve_at.Goals as goal
+
+pub returns-in-Err-clause-heeds : goal.returns-in-Err-clause-heeds
+returns-in-Err-clause-heeds g c =
+    heeds_unwritten ℕ _ _ (g.O.Output.is_flushed c.args.out.now) c.in-Err.fault (of_a_file c.in-Err.fault c.in-Err.ensures.only)
 
 pub returns-in-Ok-clause-serves : goal.returns-in-Ok-clause-serves
 returns-in-Ok-clause-serves g c =

@@ -1,18 +1,18 @@
 use Rattle.std.proofs.Common.{Ok, Err, refl}
 use Rattle.office_jobs.proofs.database_opening.open_there.Goals as goal
 
-pub returns-in-Ok : goal.returns-in-Ok
-returns-in-Ok g c = record {
+pub returns-in-Ok-clause-opens : goal.returns-in-Ok-clause-opens
+returns-in-Ok-clause-opens g c = record {
   first = Ok tt;
   ready = c.has_database.new.self;
-  is_ready = (c.has_database.result, c.has_database.ensures, c.in-Ok.ensures);
-  opened = c.opened.ensures;
+  is_ready = (c.has_database.result, c.has_database.ensures, c.in-Ok.ensures.value);
+  opened = c.opened.ensures.opens;
 }
 
-pub returns-in-Err : goal.returns-in-Err
-returns-in-Err g c = record {
+pub returns-in-Err-clause-opens : goal.returns-in-Err-clause-opens
+returns-in-Err-clause-opens g c = record {
   first = Err c.in-Err.fault;
   ready = c.has_database.new.self;
-  is_ready = (c.has_database.result, c.has_database.ensures, c.in-Err.ensures);
+  is_ready = (c.has_database.result, c.has_database.ensures, c.in-Err.ensures.value);
   opened = (refl, refl);
 }

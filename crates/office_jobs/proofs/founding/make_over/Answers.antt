@@ -2,7 +2,12 @@ use Rattle.office_jobs.proofs.Words.{HasCleanDisk, State, ap, arith, refl, state
 use Rattle.office_jobs.specs.Making.{IsOfficeMade}
 use Rattle.office_jobs.proofs.Unlike.{had_no_office}
 use Rattle.office_jobs.proofs.Made.{unmade}
+use Rattle.office_jobs.specs.Faults.{IsUnwritten}
+use Rattle.office_jobs.proofs.Counted.{of_a_store}
 use Rattle.office_jobs.proofs.founding.make_over.Goals as goal
+
+pub returns-in-Err-clause-unwritten : goal.returns-in-Err-clause-unwritten
+returns-in-Err-clause-unwritten g c = subst IsUnwritten (sym c.from.ensures) (of_a_store c.in-Err.fault)
 
 pub returns-in-Err-clause-makes : goal.returns-in-Err-clause-makes
 returns-in-Err-clause-makes g c = λ clean.

@@ -4,7 +4,12 @@ use Rattle.office_jobs.proofs.Words.{refl, state, subst, sym}
 use Rattle.office.specs.declared.store_fault.StoreFault.TheVariants as store
 use Rattle.office_jobs.specs.Making.{IsMoved, IsUnmoved}
 use Rattle.office_jobs.proofs.Unlike.{had_no_cas}
+use Rattle.office_jobs.specs.Faults.{IsUnwritten}
+use Rattle.office_jobs.proofs.Counted.{of_a_store}
 use Rattle.office_jobs.proofs.migrating.migrate_over.Goals as goal
+
+pub returns-in-Err-clause-unwritten : goal.returns-in-Err-clause-unwritten
+returns-in-Err-clause-unwritten g c = subst IsUnwritten (sym c.from.ensures) (of_a_store c.in-Err.fault)
 
 unmoved : (e : StoreFault) (old new : State) → IsUnmoved old new e → MigratesOffice old new (Err (of_store e))
 unmoved store.NoMemory old new u = u

@@ -1,17 +1,22 @@
-use Rattle.office_jobs.proofs.Words.{HasCleanDisk, Reports, State, ap, refl, state, subst, sym}
+use Rattle.office_jobs.proofs.Words.{HasCleanDisk, Reports, State, ap, of_store, refl, state, subst, sym}
 use Rattle.office_jobs.proofs.Printed.{reports_from, unreported}
 use Rattle.office_jobs.proofs.Carried.{of_an_office, of_refused_rows}
+use Rattle.office_jobs.proofs.Counted.{of_a_store, uncounted_as}
 use Rattle.office_jobs.proofs.reporting.report_over.Goals as goal
+
+pub returns-in-Err-clause-failed : goal.returns-in-Err-clause-failed
+returns-in-Err-clause-failed g c =
+    uncounted_as (Unit {0}) _ (of_store c.in-Err.fault) c.from.result c.from.ensures (of_a_store c.in-Err.fault)
 
 pub returns-in-Ok-clause-reports : goal.returns-in-Ok-clause-reports
 returns-in-Ok-clause-reports g c = λ honest.
     let back = ap (state g.S.Store) c.into_connection.ensures in
     let run = c.report_in-done in
     let clean : HasCleanDisk (state g.S.Store run.new.store.conn) = subst HasCleanDisk back honest in
-    subst (λ (s : State). Reports c.args.report (state g.S.Store c.args.conn) s (g.W.Write.contents c.args.out.now)
-    (g.W.Write.contents run.new.out) run.result) (sym back)
+    subst (λ (s : State). Reports c.args.report (state g.S.Store c.args.conn) s (g.W.Sink.taken c.args.out.now)
+    (g.W.Sink.taken run.new.out) run.result) (sym back)
     (reports_from c.args.report (state g.S.Store c.args.conn) (state g.S.Store c.in-Ok.store.conn)
-    (state g.S.Store run.new.store.conn) (g.W.Write.contents c.args.out.now) (g.W.Write.contents run.new.out) run.result
+    (state g.S.Store run.new.store.conn) (g.W.Sink.taken c.args.out.now) (g.W.Sink.taken run.new.out) run.result
     (c.in-Ok.ensures.opened (run.ensures.honest clean)) (run.ensures.reports clean))
 
 pub returns-in-Err-clause-reports : goal.returns-in-Err-clause-reports

@@ -1,10 +1,15 @@
-use Rattle.office_jobs.proofs.Words.{None, Some, [], refl, state, ℕ}
+use Rattle.office_jobs.proofs.Words.{None, Some, [], of_store, refl, state, ℕ}
 use Rattle.office_jobs.proofs.Carried.{of_an_office, of_refused_rows}
 use Rattle.office_jobs.proofs.Meeting.{served_of, unheard}
 use Rattle.office_jobs.proofs.Said.{OnErr-weaker, said_in, takes_none, takes_same}
 use Rattle.office_jobs.specs.Names.{Takes}
 use Rattle.office_jobs.specs.Whole.{ServesOpen}
+use Rattle.office_jobs.proofs.Counted.{heeds_as, of_a_store}
 use Rattle.office_jobs.proofs.served.serve_at_port.Goals as goal
+
+pub returns-in-Err-clause-heeds : goal.returns-in-Err-clause-heeds
+returns-in-Err-clause-heeds g c =
+    heeds_as ℕ _ _ (g.O.Output.is_flushed c.args.out.now) (of_store c.in-Err.fault) c.from.result c.from.ensures (of_a_store c.in-Err.fault)
 
 pub returns-in-Ok-clause-serves : goal.returns-in-Ok-clause-serves
 returns-in-Ok-clause-serves g c =
@@ -13,7 +18,7 @@ returns-in-Ok-clause-serves g c =
     (Takes (g.E.Sink.failed c.args.err.now) (g.E.Sink.failed run.new.err) (g.E.Sink.taken c.args.err.now)
     (g.E.Sink.taken run.new.err))
     (λ said. ServesOpen g.S.Store g.W.World g.W.Incoming.Listener.book c.args.port c.args.connections
-    (g.W.File.Read.remaining c.args.nonces) (g.O.Write.contents c.args.out.now) (g.O.Write.contents run.new.out) said
+    (g.W.File.Read.remaining c.args.nonces) (g.O.Sink.taken c.args.out.now) (g.O.Sink.taken run.new.out) said
     c.args.world.now run.new.world c.in-Ok.store.conn run.result.1 run.result.0) run.ensures.ok run.ensures.err
     (OnErr-weaker run.result.0
     (λ same. takes_same g.E.Sink.failed g.E.Sink.taken c.args.err.now run.new.err same) run.ensures.quiet) in (
@@ -24,8 +29,8 @@ returns-in-Ok-clause-serves g c =
         listened = it.2.listened;
         serves = served_of c.args.connections (g.W.File.Read.remaining c.args.nonces)
             g.W.Incoming.Listener.book it.2.heard it.0 (state g.S.Store c.args.conn)
-            (state g.S.Store c.in-Ok.store.conn) (state g.S.Store run.result.1) (g.O.Write.contents c.args.out.now)
-            (g.O.Write.contents run.new.out) run.result.0 (λ clean. (c.in-Ok.ensures.opened (run.ensures.honest clean)).before)
+            (state g.S.Store c.in-Ok.store.conn) (state g.S.Store run.result.1) (g.O.Sink.taken c.args.out.now)
+            (g.O.Sink.taken run.new.out) run.result.0 (λ clean. (c.in-Ok.ensures.opened (run.ensures.honest clean)).before)
             (λ clean. (c.in-Ok.ensures.opened (run.ensures.honest clean)).tells) it.2.serves;
       },
     )
@@ -41,7 +46,7 @@ returns-in-Err-clause-serves g c = (
     heard = None;
     listened = refl;
     serves = unheard c.args.connections (g.W.File.Read.remaining c.args.nonces) (state g.S.Store c.args.conn)
-        (state g.S.Store c.in-Err.conn) (g.O.Write.contents c.args.out.now) (g.O.Write.contents c.args.out.now)
+        (state g.S.Store c.in-Err.conn) (g.O.Sink.taken c.args.out.now) (g.O.Sink.taken c.args.out.now)
         c.in-Err.fault c.from.result c.from.ensures c.in-Err.ensures.unopened refl;
   },
 )

@@ -18,9 +18,8 @@ returns-in-Ok-print_port-clause-ok g c =
         listened = c.in-Ok.ensures;
         serves = served_at c.args.connections c.in-Ok.at run.result.0 _ _
             (g.W.File.Read.remaining c.args.nonces) _ _ it.0 (state g.S.Store c.args.store.conn)
-            (state g.S.Store run.result.1) (g.O.Write.contents c.args.out.now)
-            (g.O.Write.contents c.print_port.new.out) (g.O.Write.contents run.new.out) c.in-Ok-print_port.ensures.ok
-            (ap g.O.Write.contents run.ensures.quiet) c.new-source.ensures.remaining it.2
+            (state g.S.Store run.result.1) (g.O.Sink.taken c.args.out.now)
+            (g.O.Sink.taken c.print_port.new.out) c.in-Ok-print_port.ensures.ok c.new-source.ensures.remaining it.2
             (λ failed. ap (state g.S.Store) (run.ensures.unmet failed)) it.3 run.ensures.served
             run.ensures.status;
       },

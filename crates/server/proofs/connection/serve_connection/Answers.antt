@@ -5,14 +5,14 @@ pub returns-in-Ok-served-clause-visit : goal.returns-in-Ok-served-clause-visit
 returns-in-Ok-served-clause-visit g c =
     let by = c.serve_one-served in
     answered_visit _ _ g.S.Registry g.L.Writer.Sink.taken _ _ _ _ _ by.new.writer c.args.store.now by.new.registry _ _ _ _
-    c.in-Ok.ensures.lawful c.in-Ok.ensures.ok c.end.ensures _ _ by.result c.in-Ok-served.is by.ensures.ok
+    c.in-Ok.ensures.lawful c.in-Ok.ensures.ok _ _ by.result c.in-Ok-served.is by.ensures.ok c.end.ensures
 
 pub returns-in-Err-served-clause-visit : goal.returns-in-Err-served-clause-visit
 returns-in-Err-served-clause-visit g c =
     let by = c.serve_one-served in
     failed_visit _ _ g.S.Registry g.L.Writer.Sink.taken _ _ _ _ _ by.new.writer c.args.store.now by.new.registry _ _ _ _
-    c.in-Ok.ensures.lawful c.in-Ok.ensures.ok c.end.ensures _ by.result c.in-Err-served.is by.ensures.write
-    by.ensures.unwritten by.ensures.unchanged by.ensures.drawn by.ensures.before
+    c.in-Ok.ensures.lawful c.in-Ok.ensures.ok _ by.result c.in-Err-served.is by.ensures.write
+    by.ensures.unwritten by.ensures.unchanged by.ensures.drawn by.ensures.before c.end-in-Err-served.ensures
 
 pub returns-in-Err-clause-visit : goal.returns-in-Err-clause-visit
 returns-in-Err-clause-visit g c = unaccepted_visit _ _ _ _ g.S.Registry _

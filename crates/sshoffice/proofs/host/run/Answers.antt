@@ -1,6 +1,7 @@
 use Rattle.std.proofs.Common.{sym}
 use Rattle.std.specs.Prelude.{map, string_bytes}
 use Rattle.sqlite_wal.specs.Files.{image_at}
+use Rattle.office_jobs.specs.Ending.{Heeds}
 use Rattle.office_jobs.specs.Names.{Takes}
 use Rattle.sshoffice.proofs.Kept.{files_end, files_found, files_keep}
 use Rattle.sshoffice.proofs.Once.{given_back}
@@ -33,8 +34,10 @@ returns-clause-files g c =
       tests = λ w w' o l r same. same;
     }) c.new-host.result c.do_words-status.new.world (image_at g.S.Start) c.args.start (λ host. host.files)
     (λ before after path found opened. opened) (λ between after last closing closed. closed) c.new-host.ensures
-    (map string_bytes c.args.words.now) (g.O.Write.contents c.args.out)
-    (g.O.Write.contents c.do_words-status.result.1)
+    (map string_bytes c.args.words.now) (g.O.Sink.taken c.args.out)
+    (g.O.Sink.taken c.do_words-status.result.1)
     (Takes (g.E.Sink.failed c.args.err.now) (g.E.Sink.failed c.do_words-status.new.err)
-    (g.E.Sink.taken c.args.err.now) (g.E.Sink.taken c.do_words-status.new.err)) c.do_words-status.result.0
+    (g.E.Sink.taken c.args.err.now) (g.E.Sink.taken c.do_words-status.new.err))
+    (Heeds (g.O.Sink.failed c.args.out) (g.O.Sink.failed c.do_words-status.result.1)
+    (g.O.Output.is_flushed c.do_words-status.result.1)) c.do_words-status.result.0
     c.do_words-status.ensures.runs c.into_files.result c.into_files.ensures
