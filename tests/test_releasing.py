@@ -109,6 +109,17 @@ def test_the_time_in_a_release_is_that_of_its_changelog(release):
         run(["date", "-u", "-d", f"@{due}", "+%FT%TZ"]).stdout.decode().strip())
 
 
+def test_each_package_has_the_pages_to_which_its_own_page_leads(release):
+    """Readable as they are, and byte for byte those of docs."""
+    due = {it: TOP / "docs" / it for it in ("DRILLS.md", "GLOSSARY.md", "INSTALLING.md", "OPERATING.md")}
+    for name, file in release.items():
+        if name.endswith(".deb"):
+            files = run(["dpkg-deb", "--fsys-tarfile", file], check=True).stdout
+            for page, source in due.items():
+                path = f"./usr/share/doc/{name.partition('_')[0]}/{page}"
+                assert source.read_bytes() == run(["tar", "-xO", path], input=files, stdin=None).stdout, path
+
+
 @pytest.mark.parametrize("name", ["sshoffice", "sshstation"])
 def test_linking_twice_gives_the_same_program(program, sshstation, room, name):
     """Of each object file that was compiled, by whichever compiler, in two folders and at two times. The built program

@@ -76,7 +76,7 @@ class Client:
 
     def kept(self):
         """The files of the messages that are kept."""
-        return sorted(it for it in self.outbox.iterdir() if not it.suffix) if self.outbox.exists() else []
+        return sorted(it for it in self.outbox.iterdir() if "." not in it.name) if self.outbox.exists() else []
 
 
 @pytest.fixture
