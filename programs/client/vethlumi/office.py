@@ -101,13 +101,13 @@ def addresses(host, port, *_):
     return [it for address in found for it in look_up(address, flags=socket.AI_NUMERICHOST)]
 
 
-class Office:
-    """An office behind its front, or without one. What takes long ends at a time of time.monotonic."""
+class Server:
+    """A server that may answer what it likes. What takes long ends at a time of time.monotonic."""
 
-    def __init__(self, settings, ends):
-        # By this name the library looks for the office's addresses.
+    def __init__(self, url, ends, certificate=None, cacert=None):
+        # By this name the library looks for the server's addresses.
         socket.getaddrinfo = addresses
-        self.url, self.caller, self.ends = settings.url(), settings.caller, ends
+        self.url, self.ends = url, ends
         self.session = requests.Session()
         # Neither proxies nor passwords come from the environment.
         self.session.trust_env = False
@@ -115,29 +115,30 @@ class Office:
         self.session.get_redirect_target = lambda answer: None
         self.session.cookies.set_policy(http.cookiejar.DefaultCookiePolicy(allowed_domains=[]))
         self.session.headers = {"Accept-Encoding": "identity", "User-Agent": "vethlumi"}
-        self.session.cert = settings.file("certificate")
-        self.session.verify = settings.file("cacert") or True
+        self.session.cert = certificate
+        self.session.verify = cacert or True
 
     def time_left(self, most):
         """How many seconds the next answer may take, of at most so many."""
         return min(most, max(self.ends - time.monotonic(), LAST_REQUEST))
 
-    def ask(self, method, path, data=None, longest=LONGEST_ANSWER):
-        """What the office answers, whole. Of an answer that isn't 200 the beginning will do."""
+    def ask(self, method, path, data=None, longest=LONGEST_ANSWER, fields=None):
+        """What the server answers, whole. Of an answer that isn't 200 the beginning will do. `fields` are further ones
+        of the request's head."""
         # A long page may take as long as there is time.
         seconds = self.time_left(float("inf") if longest > LONGEST_ANSWER else LONGEST_REQUEST)
         try:
-            return at_most(seconds, lambda: self.answered(method, path, data, longest))
+            return at_most(seconds, lambda: self.answered(method, path, data, longest, fields))
         except NoAnswer:
             raise
         except Exception as fault:
             # Whatever the library makes of an answer, a ValueError too, is a fault of that answer.
             raise NoAnswer(f"{self.url}: {root_of(fault)}") from None
 
-    def answered(self, method, path, data, longest):
+    def answered(self, method, path, data, longest, fields):
         file = tempfile.SpooledTemporaryFile(MOST_IN_MEMORY) if longest > LONGEST_LIST else io.BytesIO()
         with self.session.request(method, f"{self.url}{path}", data=data, timeout=PATIENCE, stream=True,
-                                  allow_redirects=False) as answer:
+                                  allow_redirects=False, headers=fields) as answer:
             is_page = answer.status_code == 200
             longest = longest if is_page else LONGEST_ANSWER
             if answer.headers.get("content-encoding", "identity").lower() != "identity":
@@ -172,6 +173,14 @@ class Office:
             return read(found)
         except (BadFormat, ValueError) as fault:
             raise NoAnswer(f"{path}: what came is no page that an office gives: {fault}", None) from None
+
+
+class Office(Server):
+    """An office behind its front, or without one."""
+
+    def __init__(self, settings, ends):
+        super().__init__(settings.url(), ends, settings.file("certificate"), settings.file("cacert"))
+        self.caller = settings.caller
 
     def post(self, kept):
         """The reply to a message of the outbox, as words: `issued 1` and its digest are four."""

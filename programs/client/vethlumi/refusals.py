@@ -8,7 +8,7 @@ import tomllib
 REFUSALS = {int(number): it for number, it in tomllib.loads(
     importlib.resources.files("vethlumi").joinpath("refusals.toml").read_text(encoding="utf-8")).items()}
 LINE = re.compile(r"refused (\d{1,9}) ([A-Za-z]+)\n", re.ASCII)
-REDIRECT = "this is a redirect, which isn't followed: check `office` in the settings"
+REDIRECT = "this is a redirect, which isn't followed: check the URL in the settings"
 
 
 class Refused(Exception):
