@@ -12,7 +12,7 @@ import subprocess
 import time
 import urllib.parse
 
-from vethlumi import formats, lists
+from vethlumi import formats, lists, signon
 from vethlumi.formats import BadFormat, Certificate
 from vethlumi.office import LONGEST_ANSWER, LONGEST_LIST, NoAnswer, at_most
 from vethlumi.refusals import Refused
@@ -119,9 +119,11 @@ def office_findings(job, within):
 
 def settings_of(*words):
     """What `sshd -T` or `ssh -G` prints, as a dictionary; None where it isn't here or this user may not ask."""
+    # Without an agent, nobody has to log in before ssh says it.
+    environment = {name: value for name, value in os.environ.items() if name != "SSH_AUTH_SOCK"}
     try:
-        done = subprocess.run(words, capture_output=True, text=True, timeout=10,
-                              env=os.environ | {"PATH": f"{os.environ.get('PATH', '')}:/usr/sbin:/sbin"})
+        done = subprocess.run(words, stdin=subprocess.DEVNULL, capture_output=True, text=True, timeout=10,
+                              env=environment | {"PATH": f"{os.environ.get('PATH', '')}:/usr/sbin:/sbin"})
     except (OSError, subprocess.TimeoutExpired):
         return None
     found = {name: value for name, _, value in (line.partition(" ") for line in done.stdout.splitlines())}
@@ -214,6 +216,18 @@ def local_findings(within):
     return found
 
 
+def login_findings(settings):
+    """The certificates of logins that ssh-agent has, if people log in here."""
+    if not settings.provider:
+        return []
+    try:
+        found = signon.present(settings.needed("department"), signon.believed_cas(settings), time.time(), 0)
+    except BadSettings as fault:
+        return [Finding("bad", "login", str(fault), "check the settings, and that ssh-agent runs")]
+    return [ok("login", f"{it.key_id} until {formats.date(it.before)}") for it in found] or [
+        ok("login", "no certificate now: vethlumi login")]
+
+
 def findings(job, within, krl, fresh):
     """All that was looked at."""
     try:
@@ -221,4 +235,4 @@ def findings(job, within, krl, fresh):
     except BadSettings as fault:
         return [Finding("bad", "settings", str(fault), "")]
     return [*front_findings(job, within), *clock_finding(job), *office_findings(job, within),
-            *ssh_findings(job, krl, fresh), *local_findings(within)]
+            *ssh_findings(job, krl, fresh), *local_findings(within), *login_findings(job.settings)]

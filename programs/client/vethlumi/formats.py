@@ -228,6 +228,21 @@ class Certificate:
         }
 
 
+def signed_parts(data):
+    """The part of a certificate's bytes that is signed, and the Ed25519 signature, of 64 bytes."""
+    it = Reader(data)
+    # Type, nonce and key; serial and kind; key ID and principals; validity; options, extensions, a reserved text, CA.
+    for length in (0, 0, 0, 8, 4, 0, 0, 8, 8, 0, 0, 0, 0):
+        it.take(length) if length else it.string()
+    body, signature = bytes(it.data[:it.at]), Reader(it.string())
+    if signature.string() != b"ssh-ed25519":
+        raise BadFormat("the signature isn't an Ed25519 key's")
+    found = signature.string()
+    if not (it.is_at_end() and signature.is_at_end()):
+        raise BadFormat("something follows the signature")
+    return body, found
+
+
 def certificate_line(data):
     """The line of a certificate, which is text that steers no terminal."""
     line = data.decode("ascii", "replace")
