@@ -16,7 +16,7 @@ import sys
 import time
 import traceback
 
-from vethlumi import certificates, departments, login, reports, revocations  # noqa: F401
+from vethlumi import certificates, departments, login, people, reports, revocations  # noqa: F401
 from vethlumi.cli import main
 
 # Bytes of addresses, of which some are never used.
