@@ -71,7 +71,7 @@ class Machine:
         self.web.answer = response("".join(f"{self.keys[it]}\n" for it in cas).encode())
 
     def given(self, named, **more):
-        return argparse.Namespace(yes=True, ca=[self.names[it] for it in named], unsigned=False, **more)
+        return argparse.Namespace(yes=True, ca=[self.names[it] for it in named], unsigned=False, provider=None, **more)
 
     def parts(self, before):
         return {"ca": "".join(f"{self.keys[it]} {it}\n" for it in before), "authority": "the authority\n"}
