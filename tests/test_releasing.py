@@ -192,7 +192,8 @@ def test_the_list_of_parts_has_what_each_package_depends_on(release):
             due = {*re.findall(r"(?:^|[,|]) *([a-z0-9.+-]+)", depends)}
             assert due == {components[it]["name"] for it in needs[ref]} - {"sshoffice", "sshstation"}, name
     wheel, = [it for it in components if it.startswith("pkg:generic/")]
-    assert {"click", "platformdirs", "requests", "rich"} == {components[it]["name"] for it in needs[wheel]}
+    due = {"click", "cryptography", "platformdirs", "requests", "rich"}
+    assert due == {components[it]["name"] for it in needs[wheel]}
 
 
 def test_the_list_of_parts_has_the_programs_in_their_packages(release):
