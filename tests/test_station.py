@@ -1649,17 +1649,20 @@ def test_an_agent_that_hangs_delays_and_loses_nothing(make_office, sshstation, p
     new_key("ca")
     guard = new_guard(sshstation, make_office(ca=(room / "ca.pub").read_text()), policy=WEB)
     blob = blob_of((room / "ca.pub").read_text())
-    with FalseOffice({1: body(ca=blob)}) as web, socket.socket(socket.AF_UNIX) as hung:
+    bodies = {serial: body(serial, ca=blob) for serial in range(1, 6)}
+    with FalseOffice(bodies) as web, socket.socket(socket.AF_UNIX) as hung:
         hung.bind(str(room / "agent"))
         hung.listen(8)
         station = Station(guard, web.url, ["--agent", "ca.pub"])
         station.change("LONGEST_READING = 20, 60, 30, 120, 60", "LONGEST_READING = 20, 60, 2, 120, 60")
         process = station.begin(programs, env=station.environment | {"SSH_AUTH_SOCK": str(room / "agent")})
-        assert b"station: not signed: 1, not within 2 seconds: 1\n" == next_line(process.stderr)
+        # It hangs once in a round, however many wait for it.
+        assert re.match(rb"station: not signed: [1-5], not within 2 seconds: 1", next_line(process.stderr))
         (room / "agent").unlink()
         agent = begin_agent(programs, room / "agent")
         run(["ssh-add", "-q", "ca"], env=os.environ | agent, check=True)
-        assert b"signed 1\n" == process.stdout.readline()
+        lines = sorted(process.stdout.readline() for _ in bodies)
+        assert [f"signed {serial}\n".encode() for serial in bodies] == lines
         assert 0 == stopped(process)[0]
 
 
