@@ -192,6 +192,15 @@ def test_it_says_that_a_key_id_ends_before_it_asks(clients, served, alice):
     assert "answer n" not in root("revoke", "web/zoe")[2] and "web/zoe can never be" in root("revoke", "web/zoe")[2]
 
 
+def test_it_counts_what_can_still_be_used(clients, served, alice):
+    key = " ".join(alice.read_text().split()[:2])
+    for name, message in (("one", issue("web/alice", key=key)), ("two", issue("web/alice", key=key)),
+                          ("revoke", "revoke-serial 2\n")):
+        assert 200 == served.post("ana", name, message).status
+    for what, counts in (("1-2", "2 certificates, 1 of"), ("2", "1 certificate, 0 of"), ("3", "0 certificates, 0 of")):
+        assert f"Revoke {counts} which can still be used?" in clients["root"]("revoke", what)[2]
+
+
 def test_what_a_revoked_certificate_leaves_and_a_revoked_key_id_does_not(clients, alice):
     """The office's own answers: what the command says is so."""
     root, ana = clients["root"], clients["ana"]
@@ -265,6 +274,22 @@ def test_no_answer_keeps_the_message(clients, front, alice):
     assert [{"id": kept.name, "message": "revoke-keyid web/alice\n", "reply": ""}] == ana.json("outbox")
     assert (0, f"{kept.name}  revoke-keyid web/alice  revoked version 1\n", "") == ana("outbox", "--send")
     assert [] == ana.kept() and (0, "the outbox is empty\n", "") == ana("outbox")
+
+
+def test_another_lifetime_is_another_message(clients, front, alice):
+    """Whoever asks for two hours isn't sent the hour that got no answer before."""
+    ana = clients["ana"]
+    front.end()
+    for life in ("1h", "2h", "1h"):
+        assert 3 == ana("--wait", "1", "request", "web/alice", alice, "--life", life)[0]
+    moments = [re.findall(r"^(?:after|before) (\d+)$", it.read_text(), re.M) for it in ana.kept()]
+    assert [3600, 7200] == sorted(int(before) - int(after) for after, before in moments)
+
+
+def test_everybody_may_read_a_certificate(clients, signed, room):
+    """sshd, another user, and a host's own programs: whatever the umask of whoever asks for it."""
+    assert 0 == clients["ana"]("get", "1", "--out", "got")[0]
+    assert [0o644] * 2 == [it.stat().st_mode & 0o777 for it in (room / "got", signed)]
 
 
 def test_a_message_can_be_given_up(clients, front, alice):
