@@ -5,10 +5,11 @@ import argparse
 import collections
 import os
 import re
+import shutil
 
 import pytest
 
-from running import TOP, loaded, run
+from running import PROGRAMS, TOP, loaded, run
 
 HOST, BEFORE, NAME = "db.example.org", "db-example-org", "host-db-example-org"
 
@@ -130,3 +131,38 @@ def test_nobody_else_gets_the_earlier_name_of_a_server(setting, words):
     with pytest.raises(setting.fault, match="is another one's already"):
         setting(*words)
     assert old == (setting.folder / f"{BEFORE}.pem").read_text()
+
+
+def test_others_read_no_private_key_of_the_front(room, monkeypatch):
+    """Of all that it copies for nginx only the user of the front may read anything."""
+    front = loaded(TOP / "programs/setup/vethlumi-front-setup")
+    (room / "front").mkdir()
+    monkeypatch.setattr(front, "FRONT", room / "front")
+    monkeypatch.setattr(front, "clash", lambda port: "")
+    monkeypatch.setattr(front.setting_up.Steps, "units", lambda *_: None)
+    # Nobody but root gives files to another user.
+    monkeypatch.setattr(os, "getuid", lambda: 1000)
+    shutil.copy(PROGRAMS / "front/nginx.conf", room / "front")
+    run([PROGRAMS / "front/authority", "new", room / "authority", "front.example.org"], check=True)
+    given = argparse.Namespace(port=None, yes=True)
+    steps = front.setting_up.Steps(given, "vethlumi-front-setup")
+    front.front_steps(given, steps, room / "authority")
+    steps.carry_out()
+    modes = {it.name: it.stat().st_mode & 0o777 for it in (room / "front").iterdir()}
+    assert {"server.key": 0o640, "server.crt": 0o640, "ca.crt": 0o640, "crl.pem": 0o640} == {
+        name: mode for name, mode in modes.items() if name != "nginx.conf"}
+
+
+def test_others_read_no_private_key_of_a_caller(room):
+    """However the umask is, and also if a file of another mode is there."""
+    common = loaded(TOP / "programs/setup/setting_up.py")
+    pem = "".join(f"-----BEGIN {it}-----\nAAAA\n-----END {it}-----\n" for it in ("PRIVATE KEY", "CERTIFICATE"))
+    (room / "bundle").write_text(common.bundle(office="https://a:8443", caller="ana", certificate=pem, authority="b\n"))
+    words = [PROGRAMS / "setup/vethlumi-client-setup", "--yes", room / "bundle"]
+    file = room / "home/.config/vethlumi/ana.pem"
+    file.parent.mkdir(parents=True)
+    for mode in (None, 0o644):
+        if mode:
+            file.chmod(mode)
+        run(words, check=True, env=os.environ | {"HOME": str(room / "home")}, umask=0)
+        assert (pem, 0o600) == (file.read_text(), file.stat().st_mode & 0o777)
