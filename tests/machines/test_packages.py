@@ -1992,7 +1992,7 @@ def test_the_page_has_at_most_twelve_commands():
 def recording():
     """What the page shows of what is printed: the commands, with the machine and what is typed next, and the other
     lines in their order, without what was cut."""
-    shown, = re.findall(r"^```text\n(.*?)^```$", PAGE.read_text(), re.M | re.S)
+    shown, = re.findall(r"^```text\n(admin\$ .*?)^```$", PAGE.read_text(), re.M | re.S)
     lines = shown.replace("\\\n> ", " ").splitlines()
     prompts = [re.fullmatch(r"(admin)\$ (.*)|(client)# (.*)", it) for it in lines]
     commands_ = [(it[1] or it[3], it[2] or it[4]) for it in prompts if it]
