@@ -137,6 +137,7 @@ def test_the_user_who_reads_the_network_becomes_no_ca(attacked, flooded):
     for command in ("cat /srv/mallory-ca.pub >cas.pub", "cat /srv/mallory-ca.pub >>cas.pub",
                     "ln -sf /srv/mallory-ca.pub cas.pub", "rm cas.pub; mkfifo cas.pub", "rm cas.pub; mkdir cas.pub"):
         server.run(f"runuser -u office-list -- sh -c 'cd /var/lib/office-list; {command}'")
+        assert [False, False] == ["granted" in attacked.login("mallory", it) for it in ("root", "alice")], command
         # What root does every ten minutes, and what set-up does.
         server.run("timeout 60 trust-cas --named /etc/vethlumi/ca-fingerprints /var/lib/office-list/cas.pub "
                    "/etc/vethlumi/trusted-cas || [ $? -eq 1 ]; timeout 120 systemctl restart office-ca-keys || true")
