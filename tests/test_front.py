@@ -267,6 +267,17 @@ def forget(front):
     front.recorder.requests.clear()
 
 
+def test_what_a_client_that_leaves_has_asked_is_finished(recorded, monkeypatch):
+    """The office has the message by then, and no answer of its is cut off."""
+    forget(recorded)
+    monkeypatch.setattr(recorded.recorder, "seconds", 1)
+    with recorded.connect("ana") as peer:
+        peer.sendall(posting("/v1/requests/leaves"))
+        until(lambda: recorded.recorder.requests)
+    line = '"POST /v1/requests/leaves HTTP/1.1" 200 office=200 '
+    until(lambda: line in (recorded.state / "asked.log").read_text(errors="replace"))
+
+
 def test_a_body_that_ends_early(recorded):
     forget(recorded)
     with recorded.connect("ana") as peer:
