@@ -109,6 +109,15 @@ def test_the_time_in_a_release_is_that_of_its_changelog(release):
         run(["date", "-u", "-d", f"@{due}", "+%FT%TZ"]).stdout.decode().strip())
 
 
+def test_the_changelog_has_the_version_of_the_packages():
+    """As its newest one, of the same day."""
+    version, date = re.search(r"^vethlumi \((.*?)\)[^\0]*?^ -- .*>  (.*)$", (TOP / "debian/changelog").read_text(),
+                              re.M).groups()
+    day = run(["date", "-u", "-d", date, "+%F"], check=True).stdout.decode().strip()
+    headings = re.findall(r"^## (.*)$", (TOP / "CHANGELOG.md").read_text(), re.M)
+    assert f"{version} - {day}" == next(it for it in headings if it != "Unreleased")
+
+
 def test_each_package_has_the_pages_to_which_its_own_page_leads(release):
     """Readable as they are, and byte for byte those of docs."""
     due = {it: TOP / "docs" / it for it in ("DRILLS.md", "GLOSSARY.md", "INSTALLING.md", "OPERATING.md")}
