@@ -15,6 +15,9 @@ import pytest
 from releasing import copy_sources, packed, stand_ins
 from running import TOP, left_out, loaded, run
 
+# The first test also waits until ./package has ended.
+pytestmark = pytest.mark.timeout(900)
+
 VERSION = "1.0.0"
 WHEEL = f"vethlumi-{VERSION}-py3-none-any.whl"
 BILL = f"vethlumi_{VERSION}.cdx.json"

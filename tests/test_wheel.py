@@ -12,9 +12,12 @@ import sys
 
 import pytest
 
-from asking import department, issue
+from asking import department
 from releasing import copy_sources, packed, stand_ins
 from running import PROGRAMS, TOP, left_out, run
+
+# The first test also waits until ./package has ended.
+pytestmark = pytest.mark.timeout(900)
 
 NATIVE = "/usr/bin/python3"
 # Nothing of Debian's is found by its name.
