@@ -24,12 +24,14 @@ import pytest
 
 import boxes
 import pages
+import providers
+from asking import department
 from lists import published
 from releasing import packed
 from running import PROGRAMS, TOP, command, left_out, loaded, run
 
 PAGE = TOP / "docs/INSTALLING.md"
-NAMES = ["vethlumi-office", "vethlumi-front", "vethlumi-station", "vethlumi-client"]
+NAMES = ["vethlumi-office", "vethlumi-front", "vethlumi-station", "vethlumi-client", "vethlumi-registrar"]
 MACHINES = ("station", "office", "server", "client")
 # The one on which the page begins, which has the packages.
 ADMIN = "admin"
@@ -229,8 +231,8 @@ def test_each_command_has_a_manual_page_with_its_options(unpacked):
 
 def help_of(unpacked, command, *words):
     environment = os.environ | {"PYTHONPATH": str(unpacked / "usr/lib/python3/dist-packages"), "COLUMNS": "80"}
-    # The client itself looks only where its package would be.
-    python = ["/usr/bin/python3", "-B"] if command.name == "vethlumi" else []
+    # These look only where their packages would be.
+    python = ["/usr/bin/python3", "-B"] if command.name in ("vethlumi", "vethlumi-registrar") else []
     return run([*python, command, *words, "--help"], env=environment, check=True).stdout.decode()
 
 
@@ -257,6 +259,7 @@ printf '%s\\n' "${{COMPREPLY[@]}}"
     ("vethlumi depart", ["department"]), ("vethlumi request --princ", ["--principals"]),
     ("vethlumi krl --ch", ["--check"]), ("vethlumi metr", ["metrics"]),
     ("vethlumi-install serv", ["server"]), ("vethlumi-install office --stat", ["--station"]),
+    ("vethlumi-registrar che", ["check"]), ("vethlumi-registrar serve --po", ["--port"]),
 ])
 def test_bash_completes(unpacked, words, due):
     name = words.split()[0]
@@ -1838,7 +1841,7 @@ def test_what_is_not_installed(installing, words, answers, why):
 # What ours depend on, and the folder in which apt has it.
 ARCHIVES = "var/cache/apt/archives"
 NEEDED = """python3-click python3-rich nginx curl sqlite3 openssl logrotate openssh-client python3-requests
-python3-cryptography python3-platformdirs""".split()
+python3-cryptography python3-jwt python3-platformdirs python3-waitress""".split()
 FETCH = """set -e
 mount --make-rprivate /
 mount -t tmpfs -o mode=755 room "$2"
@@ -2400,7 +2403,7 @@ def test_an_upgrade_keeps_all_and_a_purge_keeps_databases_and_keys(base, package
         assert 2 == config["front/nginx.conf"].count(b"9443")
         solo.run("apt-get install -y -qq ./*_1.0.0_*.deb >/dev/null", timeout=400)
         assert config == files_of(solo.files / "etc/vethlumi")
-        assert ["1.0.0"] * 4 == solo.says(f"dpkg-query -W -f '${{Version}}\\n' {' '.join(NAMES)}").split()
+        assert ["1.0.0"] * len(NAMES) == solo.says(f"dpkg-query -W -f '${{Version}}\\n' {' '.join(NAMES)}").split()
         boxes.wait_until(lambda: 0 == solo.run("vethlumi status", False).returncode, "the office answers again")
         solo.run(request.format("after"), timeout=120)
         # A timer may have started one of them while the office was restarted.
@@ -2430,6 +2433,93 @@ def purge(solo):
                      "no unit is left")
 
 
+# ---- single sign-on, on one machine that has all packages
+
+SIGN_ON = """set -e
+apt-get update -qq
+apt-get install -y -qq ./*_1.0.0_*.deb >/dev/null
+vethlumi-station-setup --policy policy --yes
+vethlumi-front-setup --caller registrar --yes solo.example.org
+vethlumi-office-setup --yes /etc/vethlumi/station/first.office
+vethlumi-station-setup --yes /var/lib/vethlumi-authority/station.bundle
+systemd-run -q -d --unit provider /usr/bin/python3 -m http.server --bind 127.0.0.1 --directory /srv/provider 9000
+vethlumi-registrar-setup --yes settings.toml /var/lib/vethlumi-authority/registrar.bundle
+"""
+ISSUER = "http://127.0.0.1:9000"
+OF_SIGN_ON = f"""[provider.corp]
+issuer = "{ISSUER}"
+client_id = "vethlumi"
+algorithms = ["ES256"]
+name = "preferred_username"
+
+[department.people]
+provider = "corp"
+life = "10h"
+principals = ["{{name}}@people"]
+"""
+ASK = "curl -sS --cacert /etc/vethlumi/registrar/ca.crt https://solo.example.org:8443/v1/"
+
+
+def log_in(solo, key):
+    """What the front says to a login whose token is signed by this key: the same each time."""
+    line, now = providers.key_line(bytes(range(32))), int(time.time())
+    if not (solo.files / "root/login.json").exists():
+        token = providers.signed({
+            "iss": ISSUER, "sub": "1", "aud": "vethlumi", "exp": now + 600, "iat": now, "preferred_username": "ana",
+            "nonce": providers.nonce_of(line)}, key)
+        solo.write("root/login.json", json.dumps({"department": "people", "token": token, "public_key": line}))
+    return solo.says(f"{ASK}login -d @login.json")
+
+
+@marked(*on_boxes)
+def test_people_log_in_at_a_registrar_from_its_package(base, packages, tmp_path):
+    fleet = Fleet(tmp_path, base, packages)
+    with contextlib.closing(fleet):
+        solo, = fleet.add("solo")
+        for name in NAMES:
+            shutil.copy(of(packages, name), solo.files / "root")
+        key = providers.new_key()
+        solo.write("srv/provider/.well-known/openid-configuration", json.dumps(
+            {"issuer": ISSUER, "jwks_uri": f"{ISSUER}/keys"}))
+        solo.write("srv/provider/keys", json.dumps({"keys": [providers.public(key)]}))
+        solo.write("root/policy", department("people", admins="registrar", principals="*@people", maxlife=36060))
+        solo.write("root/settings.toml", OF_SIGN_ON)
+        told = solo.run(SIGN_ON, timeout=400).stdout
+        assert "start vethlumi-registrar.socket and vethlumi-registrar.service, now and at each boot" in told
+        boxes.wait_until(lambda: json.loads(log_in(solo, key)).get("certificate"), "the station has signed")
+        found = json.loads(log_in(solo, key))
+        assert 1 == found["serial"] and found["certificate"].split(" ")[2].startswith("people/ana/")
+        # It is away for a moment, and goes on without a file of its own.
+        solo.run("systemctl kill -s KILL vethlumi-registrar")
+        boxes.wait_until(lambda: found == json.loads(log_in(solo, key)), "the registrar serves again")
+        look_at_the_sandbox(solo)
+        # Settings that can't be used change nothing.
+        solo.write("root/bad.toml", OF_SIGN_ON.replace('"10h"', '"10x"'))
+        bad = solo.run("vethlumi-registrar-setup --yes bad.toml", False)
+        assert (1, True) == (bad.returncode, "bad.toml: BadTime: line 9: department.people.life: " in bad.stdout)
+        told = solo.run("vethlumi-registrar-setup --yes settings.toml").stdout
+        assert "everything is as it should be" in told
+        told = solo.run("sed -i s/10h/9h/ settings.toml && vethlumi-registrar-setup --yes settings.toml").stdout
+        assert "have vethlumi-registrar.socket and vethlumi-registrar.service read what changed" in told
+        assert "KeyReused" == json.loads(log_in(solo, key))["error"]
+        solo.run("apt-get purge -y -qq vethlumi-registrar >/dev/null", timeout=400)
+        assert "registrar.pem" == solo.says("ls /etc/vethlumi/registrar")
+        assert "NoRegistrar" == json.loads(log_in(solo, key))["error"]
+
+
+def look_at_the_sandbox(solo):
+    """Nobody but the front reaches the registrar, which writes nothing, and the journal has who got what."""
+    assert "office-front 600" == solo.says("stat -c '%U %a' /run/vethlumi-registrar.sock")
+    of_nobody = "runuser -u nobody -- curl -sS --unix-socket /run/vethlumi-registrar.sock http://registrar/v1/settings"
+    assert 0 != solo.run(of_nobody, False).returncode
+    found = "find / -xdev -user office-registrar -newer /root/login.json -not -path '/proc/*' 2>/dev/null || true"
+    assert "" == solo.says(found)
+    lines = solo.says("journalctl -u vethlumi-registrar -o cat | grep ^{").splitlines()
+    assert [1] == sorted({it["serial"] for it in map(json.loads, lines) if "serial" in it})
+    token = json.loads((solo.files / "root/login.json").read_text())["token"]
+    assert not [it for it in token.split(".") if it in "".join(lines)]
+
+
 # ---- without a boot
 
 CHROOT = """set -e
@@ -2444,9 +2534,10 @@ chmod 755 "$2/root/usr/sbin/policy-rc.d"
 enter() { chroot "$ROOT" /bin/sh -ec "cd /root; $1"; }
 ROOT=$2/root
 enter 'apt-get install -y -qq ./*.deb >/dev/null'
-enter 'for it in sshoffice sshstation vethlumi authority station; do $it --help >/dev/null; done'
+enter 'for it in sshoffice sshstation vethlumi authority station vethlumi-registrar; do $it --help >/dev/null; done'
 enter 'stat -c "%U %a %n" /etc/vethlumi/station /var/lib/office /etc/vethlumi/front'
-enter 'apt-get purge -y -qq vethlumi-office vethlumi-front vethlumi-station vethlumi-client >/dev/null'
+enter 'apt-get purge -y -qq vethlumi-office vethlumi-front vethlumi-station \
+  vethlumi-client vethlumi-registrar >/dev/null'
 enter 'ls -A /etc/vethlumi 2>/dev/null || true'
 """
 
