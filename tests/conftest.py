@@ -49,6 +49,9 @@ def pytest_addoption(parser):
     group.addoption("--waiting", type=int, default=50, help="how many messages wait for an office in test_way (50)")
     group.addoption("--waiting-seconds", type=int, default=5, help="for how many seconds they wait (5)")
     group.addoption("--heads", type=int, default=100_000, help="how many changed heads test_heads compares (100000)")
+    group.addoption("--registrar-kills", type=int, default=10, help="how often test_registrar kills it (10)")
+    group.addoption("--mutations", type=int, default=5000,
+                    help="how many random changes of tokens test_registrar_tokens tries (5000)")
     group.addoption("--counts", action="store_true", help="end with the lines of counts that ./check reads")
     group.addoption("--outcomes", metavar="FILE", type=pathlib.Path,
                     help="a file for the names of the tests that passed, of those that failed but the ones marked "
