@@ -2485,7 +2485,7 @@ def test_people_log_in_at_a_registrar_from_its_package(base, packages, tmp_path)
         solo.write("root/policy", department("people", admins="registrar", principals="*@people", maxlife=36060))
         solo.write("root/settings.toml", OF_SIGN_ON)
         told = solo.run(SIGN_ON, timeout=400).stdout
-        assert "start vethlumi-registrar.socket and vethlumi-registrar.service, now and at each boot" in told
+        assert "start vethlumi-registrar.service, now and at each boot" in told
         boxes.wait_until(lambda: json.loads(log_in(solo, key)).get("certificate"), "the station has signed")
         found = json.loads(log_in(solo, key))
         assert 1 == found["serial"] and found["certificate"].split(" ")[2].startswith("people/ana/")
@@ -2500,7 +2500,7 @@ def test_people_log_in_at_a_registrar_from_its_package(base, packages, tmp_path)
         told = solo.run("vethlumi-registrar-setup --yes settings.toml").stdout
         assert "everything is as it should be" in told
         told = solo.run("sed -i s/10h/9h/ settings.toml && vethlumi-registrar-setup --yes settings.toml").stdout
-        assert "have vethlumi-registrar.socket and vethlumi-registrar.service read what changed" in told
+        assert "have vethlumi-registrar.service read what changed" in told
         assert "KeyReused" == json.loads(log_in(solo, key))["error"]
         solo.run("apt-get purge -y -qq vethlumi-registrar >/dev/null", timeout=400)
         assert "registrar.pem" == solo.says("ls /etc/vethlumi/registrar")
