@@ -508,6 +508,7 @@ def test_a_provider_of_which_two_keys_have_one_id_is_none(own):
     assert not own.believes(own.keys[0])
 
 
+@pytest.mark.alone
 @pytest.mark.parametrize("how", ["silent", "by bytes of the head", "by bytes of the body"])
 def test_a_slow_provider_holds_nobody_up_for_long(own, how, monkeypatch):
     """It is given up, however its time passes, and known keys are used meanwhile."""
