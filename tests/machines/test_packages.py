@@ -2451,13 +2451,14 @@ issuer = "{ISSUER}"
 client_id = "vethlumi"
 algorithms = ["ES256"]
 name = "preferred_username"
+oldest = "1h"
 
 [department.people]
 provider = "corp"
 life = "10h"
 principals = ["{{name}}@people"]
 """
-ASK = "curl -sS --cacert /etc/vethlumi/registrar/ca.crt https://solo.example.org:8443/v1/"
+ASK = "curl -sS --cacert /var/lib/vethlumi-authority/ca.crt https://solo.example.org:8443/v1/"
 
 
 def log_in(solo, key):
@@ -2465,7 +2466,7 @@ def log_in(solo, key):
     line, now = providers.key_line(bytes(range(32))), int(time.time())
     if not (solo.files / "root/login.json").exists():
         token = providers.signed({
-            "iss": ISSUER, "sub": "1", "aud": "vethlumi", "exp": now + 600, "iat": now, "preferred_username": "ana",
+            "iss": ISSUER, "sub": "1", "aud": "vethlumi", "exp": now + 3600, "iat": now, "preferred_username": "ana",
             "nonce": providers.nonce_of(line)}, key)
         solo.write("root/login.json", json.dumps({"department": "people", "token": token, "public_key": line}))
     return solo.says(f"{ASK}login -d @login.json")
@@ -2496,7 +2497,7 @@ def test_people_log_in_at_a_registrar_from_its_package(base, packages, tmp_path)
         # Settings that can't be used change nothing.
         solo.write("root/bad.toml", OF_SIGN_ON.replace('"10h"', '"10x"'))
         bad = solo.run("vethlumi-registrar-setup --yes bad.toml", False)
-        assert (1, True) == (bad.returncode, "bad.toml: BadTime: line 9: department.people.life: " in bad.stdout)
+        assert (1, True) == (bad.returncode, "bad.toml: BadTime: line 10: department.people.life: " in bad.stdout)
         told = solo.run("vethlumi-registrar-setup --yes settings.toml").stdout
         assert "everything is as it should be" in told
         told = solo.run("sed -i s/10h/9h/ settings.toml && vethlumi-registrar-setup --yes settings.toml").stdout
