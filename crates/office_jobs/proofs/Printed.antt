@@ -68,7 +68,7 @@ listed (Err publish.Write) done old mid new held holds same opened list part tel
     subst (λ (d : Result Unit JobFault). PrintsKrl old new held holds d) (sym same) (
       before_again old mid new opened.before (before_open mid new before),
       (let it = part refl in
-      (it.0, it.1, list_from old mid it.0 opened.tells it.2, λ o l m. found o l (opened.tells o l m))),
+          (it.0, it.1, list_from old mid it.0 opened.tells it.2, λ o l m. found o l (opened.tells o l m))),
     )
 listed (Err (publish.Store e)) done old mid new held holds same opened list part tells found before silent only clean cause =
     subst (λ (d : Result Unit JobFault). PrintsKrl old new held holds d) (sym same)

@@ -83,8 +83,12 @@ shows (Ok x) (Err e) text held between holds is Told Heeded printed part only fa
     let write : e ≡ Write = ok refl in (
       between,
       kept,
-      inr (same, subst (λ (e : JobFault). Told (fault_line e)) write told, begins_whole held between text printed,
-          lost (ap Err write)),
+      inr (
+        same,
+        subst (λ (e : JobFault). Told (fault_line e)) write told,
+        begins_whole held between text printed,
+        lost (ap Err write),
+      ),
     )
 shows (Err e) (Ok y) text held between holds is Told Heeded printed part only fault ok kept same silent told done lost =
     absurd cc

@@ -21,8 +21,8 @@ use headline::respond;
 use office::StoreFault;
 use sqlite::{Alter, Connection};
 use std::alloc::Global;
-use wire::Sink;
 use store::Store;
+use wire::Sink;
 
 /// A report: the body of the response to a GET of its resource.
 #[derive(Clone, Copy)]

@@ -69,14 +69,7 @@ fn connections_in_memory_are_met_in_turn(rt: HostRuntime) -> Result<(), Fail> {
     let mut office = new_office(&rt)?;
     let mut nonces = ScriptedNonces::new(0x33, 96, Ending::Ends);
     let mut err = VecSink::new(Vec::new(rt.alloc()));
-    let status = serve_on(
-        &rt,
-        &mut listener,
-        &mut office,
-        &mut nonces,
-        4,
-        &mut err,
-    );
+    let status = serve_on(&rt, &mut listener, &mut office, &mut nonces, 4, &mut err);
     assert_eq!(rt; status, 0);
     assert_eq!(rt;
         err.as_slice(),

@@ -13,9 +13,9 @@ returns-in-Init-clause-does g c =
     let held = g.O.Sink.taken c.args.out in
     let holds = g.O.Sink.taken c.found_at.result.1 in
     let Founds : (db ca root station : List ℕ) → Type 0 = λ db ca root station.
-        WithFile g.W.World g.W.File.Read.remaining c.args.world.now c.found_at.new.world ca
-        (λ text opened. FoundsIn g.S.Store g.W.World g.W.Incoming.Listener.book opened c.found_at.new.world db
-        (λ key. made_opening key root station it.first it.last) text held holds) (holds ≡ held) c.found_at.result.0 in
+    WithFile g.W.World g.W.File.Read.remaining c.args.world.now c.found_at.new.world ca
+    (λ text opened. FoundsIn g.S.Store g.W.World g.W.Incoming.Listener.book opened c.found_at.new.world db
+    (λ key. made_opening key root station it.first it.last) text held holds) (holds ≡ held) c.found_at.result.0 in
     subst (λ (job : Job). DoesJob g.S.Store g.W.World g.W.File.Read.remaining g.W.Incoming.Listener.book
     c.args.world.now c.found_at.new.world job held holds c.found_at.result.0) (sym it.is)
     (subst (λ (x : List ℕ). Founds (string_bytes it.db) (string_bytes it.ca) (string_bytes it.root) x)

@@ -21,8 +21,12 @@ returns-in_default-clause-runs g c = (
 
 pub ended-requires : goal.ended-requires
 ended-requires g c =
-    omega (arith, c.done_by-done.ensures.failed, c.requires.prints,
-    at_most_one (g.O.Sink.failed c.args.out) c.done_by-done.result.0)
+    omega (
+      arith,
+      c.done_by-done.ensures.failed,
+      c.requires.prints,
+      at_most_one (g.O.Sink.failed c.args.out) c.done_by-done.result.0,
+    )
 
 pub returns-in_default-clause-heeds : goal.returns-in_default-clause-heeds
 returns-in_default-clause-heeds g c =

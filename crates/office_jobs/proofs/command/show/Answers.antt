@@ -8,8 +8,12 @@ use Rattle.office_jobs.proofs.command.show.Goals as goal
 
 pub flushed-requires : goal.flushed-requires
 flushed-requires g c =
-    omega (arith, c.write_out-shown.ensures.failed, c.requires.prints,
-    at_most_one (g.O.Sink.failed c.args.out.now) c.write_out-shown.result)
+    omega (
+      arith,
+      c.write_out-shown.ensures.failed,
+      c.requires.prints,
+      at_most_one (g.O.Sink.failed c.args.out.now) c.write_out-shown.result,
+    )
 
 pub returns-clause-shown : goal.returns-clause-shown
 returns-clause-shown g c =

@@ -86,8 +86,12 @@ do_on-outcome-requires-clause-unlimited g c =
 -- the message of a job is printed to an output that has failed once at most
 pub finish-done-requires : goal.finish-done-requires
 finish-done-requires g c =
-    omega (arith, c.do_on-outcome.ensures.failed, c.requires.prints,
-    at_most_one (g.O.Sink.failed c.args.out) c.do_on-outcome.result.outcome)
+    omega (
+      arith,
+      c.do_on-outcome.ensures.failed,
+      c.requires.prints,
+      at_most_one (g.O.Sink.failed c.args.out) c.do_on-outcome.result.outcome,
+    )
 
 -- the count after a message, if there was one
 message_counts : (n m k : ℕ) (done result : Result (Unit {0}) JobFault) → m ≡ failures_after n done
