@@ -76,6 +76,11 @@ def body(serial=1, *, ca, key_id="web/alice", principals=("alice",), after=None,
         string(b"".join(string(it.encode()) + string(b"") for it in extensions)), string(reserved), string(ca)])
 
 
+def batch(*bodies):
+    """Bodies as the input of `sshstation judge` has them."""
+    return b"judge %d\n" % len(bodies) + b"".join(b"%d\n" % len(it) + it for it in bodies)
+
+
 def digest_of(text):
     return hashlib.sha256(text).hexdigest()
 

@@ -24,6 +24,7 @@ from plain_office import (EXTENSIONS, KEY_ID, MOST_MOMENT, MOST_SERIAL, NAME, NU
                           string)
 
 LONGEST_BODY = 16384
+MOST_BODIES = 64
 LONGEST_POLICY = 1 << 20
 COMMENT = r"[\t -~\x80-\xff]{0,1024}"
 
@@ -426,20 +427,42 @@ def init(given):
     print(f"guard ready {given.first} {given.last}\nca SHA256:{fingerprint}")
 
 
+def number_in(line, most):
+    """The number in a line, 1 to the most."""
+    if not re.fullmatch(rb"[1-9][0-9]*\n", line) or int(line) > most:
+        raise Fault("Input")
+    return int(line)
+
+
+def batches():
+    """The bodies of each batch of the input."""
+    while line := sys.stdin.buffer.readline():
+        if not line.startswith(b"judge "):
+            raise Fault("Input")
+        some = []
+        for _ in range(number_in(line.removeprefix(b"judge "), MOST_BODIES)):
+            length = number_in(sys.stdin.buffer.readline(), LONGEST_BODY)
+            some.append(sys.stdin.buffer.read(length))
+            if len(some[-1]) < length:
+                raise Fault("Input")
+        yield some
+
+
 def judge(given):
-    """Answers each body; with `-` those whose paths come, by the policy as its file is by then."""
+    """Answers each body; with `-` those of the input, each batch by the policy as its file is by then."""
     policy = read_policy(read_file(given.policy))
     with opened(given.db) as file:
         guard = guard_of(file)
         is_asked = given.body == ["-"]
-        for path in (line.rstrip("\n") for line in sys.stdin) if is_asked else given.body:
+        for some in batches() if is_asked else ([read_file(path)] for path in given.body):
             policy = read_policy(read_file(given.policy)) if is_asked else policy
-            data, before = read_file(path), len(guard.approved)
-            line = guard.answer(policy, int(time.time()), given.ahead, data)
-            if len(guard.approved) > before:
-                serial = int(line.split(" ")[1])
+            moment, before = int(time.time()), set(guard.approved)
+            lines = [guard.answer(policy, moment, given.ahead, data) for data in some]
+            file.execute("BEGIN")
+            for serial in guard.approved.keys() - before:
                 file.execute("INSERT INTO approved VALUES (?, ?, ?)", (serial, *guard.approved[serial]))
-            print(line, flush=True)
+            file.execute("COMMIT")
+            print("\n".join(lines), flush=True)
 
 
 def bodies(given):

@@ -16,7 +16,7 @@ from dataclasses import dataclass, replace
 import pytest
 
 import plain_guard
-from asking import (LAST_SERIAL, LATEST, PRIME, SMALL_ORDER_KEYS, body, department, digest_of, encoded, key_blob,
+from asking import (LAST_SERIAL, LATEST, PRIME, SMALL_ORDER_KEYS, batch, body, department, digest_of, encoded, key_blob,
                     key_line)
 from running import preloaded, run
 from stations import EVERY_EXTENSION, Guard
@@ -62,7 +62,7 @@ def test_both_read_a_policy(sshstation, room, text, names):
 
 @dataclass
 class Call:
-    """Bodies that are judged by one run of the program; `is_asked` says that their paths come on its input."""
+    """Bodies that are judged by one run of the program; `is_asked` says that they come on its input, in batches."""
     policy: int
     moment: int
     ahead: int
@@ -217,15 +217,30 @@ def spoiled(source, fields):
     return bytes(text)
 
 
+def any_call(source, bodies):
+    """A batch has no body of another length."""
+    is_asked = source.random() < 0.5
+    places = [it for it, text in enumerate(bodies) if not is_asked or 1 <= len(text) <= plain_guard.LONGEST_BODY]
+    return Call(source.randrange(3), NOW + source.choice([0, 0, 1, -1, 49, 50, 3600]),
+                source.choice([0, 1, 3600, 2 ** 64 - 1]), source.choices(places, k=EACH), is_asked)
+
+
+def in_batches(source, bodies):
+    """The input with these bodies, in batches of any size."""
+    text = b""
+    while bodies:
+        count = source.choice([1, 2, 3, source.randint(1, plain_guard.MOST_BODIES), plain_guard.MOST_BODIES])
+        text, bodies = text + batch(*bodies[:count]), bodies[count:]
+    return text
+
+
 def any_history(source):
     first = source.choice([1, 1, 5])
     last = source.choice([LAST_SERIAL] * 3 + [first + 8, first])
     serials = [*range(1, 40), LAST_SERIAL]
     fields = [any_fields(source, serials) for _ in range(BODIES)]
     bodies = [spoiled(source, it) if source.random() < 0.2 else body(**it) for it in fields]
-    calls = [Call(source.randrange(3), NOW + source.choice([0, 0, 1, -1, 49, 50, 3600]),
-                  source.choice([0, 1, 3600, 2 ** 64 - 1]), source.choices(range(BODIES), k=EACH),
-                  source.random() < 0.5) for _ in range(CALLS)]
+    calls = [any_call(source, bodies) for _ in range(CALLS)]
     old = some_of(source, range(BODIES), 0, 10)
     return History(first, last, [any_policy(source) for _ in range(3)], bodies, old, calls)
 
@@ -272,8 +287,9 @@ class Given:
         words = [self.program, "judge", "--db", guard.db, "--policy", self.room / f"policy-{call.policy}", "--ahead",
                  str(call.ahead), *(["-"] if call.is_asked else paths)]
         environment = os.environ | {"LD_PRELOAD": str(self.library), "MOMENT": str(call.moment)}
-        done = subprocess.run(words, env=environment, capture_output=True, timeout=800, cwd=self.room,
-                              input="".join(f"{it}\n" for it in paths).encode() if call.is_asked else b"")
+        source = random.Random(str(call))
+        input = in_batches(source, [(self.room / it).read_bytes() for it in paths]) if call.is_asked else b""
+        done = subprocess.run(words, env=environment, capture_output=True, timeout=800, cwd=self.room, input=input)
         assert (0, b"") == (done.returncode, done.stderr)
         return done.stdout.decode().splitlines()
 

@@ -18,8 +18,8 @@ from cryptography.hazmat.primitives.asymmetric.ed25519 import Ed25519PublicKey
 
 import asking
 import running
-from asking import (CA, LAST_SERIAL, LATEST, PRIME, SMALL_ORDER_KEYS, SMALL_ORDER_YS, department, digest_of, encoded,
-                    key_blob)
+from asking import (CA, LAST_SERIAL, LATEST, PRIME, SMALL_ORDER_KEYS, SMALL_ORDER_YS, batch, department, digest_of,
+                    encoded, key_blob)
 from running import preloaded, run
 from stations import init
 
@@ -75,7 +75,7 @@ Decides whether unsigned certificates may be signed, and records those that may
 Usage: sshstation judge [OPTIONS] --db <PATH> --policy <PATH> <BODY>...
 
 Arguments:
-  <BODY>...  The files of unsigned certificates, or - to read paths from standard input
+  <BODY>...  The files of unsigned certificates, or - to read them from standard input
 
 Options:
       --db <PATH>        The guard's database, created by init
@@ -87,8 +87,9 @@ Example:
   sshstation judge --db guard.db --policy policy body
 
 It prints one line per BODY, in order: sign SERIAL DIGEST or refuse NAME.
-If the only BODY is -, it reads paths from standard input, one per line, and answers each before it
-reads the next. It then reads the policy again before each BODY.
+If the only BODY is -, it reads batches from standard input: a line judge COUNT, and for each BODY a
+line with its length in bytes, and the bytes. COUNT is at most 64. It reads the policy again before
+each batch, and answers a batch before it reads the next.
 """
 
 
@@ -377,7 +378,7 @@ def test_a_guard_that_is_open_is_not_opened_again(guard, room, programs):
     first = programs.begin([guard.program, "judge", "--db", "guard.db", "--policy", "policy", "-"],
                            stdin=subprocess.PIPE, stdout=subprocess.PIPE)
     put(room, a=body(1))
-    first.stdin.write(b"a\n")
+    first.stdin.write(batch((room / "a").read_bytes()))
     first.stdin.flush()
     assert b"sign" == first.stdout.readline().split()[0]
     assert (1, "", "sshstation: Device\n") == guard.judge("a")
@@ -439,72 +440,157 @@ def test_what_was_approved_for_a_key_of_small_order_is_signed_again(guard, room)
     assert len(data) == len(guard.bodies())
 
 
-# ---- judge with paths from the input
+# ---- judge with bodies from the input
+
+# The most bodies of a batch, and the longest one that may be in it.
+MOST_BODIES, LONGEST = 64, 16384
+
 
 class Open:
-    """A `judge` that reads paths, and answers each."""
+    """A `judge` that reads batches, and answers each."""
 
     def __init__(self, guard, programs, **how):
         self.process = programs.begin([guard.program, "judge", "--db", "guard.db", "--policy", "policy", "-"],
                                       stdin=subprocess.PIPE, stdout=subprocess.PIPE, stderr=subprocess.PIPE, **how)
 
-    def ask(self, path):
-        self.process.stdin.write(os.fsencode(f"{path}\n"))
+    def ask(self, *bodies):
+        self.process.stdin.write(batch(*bodies))
         self.process.stdin.flush()
-        return self.process.stdout.readline().decode()
+        return "".join(self.process.stdout.readline().decode() for _ in bodies)
 
     def end(self):
         out, err = self.process.communicate(timeout=60)
         return self.process.returncode, out.decode(), err.decode()
 
 
-def test_each_path_is_answered_before_the_next_is_read(guard, room, programs):
-    opened = Open(guard, programs)
-    for serial in range(1, 20):
-        data = body(serial)
-        put(room, body=data)
-        assert sign(serial, data) == opened.ask("body")
+def judged(guard, input):
+    """The status, the output and the errors for an input."""
+    return guard.judge("-", stdin=None, input=input)
+
+
+def serials_of(guard):
+    return [int(row[0]) for row in guard.bodies()]
+
+
+def test_each_batch_is_answered_before_the_next_is_read(guard, programs):
+    opened, serial = Open(guard, programs), 0
+    for count in (1, 2, 1, 7, 1):
+        some = [body(serial + at) for at in range(1, count + 1)]
+        assert "".join(sign(serial + at, it) for at, it in enumerate(some, 1)) == opened.ask(*some)
+        serial += count
     assert (0, "", "") == opened.end()
-    assert 19 == len(guard.bodies())
+    assert [*range(1, serial + 1)] == serials_of(guard)
 
 
-def test_the_policy_is_what_its_file_has_before_each_body(guard, room, programs):
-    opened = Open(guard, programs)
-    data = {name: body(serial) for serial, name in enumerate("abcdef", 1)}
-    put(room, **data)
-    assert sign(1, data["a"]) == opened.ask("a")
+def test_the_policy_is_what_its_file_has_before_each_batch(guard, room, programs):
+    opened, (one, two, three) = Open(guard, programs), (body(serial) for serial in (1, 2, 3))
+    assert sign(1, one) == opened.ask(one)
     put(room, policy=department(principals="bob").encode())
-    assert "refuse NotPermitted\n" == opened.ask("b")
+    assert "refuse NotPermitted\n" * 2 == opened.ask(two, three)
     put(room, policy=b"# nobody\n")
-    assert "refuse NoDepartment\n" == opened.ask("b")
+    assert "refuse NoDepartment\n" == opened.ask(two)
     (room / "new").write_text(department())
     (room / "new").rename(room / "policy")
-    assert sign(2, data["b"]) == opened.ask("b")
+    assert sign(2, two) == opened.ask(two)
     put(room, policy=department(principals="bob").encode())
-    assert sign(1, data["a"]) == opened.ask("a"), "what was approved is signed again"
+    assert sign(1, one) == opened.ask(one), "what was approved is signed again"
     put(room, policy=b"department web\n")
-    assert "" == opened.ask("c")
+    assert "" == opened.ask(three, two)
     assert (1, "", "sshstation: BadPolicy 2\n") == opened.end()
-    assert 2 == len(guard.bodies())
+    assert [1, 2] == serials_of(guard)
 
 
-@pytest.mark.parametrize("input, answers", [
-    (b"", ""), (b"a\nb\n", "ab"), (b"a\nb", "ab"), (b"a", "a"),
-])
-def test_the_last_line_may_lack_its_line_feed(guard, room, input, answers):
-    data = {name: body(serial) for serial, name in enumerate("ab", 1)}
-    put(room, **data)
-    wanted = "".join(sign("ab".index(name) + 1, data[name]) for name in answers)
-    assert (0, wanted, "") == guard.judge("-", stdin=None, input=input)
+def test_a_body_is_judged_after_those_before_it_in_its_batch(guard):
+    one, other, two = body(1), body(1, nonce=0x34), body(2)
+    wanted = [sign(1, one), "refuse SerialTaken\n", sign(1, one), "refuse NotABody Truncated\n", sign(2, two)]
+    assert (0, "".join(wanted), "") == judged(guard, batch(one, other, one, two[:-1], two))
+    assert [1, 2] == serials_of(guard)
 
 
-@pytest.mark.parametrize("line", [b"none", b"", b"\xff", b"a\r", b".", b"a\0b"])
-def test_a_line_that_is_no_files_path_ends_the_call(guard, room, line):
-    data = body(1)
-    put(room, a=data, b=body(2))
-    wanted = (1, sign(1, data), "sshstation: File\n")
-    assert wanted == guard.judge("-", stdin=None, input=b"a\n" + line + b"\nb\n")
-    assert 1 == len(guard.bodies())
+@pytest.mark.parametrize("count", [1, 2, MOST_BODIES - 1, MOST_BODIES])
+def test_so_many_bodies_may_come_together(guard, count):
+    some = [body(serial) for serial in range(1, count + 1)]
+    assert (0, "".join(sign(serial, it) for serial, it in enumerate(some, 1)), "") == judged(guard, batch(*some))
+    assert count == len(guard.bodies())
+
+
+@pytest.mark.parametrize("length", [1, LONGEST - 1, LONGEST])
+def test_a_body_may_be_so_long(guard, length):
+    one = body(1)
+    fault = "TrailingBytes" if length > len(one) else "Truncated"
+    text = batch((one + b"x" * length)[:length]) + batch(one)
+    assert (0, f"refuse NotABody {fault}\n" + sign(1, one), "") == judged(guard, text)
+
+
+LONG = b"x" * (LONGEST + 1)
+BATCH = batch(body(2))
+
+
+@pytest.mark.parametrize("text", [
+    batch(), batch(*[body(serial) for serial in range(2, MOST_BODIES + 3)]), batch(b""), batch(LONG),
+    batch(body(2), b""), batch(body(2), LONG), b"\n", b"body\n", b"judge\n", b"judge \n", b"judge 01\n" + BATCH[8:],
+    b"judge +1\n" + BATCH[8:], b"judge -1\n" + BATCH[8:], b"judge  1\n" + BATCH[8:], b"judge 1 \n" + BATCH[8:],
+    b"judge 1\r\n" + BATCH[8:], b"Judge 1\n" + BATCH[8:], b" " + BATCH, b"judge 1" + BATCH[8:],
+    b"judge 18446744073709551617\n" + BATCH[8:], BATCH[:8] + b"0" + BATCH[8:], BATCH[:8] + b"+" + BATCH[8:],
+    BATCH[:8] + b"\n" + BATCH[8:], BATCH[:8] + b"18446744073709551616\n", b"none\n", b"\xff\n", b"\0" * 100],
+    ids=repr)
+def test_an_input_of_another_form_ends_the_call(guard, text):
+    one = body(1)
+    assert (1, sign(1, one), "sshstation: Input\n") == judged(guard, batch(one) + text)
+    assert [1] == serials_of(guard)
+
+
+def test_a_length_that_is_one_too_short_or_long_ends_the_call(guard):
+    one = body(1)
+    for wrong in (len(one) - 1, len(one) + 1):
+        status, out, errors = judged(guard, b"judge 1\n%d\n" % wrong + one + BATCH)
+        assert (1, "sshstation: Input\n") == (status, errors)
+        assert not out.startswith("sign"), out
+    assert [] == guard.bodies()
+
+
+def test_an_input_that_ends_within_a_batch_changes_nothing_of_it(guard):
+    one = body(1)
+    first, second = batch(one), batch(body(2), body(3))
+    for cut in range(1, len(second)):
+        assert (1, sign(1, one), "sshstation: Input\n") == judged(guard, first + second[:cut]), cut
+    assert [1] == serials_of(guard)
+    assert (0, sign(1, one), "") == judged(guard, first)
+    assert (0, "", "") == judged(guard, b"")
+
+
+def test_what_is_printed_is_in_the_file_whenever_the_guard_is_killed(guard, programs):
+    """A batch that is cut off is in the file as a whole or not at all; what was printed of it is in the file."""
+    for turn in range(12):
+        some = [body(serial) for serial in range(turn * 8 + 1, turn * 8 + 9)]
+        opened = Open(guard, programs)
+        opened.process.stdin.write(batch(*some))
+        opened.process.stdin.flush()
+        time.sleep(turn % 6 * 0.004)
+        opened.process.kill()
+        out = opened.process.communicate(timeout=60)[0].decode()
+        kept = {row[0]: row[1] for row in guard.bodies()}
+        mine = [it for serial, it in enumerate(some, turn * 8 + 1) if str(serial) in kept]
+        assert mine in ([], some), "all of a batch, or nothing"
+        for line in out.splitlines():
+            word, serial, digest = line.split()
+            assert ("sign", digest) == (word, kept[serial])
+
+
+@pytest.mark.parametrize("spoil, fault", [
+    (lambda room: (room / "policy").unlink(), "File"),
+    (lambda room: put(room, policy=b"department web\n"), "BadPolicy 2"),
+], ids=["no policy", "a bad policy"])
+def test_the_input_is_looked_at_before_the_policy(guard, room, programs, spoil, fault):
+    first = body(9)
+    for text, named in ((b"judge 0\n", "Input"), (batch(body(1)), fault)):
+        put(room, policy=department().encode())
+        opened = Open(guard, programs)
+        assert sign(9, first) == opened.ask(first)
+        spoil(room)
+        opened.process.stdin.write(text)
+        assert (1, "", f"sshstation: {named}\n") == opened.end()
+    assert [9] == serials_of(guard)
 
 
 def test_a_dash_beside_other_files_is_a_file(guard, room):
@@ -521,12 +607,12 @@ def test_a_dash_beside_other_files_is_a_file(guard, room):
     init("new.db", "ca.pub", last=100), ["judge"], ["--help"],
 ])
 def test_the_input_is_left_unread_unless_it_is_asked_for(guard, room, words):
-    put(room, **{"a": body(1), "-": body(2), "paths": b"b\nc\n"})
-    with open("paths", "rb") as paths:
-        guard.run(*words, stdin=paths)
-        assert 0 == os.lseek(paths.fileno(), 0, os.SEEK_CUR)
-        assert guard.judge("-", stdin=paths)[2] == "sshstation: File\n"
-        assert os.lseek(paths.fileno(), 0, os.SEEK_CUR) > 0
+    put(room, **{"a": body(1), "-": body(2), "input": b"judge 1\n"})
+    with open("input", "rb") as input:
+        guard.run(*words, stdin=input)
+        assert 0 == os.lseek(input.fileno(), 0, os.SEEK_CUR)
+        assert guard.judge("-", stdin=input)[2] == "sshstation: Input\n"
+        assert os.lseek(input.fileno(), 0, os.SEEK_CUR) > 0
 
 
 def test_a_body_is_kept_before_its_line_is_printed(guard, room):

@@ -7,3 +7,4 @@ pub mod BodyTexts
 pub mod PolicyReadings
 pub mod Retired
 pub mod Reported
+pub mod Weighed

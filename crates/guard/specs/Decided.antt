@@ -1,5 +1,5 @@
 -- When a decision from one row is that of the guard's reference model.
-use Rattle.std.specs.Prelude.{◌≡◌, ℕ, List, Some, None, option_copied}
+use Rattle.std.specs.Prelude.{◌≡◌, ℕ, List, map, Some, None, option_copied}
 use Rattle.message.specs.declared.department.Department.{Department}
 use Rattle.cert.specs.declared.fields.CertFields.{CertFields}
 use Rattle.guard.specs.declared.verdict.View.{View}
@@ -10,6 +10,10 @@ use Rattle.guard.specs.Machine.{State, Question, body_of, refusal_of, row_of, wi
 
 abbrev pub question : List Department → Window → List ℕ → Question
 question policy w body = record { policy = policy; moment = w.moment; ahead = w.ahead; body = body }
+
+-- one question for each body, by the same policy and at the same time
+abbrev pub questions : List Department → Window → List (List ℕ) → List Question
+questions policy w bodies = map (question policy w) bodies
 
 -- the view shows the guard's scope, and the body that was approved under the serial of these fields
 pub record Agrees (v : View) (s : State) (c : CertFields) : Type 0 where

@@ -1,5 +1,5 @@
 -- What the answer for an unsigned certificate (body) means, whatever stores the guard.
-use Rattle.std.specs.Prelude.{◌≡◌, ◌<◌, ◌≤◌, ◌^◌, ℕ, List, length, Some, None}
+use Rattle.std.specs.Prelude.{◌≡◌, ◌<◌, ◌≤◌, ◌^◌, [], ◌∷◌, ℕ, List, length, Some, None}
 use Rattle.std.specs.Option.{option_map}
 use Rattle.lines.specs.Digests.{digest_text}
 use Rattle.guard.specs.declared.approved.Approved.{Approved}
@@ -10,7 +10,7 @@ use Rattle.guard.specs.declared.judging.Answer.TheVariants as answer
 use Rattle.guard.specs.declared.register.RegisterFault.{RegisterFault}
 use Rattle.guard.specs.declared.register.RegisterFault.TheVariants as register
 use Rattle.guard.specs.declared.refusal.Refusal.TheVariants.{NotABody}
-use Rattle.guard.specs.Machine.{State, Question, body_of, fields_of, refusal_of}
+use Rattle.guard.specs.Machine.{State, Question, after, body_of, fields_of, refusal_of, with_approved}
 use Rattle.guard.specs.Reading.{IsFault}
 
 -- the fault of these bytes, in an answer: a lack of memory is never one
@@ -32,6 +32,18 @@ abbrev pub IsKept : Answer → State → List ℕ → Type 0
 IsKept (answer.Sign serial digest) s body = body_of s serial ≡ Some body
 IsKept (answer.NotABody e) s body = Unit {0}
 IsKept (answer.Refuse r) s body = Unit {0}
+
+-- each answer is the reference model's, after the earlier questions, and then a signed body is kept
+abbrev pub AreAnswers : List Answer → State → List Question → Type 0
+AreAnswers [] s [] = Unit {0}
+AreAnswers (a ∷ answers) s (q ∷ questions) =
+    Answers a s q × IsKept a (after s q) q.body × AreAnswers answers (after s q) questions
+AreAnswers answers s questions = ⊥
+
+-- each row has a serial under which no body is kept, also none of the earlier rows
+abbrev pub AreNew : State → List Approved → Type 0
+AreNew s [] = Unit {0}
+AreNew s (row ∷ rows) = (body_of s row.serial ≡ None) × AreNew (with_approved s row) rows
 
 -- what a register has room for: numbers below 2^63, and a body of at most 16384 bytes
 pub record IsKeepable (row : Approved) : Type 0 where

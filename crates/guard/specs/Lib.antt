@@ -15,3 +15,4 @@ pub mod Scopes
 pub mod Retirement
 pub mod Reported
 pub mod Memory
+pub mod Weighing

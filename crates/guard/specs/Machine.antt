@@ -1,6 +1,6 @@
 -- The reference model of the guard: one question at a time.
 use Rattle.std.specs.Prelude.{◌+◌, List, [], ◌∷◌, ◌++◌, Bool, false, not, ◌&&◌, ◌||◌, nat_lt, nat_le}
-use Rattle.std.specs.Prelude.{if◌then◌else◌, Option, Some, None, is_none, is_some}
+use Rattle.std.specs.Prelude.{fold, if◌then◌else◌, Option, Some, None, is_none, is_some}
 use Rattle.std.specs.Option.{option_map_or}
 use Rattle.std.specs.Str.{bytes_eq}
 use Rattle.values.specs.Names.{department_of}
@@ -91,6 +91,14 @@ abbrev pub with_fields : State → Question → Option CertFields → State
 with_fields s q (Some c) = if is_same q.body (body_of s c.serial) then s else with_approved s (row_of q c)
 with_fields s q None = s
 
+-- the state with more rows
+abbrev pub with_rows : State → List Approved → State
+with_rows s rows = record s { approved = s.approved ++ rows }
+
 -- the state after a question; a refusal leaves it unchanged
 abbrev pub after : State → Question → State
 after s q = if is_some (refusal_of s q) then s else with_fields s q (fields_of q.body)
+
+-- the state after several questions, in order
+abbrev pub after_all : State → List Question → State
+after_all s questions = fold after s questions

@@ -1,6 +1,7 @@
 //! The record that a guard keeps of each approved unsigned certificate (body).
 
-ghost use Rattle.std.specs.Prelude.{◌≡◌, IfOk};
+ghost use Rattle.std.specs.Prelude.{◌≡◌, ◌==◌, IfOk, find, option_copied};
+ghost use Rattle.std.specs.Option.{option_map};
 
 use std::alloc::Global;
 use text::{NoMemory, Text};
@@ -26,5 +27,15 @@ impl Approved {
             moment: self.moment,
             body: self.body.copied(alloc)?,
         })
+    }
+}
+
+/// The body under a serial, in the first row that has the serial.
+pub(crate) fn body_in(rows: &[Approved], serial: u64) -> Option<&Text>
+    ensures { option_copied result ≡ option_map (λ a. a.body) (find (λ a. a.serial == serial) rows.now) }
+{
+    match rows.iter().find(|row| row.serial == serial) {
+        Some(row) => Some(&row.body),
+        None => None,
     }
 }

@@ -1,13 +1,15 @@
 //! Judging unsigned certificates (bodies) in order.
 
-ghost use Rattle.std.specs.Prelude.{◌≡◌, ◌<◌, ◌^◌, Some, IfErr, IfOk, OnOk, OnErr};
+ghost use Rattle.std.specs.Prelude.{◌≡◌, ◌<◌, ◌^◌, ◌==◌, ℕ, Some, IfErr, IfOk, OnOk, OnErr, find, option_copied};
+ghost use Rattle.std.specs.Option.{option_map, option_or};
 ghost use Rattle.cert.specs.declared.fields.CertFields.{CertFields};
-ghost use Rattle.guard.specs.Decided.{Decided, question};
-ghost use Rattle.guard.specs.Judged.{Answers, HasCause, IsKept};
-ghost use Rattle.guard.specs.Machine.{State, Question, after, fields_of};
+ghost use Rattle.guard.specs.Decided.{Decided, question, questions};
+ghost use Rattle.guard.specs.Judged.{Answers, AreAnswers, AreNew, HasCause, IsKept};
+ghost use Rattle.guard.specs.Machine.{State, Question, after, after_all, fields_of, with_rows};
 ghost use Rattle.guard.specs.Reported.{PassesOn, reported_by};
+ghost use Rattle.guard.specs.Weighing.{HaveRoom, Settles, Weighs, WeighsAll};
 
-use crate::approved::Approved;
+use crate::approved::{Approved, body_in};
 use crate::body::{BodyFault, fields_of};
 use crate::deciding::decide;
 use crate::policy::Policy;
@@ -17,7 +19,7 @@ use crate::verdict::{Verdict, View, Window};
 use cert::CertFields;
 use lines::body_digest;
 use std::alloc::Global;
-use text::Text;
+use text::{NoMemory, Text};
 
 /// The answer for a body.
 #[derive(Clone, Copy, Debug, PartialEq, Eq)]
@@ -34,10 +36,22 @@ pub enum Answer {
     Refuse(Refusal),
 }
 
-/// The verdict on a body with these fields.
+/// The body that the register keeps under a serial, or else the one among these rows.
+fn body_under<'a>(kept: Option<&'a Text>, rows: &'a [Approved], serial: u64) -> Option<&'a Text>
+    ensures { option_copied result ≡ option_or (option_copied kept.entry)
+        (option_map (λ a. a.body) (find (λ a. a.serial == serial) rows.now)) }
+{
+    match kept {
+        Some(body) => Some(body),
+        None => body_in(rows, serial),
+    }
+}
+
+/// The verdict on a body with these fields, if the register kept these rows too.
 fn verdict_on<R: Register>(
     alloc: Global,
     register: &mut R,
+    rows: &[Approved],
     policy: &Policy,
     window: Window,
     body: &[u8],
@@ -46,7 +60,7 @@ fn verdict_on<R: Register>(
     requires { fields_of body.now ≡ Some fields.now }
     ensures honest { R.is_honest register.new → R.is_honest register.old }
     ensures decided { R.is_honest register.new → (s : State) → R.keeps register.old s
-        → IfOk result (λ v. Decided v s (question policy.now window body.now) fields.now) }
+        → IfOk result (λ v. Decided v (with_rows s rows.now) (question policy.now window body.now) fields.now) }
     ensures same { R.is_honest register.new → (s : State) → R.keeps register.old s → R.keeps register.new s }
     ensures crash { R.is_honest register.new → (s : State) → R.keeps register.old s → R.leaves register.old s s
         → R.leaves register.new s s }
@@ -59,48 +73,38 @@ fn verdict_on<R: Register>(
     let kept = register.body_of(alloc, fields.serial)?;
     let view = View {
         scope,
-        kept: kept.as_ref(),
+        kept: body_under(kept.as_ref(), rows, fields.serial),
     };
     Ok(decide(&view, policy, window, body, fields))
 }
 
-/// Keeps a body, if this verdict requires it.
-#[tactic(auto, using(crate::proofs::Reported::reported_once))]
-fn settle<R: Register>(
+/// Adds the row of a body, if this verdict requires that it is kept.
+fn settle(
     alloc: Global,
-    register: &mut R,
+    rows: &mut Vec<Approved>,
     moment: u64,
     body: &[u8],
     serial: u64,
     verdict: Verdict,
-) -> Result<(), RegisterFault>
-    ensures honest { R.is_honest register.new → R.is_honest register.old }
-    ensures next { R.is_honest register.new → (s : State) → R.keeps register.old s
-        → (q : Question) (c : CertFields) → q.moment ≡ moment → q.body ≡ body.now → c.serial ≡ serial
-        → Decided verdict s q c → OnOk result (R.keeps register.new (after s q)) }
-    ensures fault { R.is_honest register.new → (s : State) → R.keeps register.old s
-        → OnErr result (R.keeps register.new s) }
-    ensures durable { R.is_honest register.new → (s : State) → R.keeps register.old s → R.leaves register.old s s
-        → (q : Question) (c : CertFields) → q.moment ≡ moment → q.body ≡ body.now → c.serial ≡ serial
-        → Decided verdict s q c → OnOk result (R.leaves register.new (after s q) (after s q)) }
-    ensures crash { R.is_honest register.new → (s : State) → R.keeps register.old s → R.leaves register.old s s
-        → (q : Question) (c : CertFields) → q.moment ≡ moment → q.body ≡ body.now → c.serial ≡ serial
-        → Decided verdict s q c → R.leaves register.new s (after s q) }
-    ensures cause { R.is_honest register.new → (s : State) → R.keeps register.old s → (q : Question) (c : CertFields)
-        → fields_of q.body ≡ Some c → q.moment ≡ moment → q.body ≡ body.now → c.serial ≡ serial
-        → Decided verdict s q c → s.scope.last < 2 ^ 63 → moment < 2 ^ 63
-        → IfErr result (λ e. HasCause e (R.has_failed register.new)) }
-    ensures reported { PassesOn (R.reported register.old) (R.reported register.new) result }
-    ensures before { R.is_honest register.new → OnErr result (R.is_as_before register.old register.new) }
+) -> Result<(), NoMemory>
+    ensures { OnOk result ((s : State) → (q : Question) (c : CertFields) → q.moment ≡ moment → q.body ≡ body.now
+        → c.serial ≡ serial → fields_of q.body ≡ Some c → Decided verdict (with_rows s rows.old.items) q c
+        → Settles s rows.old.items rows.new.items q) }
 {
     match verdict {
         Verdict::Approve => {
             let body = Text::from_slice(alloc, body)?;
-            register.keep(Approved {
+            match rows.push(Approved {
                 serial,
                 moment,
                 body,
-            })
+            }) {
+                Ok(()) => Ok(()),
+                Err(refused) => {
+                    drop(refused);
+                    Err(NoMemory)
+                }
+            }
         }
         Verdict::Again => Ok(()),
         Verdict::Refuse(_) => Ok(()),
@@ -127,11 +131,11 @@ fn answer_of(serial: u64, body: &[u8], verdict: Verdict) -> Answer
     }
 }
 
-/// The answer for a body with these fields. The register keeps the body before that, if it is signed.
-#[tactic(auto, using(crate::proofs::Reported::reported_then))]
-fn judge_fields<R: Register>(
+/// The answer for a body with these fields. Its row is added, if it has to be kept.
+fn weigh_fields<R: Register>(
     alloc: Global,
     register: &mut R,
+    rows: &mut Vec<Approved>,
     policy: &Policy,
     window: Window,
     body: &[u8],
@@ -139,33 +143,127 @@ fn judge_fields<R: Register>(
 ) -> Result<Answer, RegisterFault>
     requires { fields_of body.now ≡ Some fields.now }
     ensures honest { R.is_honest register.new → R.is_honest register.old }
-    ensures answered { R.is_honest register.new → (s : State) → R.keeps register.old s
-        → IfOk result (λ a. Answers a s (question policy.now window body.now)) }
-    ensures next { R.is_honest register.new → (s : State) → R.keeps register.old s
-        → OnOk result (R.keeps register.new (after s (question policy.now window body.now))) }
-    ensures kept { R.is_honest register.new → (s : State) → R.keeps register.old s
-        → IfOk result (λ a. IsKept a (after s (question policy.now window body.now)) body.now) }
-    ensures fault { R.is_honest register.new → (s : State) → R.keeps register.old s
-        → OnErr result (R.keeps register.new s) }
-    ensures durable { R.is_honest register.new → (s : State) → R.keeps register.old s → R.leaves register.old s s
-        → OnOk result (R.leaves register.new (after s (question policy.now window body.now))
-        (after s (question policy.now window body.now))) }
+    ensures weighs { R.is_honest register.new → (s : State) → R.keeps register.old s
+        → IfOk result (λ a. Weighs a s rows.old.items rows.new.items (question policy.now window body.now)) }
+    ensures same { R.is_honest register.new → (s : State) → R.keeps register.old s → R.keeps register.new s }
     ensures crash { R.is_honest register.new → (s : State) → R.keeps register.old s → R.leaves register.old s s
-        → R.leaves register.new s (after s (question policy.now window body.now)) }
-    ensures cause { R.is_honest register.new → (s : State) → R.keeps register.old s → s.scope.last < 2 ^ 63
-        → window.moment < 2 ^ 63 → IfErr result (λ e. HasCause e (R.has_failed register.new)) }
+        → R.leaves register.new s s }
+    ensures cause { R.is_honest register.new → (s : State) → R.keeps register.old s
+        → IfErr result (λ e. HasCause e (R.has_failed register.new)) }
     ensures reported { PassesOn (R.reported register.old) (R.reported register.new) result }
-    ensures before { R.is_honest register.new → OnErr result (R.is_as_before register.old register.new) }
+    ensures before { R.is_honest register.new → R.is_as_before register.old register.new }
 {
-    let verdict = verdict_on(alloc, register, policy, window, body, fields)?;
-    let answer = answer_of(fields.serial, body, verdict);
-    match settle(alloc, register, window.moment, body, fields.serial, verdict) {
-        Ok(()) => Ok(answer),
-        Err(fault) => Err(fault),
+    let verdict = match verdict_on(
+        alloc,
+        register,
+        rows.as_slice(),
+        policy,
+        window,
+        body,
+        fields,
+    ) {
+        Ok(verdict) => verdict,
+        Err(fault) => return Err(fault),
+    };
+    match settle(alloc, rows, window.moment, body, fields.serial, verdict) {
+        Ok(()) => Ok(answer_of(fields.serial, body, verdict)),
+        Err(NoMemory) => Err(RegisterFault::NoMemory),
     }
 }
 
-/// Judges a body: whether it may be signed, and if not, why. A body that may be signed is kept before the answer.
+/// The answer for a body, if the register kept these rows too. Its own row is added, if it has to be kept.
+fn weigh<R: Register>(
+    alloc: Global,
+    register: &mut R,
+    rows: &mut Vec<Approved>,
+    policy: &Policy,
+    window: Window,
+    body: &[u8],
+) -> Result<Answer, RegisterFault>
+    ensures honest { R.is_honest register.new → R.is_honest register.old }
+    ensures weighs { R.is_honest register.new → (s : State) → R.keeps register.old s
+        → IfOk result (λ a. Weighs a s rows.old.items rows.new.items (question policy.now window body.now)) }
+    ensures same { R.is_honest register.new → (s : State) → R.keeps register.old s → R.keeps register.new s }
+    ensures crash { R.is_honest register.new → (s : State) → R.keeps register.old s → R.leaves register.old s s
+        → R.leaves register.new s s }
+    ensures cause { R.is_honest register.new → (s : State) → R.keeps register.old s
+        → IfErr result (λ e. HasCause e (R.has_failed register.new)) }
+    ensures reported { PassesOn (R.reported register.old) (R.reported register.new) result }
+    ensures before { R.is_honest register.new → R.is_as_before register.old register.new }
+{
+    match fields_of(alloc, body) {
+        Ok(fields) => {
+            let answer = weigh_fields(alloc, register, rows, policy, window, body, &fields);
+            drop(fields);
+            answer
+        }
+        Err(BodyFault::NoMemory) => Err(RegisterFault::NoMemory),
+        Err(fault) => Ok(Answer::NotABody(fault)),
+    }
+}
+
+/// The answers for bodies, in order, with the rows that have to be kept for them.
+fn weigh_all<R: Register>(
+    alloc: Global,
+    register: &mut R,
+    policy: &Policy,
+    window: Window,
+    bodies: &[Text],
+) -> Result<(Vec<Answer>, Vec<Approved>), RegisterFault>
+    ensures honest { R.is_honest register.new → R.is_honest register.old }
+    ensures weighs { R.is_honest register.new → (s : State) → R.keeps register.old s
+        → IfOk result (λ r. WeighsAll window.moment r.0.items s r.1.items
+        (questions policy.now window bodies.now)) }
+    ensures same { R.is_honest register.new → (s : State) → R.keeps register.old s → R.keeps register.new s }
+    ensures crash { R.is_honest register.new → (s : State) → R.keeps register.old s → R.leaves register.old s s
+        → R.leaves register.new s s }
+    ensures cause { R.is_honest register.new → (s : State) → R.keeps register.old s
+        → IfErr result (λ e. HasCause e (R.has_failed register.new)) }
+    ensures reported { PassesOn (R.reported register.old) (R.reported register.new) result }
+    ensures before { R.is_honest register.new → R.is_as_before register.old register.new }
+{
+    let mut answers = Vec::new(alloc);
+    let mut rows = Vec::new(alloc);
+    for body in bodies {
+        match weigh(alloc, register, &mut rows, policy, window, body.as_slice()) {
+            Ok(answer) => match answers.push(answer) {
+                Ok(()) => {}
+                Err(_) => return Err(RegisterFault::NoMemory),
+            },
+            Err(fault) => return Err(fault),
+        }
+    }
+    Ok((answers, rows))
+}
+
+/// Keeps rows, if there are any.
+#[tactic(auto, using(crate::proofs::Reported::reported_once))]
+fn keep_rows<R: Register>(register: &mut R, rows: Vec<Approved>) -> Result<(), RegisterFault>
+    ensures honest { R.is_honest register.new → R.is_honest register.old }
+    ensures next { R.is_honest register.new → (s : State) → R.keeps register.old s → AreNew s rows.items
+        → OnOk result (R.keeps register.new (with_rows s rows.items)) }
+    ensures fault { R.is_honest register.new → (s : State) → R.keeps register.old s
+        → OnErr result (R.keeps register.new s) }
+    ensures durable { R.is_honest register.new → (s : State) → R.keeps register.old s → R.leaves register.old s s
+        → AreNew s rows.items
+        → OnOk result (R.leaves register.new (with_rows s rows.items) (with_rows s rows.items)) }
+    ensures crash { R.is_honest register.new → (s : State) → R.keeps register.old s → R.leaves register.old s s
+        → AreNew s rows.items → R.leaves register.new s (with_rows s rows.items) }
+    ensures cause { R.is_honest register.new → (s : State) → R.keeps register.old s → AreNew s rows.items
+        → (moment : ℕ) → HaveRoom s moment rows.items → s.scope.last < 2 ^ 63 → moment < 2 ^ 63
+        → IfErr result (λ e. HasCause e (R.has_failed register.new)) }
+    ensures reported { R.reported register.new ≡ reported_by (R.reported register.old) result }
+    ensures before { R.is_honest register.new → OnErr result (R.is_as_before register.old register.new) }
+{
+    if rows.is_empty() {
+        drop(rows);
+        return Ok(());
+    }
+    register.keep(rows)
+}
+
+/// Judges bodies in order: whether each may be signed, and if not, why. Those that may be signed are kept before the
+/// answers, all at once.
 ///
 /// # Errors
 ///
@@ -175,21 +273,17 @@ pub fn judge<R: Register>(
     register: &mut R,
     policy: &Policy,
     window: Window,
-    body: &[u8],
-) -> Result<Answer, RegisterFault>
+    bodies: &[Text],
+) -> Result<Vec<Answer>, RegisterFault>
     ensures honest { R.is_honest register.new → R.is_honest register.old }
 
-    // The answer is the reference model's.
+    // Each answer is the reference model's, after the earlier bodies. By then a signed body is kept.
     ensures answered { R.is_honest register.new → (s : State) → R.keeps register.old s
-        → IfOk result (λ a. Answers a s (question policy.now window body.now)) }
+        → IfOk result (λ answers. AreAnswers answers.items s (questions policy.now window bodies.now)) }
 
     // Then the register keeps what the model keeps.
     ensures next { R.is_honest register.new → (s : State) → R.keeps register.old s
-        → OnOk result (R.keeps register.new (after s (question policy.now window body.now))) }
-
-    // By then a signed body is kept.
-    ensures kept { R.is_honest register.new → (s : State) → R.keeps register.old s
-        → IfOk result (λ a. IsKept a (after s (question policy.now window body.now)) body.now) }
+        → OnOk result (R.keeps register.new (after_all s (questions policy.now window bodies.now))) }
 
     // After a fault the register keeps what it kept.
     ensures fault { R.is_honest register.new → (s : State) → R.keeps register.old s
@@ -197,12 +291,12 @@ pub fn judge<R: Register>(
 
     // What was answered survives a crash.
     ensures durable { R.is_honest register.new → (s : State) → R.keeps register.old s → R.leaves register.old s s
-        → OnOk result (R.leaves register.new (after s (question policy.now window body.now))
-        (after s (question policy.now window body.now))) }
+        → OnOk result (R.leaves register.new (after_all s (questions policy.now window bodies.now))
+        (after_all s (questions policy.now window bodies.now))) }
 
-    // A crash during the call leaves what was kept, or that with this body.
+    // A crash during the call leaves what was kept, or that with all of these bodies.
     ensures crash { R.is_honest register.new → (s : State) → R.keeps register.old s → R.leaves register.old s s
-        → R.leaves register.new s (after s (question policy.now window body.now)) }
+        → R.leaves register.new s (after_all s (questions policy.now window bodies.now)) }
 
     // If the last serial and the time are below 2^63, a register that keeps a guard is never reported as damaged, and
     // is reported as failed only if its database has failed.
@@ -216,13 +310,11 @@ pub fn judge<R: Register>(
     // Nor has a call that returns a fault changed anything, whatever the register keeps.
     ensures before { R.is_honest register.new → OnErr result (R.is_as_before register.old register.new) }
 {
-    match fields_of(alloc, body) {
-        Ok(fields) => {
-            let answer = judge_fields(alloc, register, policy, window, body, &fields);
-            drop(fields);
-            answer
-        }
-        Err(BodyFault::NoMemory) => Err(RegisterFault::NoMemory),
-        Err(fault) => Ok(Answer::NotABody(fault)),
+    match weigh_all(alloc, register, policy, window, bodies) {
+        Ok((answers, rows)) => match keep_rows(register, rows) {
+            Ok(()) => Ok(answers),
+            Err(fault) => Err(fault),
+        },
+        Err(fault) => Err(fault),
     }
 }

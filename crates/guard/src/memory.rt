@@ -6,7 +6,7 @@ ghost use Rattle.std.specs.Option.{option_map};
 ghost use Rattle.guard.specs.Retiring.{IsFirstFrom};
 ghost use Rattle.guard.specs.State.{opened};
 
-use crate::approved::Approved;
+use crate::approved::{Approved, body_in};
 use crate::register::{Register, RegisterFault};
 use crate::scope::Scope;
 use std::alloc::Global;
@@ -32,15 +32,6 @@ impl Model for MemoryGuard {
       kept = record { scope = g.scope; approved = g.approved.items };
       reported = g.reported;
     } };
-}
-
-fn body_in(approved: &[Approved], serial: u64) -> Option<&Text>
-    ensures { option_copied result ≡ option_map (λ a. a.body) (find (λ a. a.serial == serial) approved.now) }
-{
-    match approved.iter().find(|row| row.serial == serial) {
-        Some(row) => Some(&row.body),
-        None => None,
-    }
 }
 
 fn copied(alloc: Global, body: Option<&Text>) -> Result<Option<Text>, NoMemory>
@@ -147,13 +138,13 @@ impl Register for MemoryGuard {
         }
     }
 
-    fn keep(&mut self, row: Approved) -> Result<(), RegisterFault> {
-        match self.approved.push(row) {
+    fn keep(&mut self, rows: Vec<Approved>) -> Result<(), RegisterFault> {
+        let mut rows = rows;
+        let kept = self.approved.append(&mut rows);
+        drop(rows);
+        match kept {
             Ok(()) => Ok(()),
-            Err(refused) => {
-                drop(refused);
-                Err(self.refuses())
-            }
+            Err(_) => Err(self.refuses()),
         }
     }
 

@@ -1,8 +1,8 @@
 //! Registers, which store a guard.
 
-ghost use Rattle.std.specs.Prelude.{◌≡◌, None, IfErr, IfOk, OnOk, OnErr};
-ghost use Rattle.guard.specs.Machine.{State, body_of, with_approved};
-ghost use Rattle.guard.specs.Judged.{HasCause, IsKeepable};
+ghost use Rattle.std.specs.Prelude.{◌≡◌, All, IfErr, IfOk, OnOk, OnErr};
+ghost use Rattle.guard.specs.Machine.{State, body_of, with_rows};
+ghost use Rattle.guard.specs.Judged.{AreNew, HasCause, IsKeepable};
 ghost use Rattle.guard.specs.Reported.{LastFault, reported_by};
 ghost use Rattle.guard.specs.Retiring.{IsLowered, IsRowFrom, with_last};
 
@@ -84,18 +84,18 @@ pub trait Register {
         ensures reported { reported self.new ≡ reported_by (reported self.old) result }
         ensures before { is_honest self.new → is_as_before self.old self.new };
 
-    /// Keeps a body under a serial that has none. After a fault the register keeps what it kept.
-    fn keep(&mut self, row: Approved) -> Result<(), RegisterFault>
+    /// Keeps bodies under serials that have none, all of them or none. After a fault the register keeps what it kept.
+    fn keep(&mut self, rows: Vec<Approved>) -> Result<(), RegisterFault>
         ensures honest { is_honest self.new → is_honest self.old }
-        ensures kept { is_honest self.new → (s : State) → keeps self.old s → body_of s row.serial ≡ None
-            → OnOk result (keeps self.new (with_approved s row)) }
+        ensures kept { is_honest self.new → (s : State) → keeps self.old s → AreNew s rows.items
+            → OnOk result (keeps self.new (with_rows s rows.items)) }
         ensures fault { is_honest self.new → (s : State) → keeps self.old s → OnErr result (keeps self.new s) }
-        ensures durable { is_honest self.new → (s : State) → keeps self.old s → body_of s row.serial ≡ None
-            → OnOk result (leaves self.new (with_approved s row) (with_approved s row)) }
+        ensures durable { is_honest self.new → (s : State) → keeps self.old s → AreNew s rows.items
+            → OnOk result (leaves self.new (with_rows s rows.items) (with_rows s rows.items)) }
         ensures crash { is_honest self.new → (s : State) → keeps self.old s → leaves self.old s s
-            → body_of s row.serial ≡ None → leaves self.new s (with_approved s row) }
-        ensures cause { is_honest self.new → (s : State) → keeps self.old s → body_of s row.serial ≡ None
-            → IsKeepable row → IfErr result (λ e. HasCause e (has_failed self.new)) }
+            → AreNew s rows.items → leaves self.new s (with_rows s rows.items) }
+        ensures cause { is_honest self.new → (s : State) → keeps self.old s → AreNew s rows.items
+            → All IsKeepable rows.items → IfErr result (λ e. HasCause e (has_failed self.new)) }
         ensures reported { reported self.new ≡ reported_by (reported self.old) result }
         ensures before { is_honest self.new → OnErr result (is_as_before self.old self.new) };
 

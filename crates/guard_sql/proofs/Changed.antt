@@ -82,13 +82,6 @@ opening_fits scope is (inr long) =
 module _ (old new : Connection)
     (settled : (trees : Trees) → IsTrue new.is_open → new.may_leave trees → trees ≡ new.committed.trees)
     (r : Result (Unit {0}) Fault) where
-  pub body_kept : (row : Approved) → row.serial < 2 ^ 63
-      → Whole guard_tables (with_approval (approval_row row)) (RefusesApproval (approval_row row)) old new r
-      → Leads (λ s. body_of s row.serial ≡ None) (IsKeepable row) (λ s. with_approved s row) old new (told (λ x. x) r)
-  body_kept row low = leads_whole (λ s. body_of s row.serial ≡ None) (IsKeepable row) (λ s. with_approved s row)
-      (with_approval (approval_row row)) (RefusesApproval (approval_row row)) (λ s guard none. more_lawful row low s guard)
-      (more_same row) (λ s guard none room. more_fits row s none room) old new settled r
-
   pub last_set : (last : ℕ) → Whole guard_tables (with_last_row last) (RefusesLast last) old new r
       → Leads (λ s. IsLowered s last) (Unit {0}) (λ s. with_last s last) old new (told (λ x. x) r)
   last_set last = leads_whole (λ s. IsLowered s last) (Unit {0}) (λ s. with_last s last) (with_last_row last)

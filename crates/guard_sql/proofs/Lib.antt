@@ -15,3 +15,4 @@ pub mod Opened
 pub mod Steps
 pub mod Left
 pub mod Lives
+pub mod Several

@@ -14,3 +14,4 @@ pub mod Images
 pub mod Steps
 pub mod Lives
 pub mod Runs
+pub mod Several

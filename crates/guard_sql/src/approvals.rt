@@ -8,8 +8,15 @@ ghost use Rattle.guard_sql.specs.Damage.{SaysFirstUnless, SaysRowUnless};
 ghost use Rattle.guard_sql.specs.Refusals.{RefusesApproval};
 ghost use Rattle.rows.specs.Statements.{Reads, Writes};
 ghost use Rattle.guard_sql.specs.Contents.{guard_tables};
+ghost use Rattle.guard_sql.specs.Cells.{approval_cells};
+ghost use Rattle.guard_sql.specs.Rows.{approval_row};
+ghost use Rattle.guard_sql.specs.Several.{IsLow};
+ghost use Rattle.sqlite.specs.Values.{bound};
+ghost use Rattle.std.specs.Prelude.{◌≡◌};
 
+use crate::creating::number;
 use crate::sql::{FIND_APPROVED, FROM_APPROVED, INSERT_APPROVED};
+use guard::Approved;
 use rows::{Columns, Kind, Memory, blob_at, done, found_first, is_row_of, number_at, value_of};
 use sqlite::types::ValueRef;
 use sqlite::{Alter, Connection, Row};
@@ -27,21 +34,16 @@ pub(crate) struct ApprovalRow {
     pub body: Text,
 }
 
-impl ApprovalRow {
-    ghost use Rattle.std.specs.Prelude.{◌≡◌, ◌<◌, ◌^◌};
-    ghost use Rattle.sqlite.specs.Values.{bound};
-    ghost use Rattle.guard_sql.specs.Cells.{approval_cells};
-
-    fn values(&self) -> [ValueRef<'_>; 3]
-        ensures is { bound result ≡ approval_cells self.now }
-        ensures low { self.now.serial < 2 ^ 63 }
-    {
-        [
-            value_of(self.serial),
-            value_of(self.moment),
-            ValueRef::Blob(self.body.as_slice()),
-        ]
-    }
+/// The values of an approved body's row.
+fn values_of(row: &Approved) -> [ValueRef<'_>; 3]
+    requires { IsLow row.now }
+    ensures { bound result ≡ approval_cells (approval_row row.now) }
+{
+    [
+        value_of(number(row.serial)),
+        value_of(number(row.moment)),
+        ValueRef::Blob(row.body.as_slice()),
+    ]
 }
 
 impl Columns for ApprovalRow {
@@ -71,11 +73,13 @@ impl Columns for ApprovalRow {
 /// Stores an approved body. `Device` also if its serial is taken, or the row is too long.
 pub(crate) fn insert_approval<S: Alter>(
     conn: &mut Connection<S>,
-    approval: &ApprovalRow,
+    row: &Approved,
 ) -> Result<(), Fault>
-    ensures { Writes guard_tables S.Store (with_approval approval.now) (RefusesApproval approval.now) conn.old conn.new result }
+    requires { IsLow row.now }
+    ensures { Writes guard_tables S.Store (with_approval (approval_row row.now)) (RefusesApproval (approval_row row.now))
+        conn.old conn.new result }
 {
-    done(conn.execute(INSERT_APPROVED, &approval.values()))
+    done(conn.execute(INSERT_APPROVED, &values_of(row)))
 }
 
 /// The body that was approved under this serial, if there is one. `Damaged` if its row has another form.

@@ -24,7 +24,7 @@ use text::{NoMemory, Text};
 pub(crate) const SCHEMA: u64 = 1;
 
 /// The number, as a column can hold it.
-fn number(value: u64) -> Number
+pub(crate) fn number(value: u64) -> Number
     requires { value < 2 ^ 63 }
     ensures { result ≡ value }
 {

@@ -1,27 +1,48 @@
 //! Writes, each in a transaction of its own.
 
-ghost use Rattle.guard_sql.specs.Changes.{with_approval, with_last};
-ghost use Rattle.guard_sql.specs.Refusals.{RefusesApproval, RefusesLast};
-ghost use Rattle.rows.specs.Transactions.{WritesWhole};
+ghost use Rattle.std.specs.Prelude.{All, IsTrue};
+ghost use Rattle.sqlite.specs.Held.{state};
+ghost use Rattle.sqlite.specs.State.{HasCleanDisk};
+ghost use Rattle.guard_sql.specs.Changes.{with_last};
+ghost use Rattle.guard_sql.specs.Refusals.{RefusesLast};
+ghost use Rattle.guard_sql.specs.Several.{IsLow, RefusesApprovals, with_approvals};
+ghost use Rattle.rows.specs.Transactions.{Does, WritesWhole};
 ghost use Rattle.guard_sql.specs.Contents.{guard_tables};
 
-use crate::approvals::{ApprovalRow, insert_approval};
+use crate::approvals::insert_approval;
 use crate::guards::update_last;
+use guard::Approved;
 use rows::conclude;
 use sqlite::{Alter, Connection};
 use store_sql::{Fault, Number, begin};
 
-/// Stores an approved body.
-pub(crate) fn keep_approval<S: Alter>(
+/// Inserts a row for each approved body, in order, over an open connection.
+fn insert_approvals<S: Alter>(conn: &mut Connection<S>, rows: &[Approved]) -> Result<(), Fault>
+    requires low { All IsLow rows.now }
+    requires opens { HasCleanDisk (state S.Store conn.old) → IsTrue (state S.Store conn.old).is_open }
+    ensures { Does guard_tables S.Store (with_approvals rows.now) (RefusesApprovals rows.now) conn.old conn.new result }
+{
+    for row in rows {
+        match insert_approval(conn, row) {
+            Ok(()) => {}
+            Err(fault) => return Err(fault),
+        }
+    }
+    Ok(())
+}
+
+/// Stores approved bodies, all or none.
+pub(crate) fn keep_approvals<S: Alter>(
     conn: &mut Connection<S>,
-    approval: &ApprovalRow,
+    rows: &[Approved],
 ) -> Result<(), Fault>
-    ensures { WritesWhole guard_tables S.Store (with_approval approval.now) (RefusesApproval approval.now)
+    requires { All IsLow rows.now }
+    ensures { WritesWhole guard_tables S.Store (with_approvals rows.now) (RefusesApprovals rows.now)
         conn.old conn.new result }
 {
     match begin(conn) {
         Ok(()) => {
-            let kept = insert_approval(conn, approval);
+            let kept = insert_approvals(conn, rows);
             conclude(conn, kept)
         }
         Err(fault) => Err(fault),

@@ -95,8 +95,10 @@ impl<S: Alter> Register for GuardStore<S> {
         }
     }
 
-    fn keep(&mut self, row: Approved) -> Result<(), RegisterFault> {
-        match keep(&mut self.conn, row) {
+    fn keep(&mut self, rows: Vec<Approved>) -> Result<(), RegisterFault> {
+        let kept = keep(&mut self.conn, rows.as_slice());
+        drop(rows);
+        match kept {
             Ok(()) => Ok(()),
             Err(fault) => Err(self.reports(fault)),
         }

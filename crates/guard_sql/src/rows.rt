@@ -1,32 +1,36 @@
-//! Approved bodies as rows, and rows as approved bodies.
+//! Rows as approved bodies, and whether columns can hold those of approved bodies.
 
-ghost use Rattle.std.specs.Prelude.{◌≡◌, ◌<◌, ◌^◌, IfSome, IsSome};
+ghost use Rattle.std.specs.Prelude.{◌≡◌, All, IsTrue};
 ghost use Rattle.guard.specs.Judged.{IsKeepable};
-ghost use Rattle.guard_sql.specs.Rows.{approval_row, approved_in};
+ghost use Rattle.guard_sql.specs.Rows.{approved_in};
+ghost use Rattle.guard_sql.specs.Several.{IsLow};
 
 use crate::approvals::ApprovalRow;
 use guard::Approved;
 use store_sql::Number;
 
-/// The row of an approved body, or `None` if its serial or its time is 2^63 or more.
-pub(crate) fn approval_row(approved: Approved) -> Option<ApprovalRow>
-    ensures is { IfSome result (λ row. row ≡ approval_row approved) }
-    ensures low { IfSome result (λ row. row.serial < 2 ^ 63) }
-    ensures room { IsKeepable approved → IsSome result }
+/// Whether columns can hold the numbers of a row.
+fn is_low(row: &Approved) -> bool
+    ensures low { IsTrue result → IsLow row.now }
+    ensures room { IsKeepable row.now → IsTrue result }
 {
-    let Approved {
-        serial,
-        moment,
-        body,
-    } = approved;
-    match (Number::new(serial), Number::new(moment)) {
-        (Some(serial), Some(moment)) => Some(ApprovalRow {
-            serial,
-            moment,
-            body,
-        }),
-        _ => None,
+    matches!(
+        (Number::new(row.serial), Number::new(row.moment)),
+        (Some(_), Some(_))
+    )
+}
+
+/// Whether columns can hold the numbers of these rows.
+pub(crate) fn are_low(rows: &[Approved]) -> bool
+    ensures low { IsTrue result → All IsLow rows.now }
+    ensures room { All IsKeepable rows.now → IsTrue result }
+{
+    for row in rows {
+        if !is_low(row) {
+            return false;
+        }
     }
+    true
 }
 
 /// The approved body in a row.

@@ -1,9 +1,9 @@
 //! The calls of the register, over a connection.
 
-ghost use Rattle.std.specs.Prelude.{◌≡◌, None};
+ghost use Rattle.std.specs.Prelude.{◌≡◌, All};
 ghost use Rattle.std.specs.Option.{option_map};
-ghost use Rattle.guard.specs.Judged.{IsKeepable};
-ghost use Rattle.guard.specs.Machine.{body_of, with_approved};
+ghost use Rattle.guard.specs.Judged.{AreNew, IsKeepable};
+ghost use Rattle.guard.specs.Machine.{body_of, with_rows};
 ghost use Rattle.guard.specs.Retiring.{IsLowered, IsRowFrom, with_last};
 ghost use Rattle.store_sql.specs.Honest.{On};
 ghost use Rattle.guard_sql.specs.Damage.{SaysApprovedUnless, SaysBodyUnless};
@@ -12,8 +12,8 @@ ghost use Rattle.guard_sql.specs.Rows.{approved_in};
 
 use crate::approvals::{ApprovalRow, find_approval, first_approval_from};
 use crate::faults::register_fault;
-use crate::keeping::{end_at, keep_approval};
-use crate::rows::{approval_row, approved};
+use crate::keeping::{end_at, keep_approvals};
+use crate::rows::{approved, are_low};
 use guard::{Approved, RegisterFault};
 use sqlite::{Alter, Connection};
 use std::alloc::Global;
@@ -74,15 +74,18 @@ pub(crate) fn row_from<S: Alter>(
     }
 }
 
-/// Stores a body under a serial that has none.
-pub(crate) fn keep<S: Alter>(conn: &mut Connection<S>, row: Approved) -> Result<(), RegisterFault>
-    ensures { LeadsOf S.Store (λ s. body_of s row.serial ≡ None) (IsKeepable row) (λ s. with_approved s row)
+/// Stores bodies under serials that have none, all or none of them.
+pub(crate) fn keep<S: Alter>(
+    conn: &mut Connection<S>,
+    rows: &[Approved],
+) -> Result<(), RegisterFault>
+    ensures { LeadsOf S.Store (λ s. AreNew s rows.now) (All IsKeepable rows.now) (λ s. with_rows s rows.now)
         conn.old conn.new result }
 {
-    let Some(approval) = approval_row(row) else {
+    if !are_low(rows) {
         return Err(RegisterFault::Device);
-    };
-    match keep_approval(conn, &approval) {
+    }
+    match keep_approvals(conn, rows) {
         Ok(()) => Ok(()),
         Err(fault) => Err(register_fault(fault)),
     }

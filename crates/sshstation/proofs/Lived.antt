@@ -14,7 +14,7 @@ use Rattle.sqlite.specs.Files.{file_state}
 use Rattle.message.specs.declared.department.Department.{Department}
 use Rattle.guard.specs.declared.register.Register as register
 use Rattle.guard.specs.declared.scope.Scope.{Scope}
-use Rattle.guard.specs.Machine.{State, Question, opened, row_of}
+use Rattle.guard.specs.Machine.{State, Question, after, after_all, opened, row_of}
 use Rattle.guard.specs.Retirement.{if_retired}
 use Rattle.guard.specs.Retiring.{with_last}
 use Rattle.guard_sql.specs.declared.store.GuardStore.{GuardStore}
@@ -32,10 +32,10 @@ use Rattle.station_jobs.specs.declared.station_fault.StationFault.TheVariants.{B
 use Rattle.station_jobs.specs.declared.surroundings.Surroundings as surroundings
 use Rattle.station_jobs.specs.Bodies.{PrintsBody, PrintsRows}
 use Rattle.station_jobs.specs.Jobs.{InitsIn}
-use Rattle.station_jobs.specs.Judging.{AsksNow, IsBadPolicyAt}
+use Rattle.station_jobs.specs.Judging.{AsksGiven, IsBadPolicyAt}
 use Rattle.station_jobs.specs.Leaving.{IsNext, OfBodies, OfNone, OfRetiring, Step as JobStep}
 use Rattle.station_jobs.specs.Whole.{Begins, ClosesNew, Follows, IsOfGiven, JudgesGiven, LeavesFiles, MakesIn, Retires}
-use Rattle.station_jobs.specs.Whole.{RetiresTo, RunsIn, RunsOver, is_input}
+use Rattle.station_jobs.specs.Whole.{RetiresTo, RunsIn, RunsOver, is_input, most_of}
 use Rattle.guard_sql.specs.Images.{Holds, HoldsGuard, HoldsKept, Standing}
 use Rattle.guard_sql.specs.Lives.{Backs, IsRun, Said}
 use Rattle.guard_sql.specs.Steps.{Step, stepped}
@@ -66,10 +66,13 @@ step_lawful s step guard =
     let low : c.serial < 2 ^ 63 = omega (arith, most, below) in more_lawful (row_of q c) low s guard)
     (λ last low. lower_lawful last s guard low)
 
+asked_lawful : (s : State) (qs : List Question) → IsGuard s → IsGuard (after_all s qs)
+asked_lawful s [] guard = guard
+asked_lawful s (q ∷ qs) guard = asked_lawful (after s q) qs (step_lawful s (Step.asking q) guard)
+
 next_lawful : (May : JobStep → Type 0) (s next : State) → IsGuard s → IsNext May s next → IsGuard next
 next_lawful May s next guard (inl same) = subst IsGuard (sym same) guard
-next_lawful May s next guard (inr (inl (q, may, same))) =
-    subst IsGuard (sym same) (step_lawful s (Step.asking q) guard)
+next_lawful May s next guard (inr (inl (qs, may, same))) = subst IsGuard (sym same) (asked_lawful s qs guard)
 next_lawful May s next guard (inr (inr (last, may, retires))) =
     subst IsGuard (ap (if_retired s) retires) (step_lawful s (Step.retiring last) guard)
 
@@ -404,25 +407,25 @@ module _ (S Dk : Type 0) (g : Ghosts Dk) (image : Image) (value : S) where
             bodies = map string_bytes j.bodies.items
 
             Asked : List ℕ → Question → Type 0
-            Asked = AsksNow world around remaining (string_bytes j.policy) j.ahead
+            Asked = AsksGiven world around remaining (is_input bodies) (string_bytes j.policy) j.ahead
 
             by_policy : (known : Result (List Department) StationFault)
                 → Follows
-                (λ _. RunsIn guard file db db' (string_bytes j.db) (OfBodies Asked)
+                (λ _. RunsIn guard file db db' (string_bytes j.db) (OfBodies (most_of (is_input bodies)) Asked)
                 (λ s L r. JudgesGiven (is_input bodies) s L
-                (AsksNow world around remaining (string_bytes j.policy) j.ahead) bodies input held holds r
+                (AsksGiven world around remaining (is_input bodies) (string_bytes j.policy) j.ahead) bodies input held holds r
                 × IfErr r (IsOfGiven (IsBadPolicyAt world around remaining (string_bytes j.policy)) (is_input bodies)))
                 (holds ≡ held)) ((db' ≡ db) × (holds ≡ held)) known result
                 → Told (MayBe (job.Judge j)) (Said.judging held holds) (files_of db')
             by_policy (Ok policy) ran =
-                ran_lived (OfBodies Asked) (MayBe (job.Judge j))
-                (record { asks = λ q may. may; retires = λ last may. absurd may })
+                ran_lived (OfBodies (most_of (is_input bodies)) Asked) (MayBe (job.Judge j))
+                (record { asks = λ qs may. may.1; retires = λ last may. absurd may })
                 (λ s L r. JudgesGiven (is_input bodies) s L
-                (AsksNow world around remaining (string_bytes j.policy) j.ahead) bodies input held holds r
+                (AsksGiven world around remaining (is_input bodies) (string_bytes j.policy) j.ahead) bodies input held holds r
                 × IfErr r (IsOfGiven (IsBadPolicyAt world around remaining (string_bytes j.policy)) (is_input bodies)))
                 (string_bytes j.db) (holds ≡ held) result (Said.judging held holds) (silent held holds)
                 (λ s L r guard did. given_last (MayBe (job.Judge j))
-                (AsksNow world around remaining (string_bytes j.policy) j.ahead) (λ path q asked. (path, asked))
+                (AsksGiven world around remaining (is_input bodies) (string_bytes j.policy) j.ahead) (λ path q asked. (path, asked))
                 (is_input bodies) s L bodies input held holds r did.0) ran
             by_policy (Err e) ran = same_db (MayBe (job.Judge j)) (Said.judging held holds) ran.1.0
         job_lived (job.Bodies path) input held holds result is =

@@ -13,7 +13,7 @@ use Rattle.guard.specs.declared.judging.Answer.{Answer}
 use Rattle.guard.specs.declared.judging.Answer.TheVariants as answer
 use Rattle.guard.specs.AnswerLines.{answer_line}
 use Rattle.guard.specs.Judged.{Answers, IsKept}
-use Rattle.guard.specs.Machine.{State, Question, after}
+use Rattle.guard.specs.Machine.{State, Question, after, after_all}
 use Rattle.guard.specs.Retirement.{if_retired}
 use Rattle.guard_sql.specs.Images.{Standing}
 use Rattle.guard_sql.specs.Lives.{Answered, AreBacked, AreSaid, Backs, IsBacked, Said}
@@ -49,16 +49,26 @@ leads_then Taken s t u first second = record {
       ∙ (ap (λ (p : Standing). fold next_guard p second.steps) first.leads ∙ second.leads);
 }
 
+-- questions in order
+asked_leads : (Taken : Step → Type 0) (s : State) (qs : List Question) → All (λ q. Taken (Step.asking q)) qs
+    → Leads Taken s (after_all s qs)
+asked_leads Taken s [] all = leads_same Taken s
+asked_leads Taken s (q ∷ qs) all =
+    let next = after s q in
+    leads_then Taken s next (after_all next qs)
+    (leads_one Taken s (Step.asking q) (All-head (λ (q : Question). Taken (Step.asking q)) q qs all))
+    (asked_leads Taken next qs (All-tail (λ (q : Question). Taken (Step.asking q)) q qs all))
+
 -- each step of a job is one that may be taken
 pub record Covers (May : JobStep → Type 0) (Taken : Step → Type 0) : Type 0 where
-  pub asks : (q : Question) → May (JobStep.asking q) → Taken (Step.asking q)
+  pub asks : (qs : List Question) → May (JobStep.asking qs) → All (λ q. Taken (Step.asking q)) qs
   pub retires : (last : ℕ) → May (JobStep.retiring last) → Taken (Step.retiring last)
 
 pub next_leads : (May : JobStep → Type 0) (Taken : Step → Type 0) → Covers May Taken → (s next : State)
     → IsNext May s next → Leads Taken s next
 next_leads May Taken covers s next (inl same) = subst (Leads Taken s) (sym same) (leads_same Taken s)
-next_leads May Taken covers s next (inr (inl (q, may, same))) =
-    subst (Leads Taken s) (sym same) (leads_one Taken s (Step.asking q) (covers.asks q may))
+next_leads May Taken covers s next (inr (inl (qs, may, same))) =
+    subst (Leads Taken s) (sym same) (asked_leads Taken s qs (covers.asks qs may))
 next_leads May Taken covers s next (inr (inr (last, may, retires))) =
     subst (Leads Taken s) (ap (if_retired s) retires)
     (leads_one Taken s (Step.retiring last) (covers.retires last may))
@@ -92,15 +102,15 @@ begins_both a b n =
     (ap (λ (t : List ℕ). a ++ t) (sym (take-append-drop n b)) ∙ sym (append_assoc a (take n b) (drop n b)))
     ∙ take_at (a ++ take n b) (drop n b) (length (a ++ take n b)) refl
 
-are_said : (js : List Judgement) (held holds : Option (List ℕ)) (r : Result (Unit {0}) StationFault)
-    → IsPrinted js held holds r → AreSaid (answers_of js) (Said.judging held holds)
-are_said js held holds (Ok done) printed = (
+are_said : (most : ℕ) (js : List Judgement) (held holds : Option (List ℕ)) (r : Result (Unit {0}) StationFault)
+    → IsPrinted most js held holds r → AreSaid (answers_of js) (Said.judging held holds)
+are_said most js held holds (Ok done) printed = (
   length (lines_of js),
   subst (Appends held holds)
       (sym (ap (take (length (lines_of js))) (same_lines js) ∙ take_all (length (lines_of js)) (lines_of js) (omega arith)))
       printed,
 )
-are_said js held holds (Err e) (whole, last, count, are, short, printed) =
+are_said most js held holds (Err e) (whole, last, count, are, short, printed) =
     let told = lines_of whole ++ take count (lines_of last) in
     let all : lines_of whole ++ lines_of last ≡ lines_of js =
     sym (ap lines_of are ∙ flat_map-append (λ (j : Judgement). answer_line j.answer) whole last) in (
@@ -163,21 +173,21 @@ same_lasts Taken s Left r left = record {
 
 module _ (Taken : Step → Type 0) (Asked : List ℕ → Question → Type 0)
     (asks : (path : List ℕ) (q : Question) → Asked path q → Taken (Step.asking q)) where
-  judges_last : (s : State) (Left : State → Result (Unit {0}) StationFault → Type 0) (paths : List (List ℕ))
+  judges_last : {most : ℕ} (s : State) (Left : State → Result (Unit {0}) StationFault → Type 0) (paths : List (List ℕ))
       (held holds : Option (List ℕ)) (r : Result (Unit {0}) StationFault)
-      → Judges s Left Asked paths held holds r → Lasts Taken s (Said.judging held holds) Left
-  judges_last s Left paths held holds r is =
+      → Judges most s Left Asked paths held holds r → Lasts Taken s (Said.judging held holds) Left
+  judges_last {most = most} s Left paths held holds r is =
       let t = left_by s is.judged in
       let all : All (λ (j : Judgement). Taken (Step.asking j.question)) is.judged =
-      All-weaker (λ (j : Judgement). Asked j.path j.question) (λ (j : Judgement). Taken (Step.asking j.question))
-      (λ j is_asked. asks j.path j.question is_asked) is.judged is.asked in
+      All-weaker (λ (j : Judgement). Asked j.given j.question) (λ (j : Judgement). Taken (Step.asking j.question))
+      (λ j is_asked. asks j.given j.question is_asked) is.judged is.asked in
       record {
         t = t;
         outcome = r;
         took = judged_leads Taken s is.judged all;
         backs = (
           answers_of is.judged,
-          are_said is.judged held holds r is.printed,
+          are_said most is.judged held holds r is.printed,
           are_backed s t is.judged is.answered is.kept,
         );
         left = is.left;
@@ -187,5 +197,6 @@ module _ (Taken : Step → Type 0) (Asked : List ℕ → Question → Type 0)
       (bodies : List (List ℕ)) (input held holds : Option (List ℕ))
       (r : Result (Unit {0}) StationFault) → JudgesGiven b s Left Asked bodies input held holds r
       → Lasts Taken s (Said.judging held holds) Left
-  given_last true s Left bodies input held holds r is = judges_last s Left is.paths held holds r is.judges
+  given_last true s Left bodies input held holds r is =
+      judges_last s Left (flat_map (λ given. given) is.batches) held holds r is.judges
   given_last false s Left bodies input held holds r is = judges_last s Left bodies held holds r is

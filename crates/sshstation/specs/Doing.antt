@@ -37,7 +37,7 @@ Declines (Help text) held holds Told answered =
 Declines (BadWords text) held holds Told answered = (holds ≡ held) × Told (string_bytes text) × (answered ≡ 2)
 Declines NoMemory held holds Told answered = (holds ≡ held) × Told (fault_line fault.NoMemory) × (answered ≡ 1)
 
--- whether the job reads paths from the input
+-- whether the job reads bodies from the input
 abbrev pub reads_input : StationJob → Bool
 reads_input (Judge j) = is_input (map string_bytes j.bodies.items)
 reads_input other = false

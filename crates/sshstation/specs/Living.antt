@@ -1,5 +1,5 @@
 -- The effect of the words over the files of a database: a job over the files of a guard is a run in their lifetime.
-use Rattle.std.specs.Prelude.{◌≡◌, ◌⊎◌, ℕ, List, Option, Ok, string_bytes}
+use Rattle.std.specs.Prelude.{◌≡◌, ◌⊎◌, ℕ, List, map, Option, Ok, string_bytes}
 use Rattle.sqlite_disk.specs.declared.Disk.{Ghosts}
 use Rattle.sqlite_wal.specs.Recovery.{Image}
 use Rattle.sqlite_wal.specs.Files.{outcomes}
@@ -16,8 +16,8 @@ use Rattle.list_jobs.specs.declared.list_file.ListFile as lists
 use Rattle.list_sql.specs.declared.store.ListStore.{ListStore}
 use Rattle.station_jobs.specs.declared.guard_file.GuardFile as file
 use Rattle.station_jobs.specs.declared.surroundings.Surroundings as surroundings
-use Rattle.station_jobs.specs.Judging.{AsksNow}
-use Rattle.station_jobs.specs.Whole.{Begins}
+use Rattle.station_jobs.specs.Judging.{AsksGiven}
+use Rattle.station_jobs.specs.Whole.{Begins, is_input}
 use Rattle.guard_sql.specs.Lives.{Said}
 use Rattle.guard_sql.specs.Runs.{RunsOn}
 use Rattle.guard_sql.specs.Steps.{Step}
@@ -39,13 +39,14 @@ IsLived g image May said left =
     AreClean g left.1.log left.1.db → IsWhole left.0 → RunsOn image May said (outcomes g left.1.log left.1.db)
 
 module _ {E F : Type 0} (world : surroundings.Ghosts E F) (around : E) (remaining : F → Option (List ℕ)) where
-  -- The steps that a job may take: a guard is made with the key in a file; it is asked about the content of a file, by
-  -- the policy in its file at that time; or it is retired to a last serial.
+  -- The steps that a job may take: a guard is made with the key in a file; it is asked about the content of a file, or
+  -- about bytes from the input, by the policy in its file at that time; or it is retired to a last serial.
   abbrev pub MayTake : StationJob → Step → Type 0
   MayTake (Init path ca first last) (Step.making scope) =
       (file : F) × world.has around (string_bytes ca) file × Begins (remaining file) first last (Ok scope)
   MayTake (Judge j) (Step.asking q) =
-      (path : List ℕ) × AsksNow world around remaining (string_bytes j.policy) j.ahead path q
+      (given : List ℕ) × AsksGiven world around remaining (is_input (map string_bytes j.bodies.items))
+      (string_bytes j.policy) j.ahead given q
   MayTake (Retire path last) (Step.retiring lower) = lower ≡ last
   MayTake job step = ⊥
 

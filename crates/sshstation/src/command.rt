@@ -227,7 +227,7 @@ pub(crate) fn do_words<
     // If a job was done, or a text shown, nothing is written to `err`.
     ensures silent { result ≡ 0 → err.new ≡ err.old }
 
-    // Only a job that judges the bodies at the input's paths reads the input.
+    // Only a job that judges the bodies of the input reads it.
     ensures unread { LeaveInput (map string_bytes words.now) → I.remaining input.new ≡ I.remaining input.old }
     ensures does { DoesWords P.Surroundings around.now F.remaining G.Register D.GuardFile db.old db.new
         K.ListRegister L.ListFile lists.old lists.new (map string_bytes words.now) (I.remaining input.old)

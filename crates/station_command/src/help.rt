@@ -45,8 +45,9 @@ pub const JUDGE_MORE: &str = "Example:
   sshstation judge --db guard.db --policy policy body
 
 It prints one line per BODY, in order: sign SERIAL DIGEST or refuse NAME.
-If the only BODY is -, it reads paths from standard input, one per line, and answers each before it
-reads the next. It then reads the policy again before each BODY.";
+If the only BODY is -, it reads batches from standard input: a line judge COUNT, and for each BODY a
+line with its length in bytes, and the bytes. COUNT is at most 64. It reads the policy again before
+each batch, and answers a batch before it reads the next.";
 
 /// What `bodies` does.
 pub const BODIES: &str = "Prints one line per approved certificate";
@@ -146,7 +147,7 @@ pub const AHEAD_SECONDS: &str =
 
 /// What `BODY` is.
 pub const BODY_FILES: &str =
-    "The files of unsigned certificates, or - to read paths from standard input";
+    "The files of unsigned certificates, or - to read them from standard input";
 
 /// What `SERIAL` is.
 pub const SERIAL: &str = "The certificate's serial, 1 to 18446744073709551615";

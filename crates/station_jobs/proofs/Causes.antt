@@ -4,8 +4,10 @@ use Rattle.std.specs.Prelude.{IfErr}
 use Rattle.guard.specs.declared.register.RegisterFault.{RegisterFault}
 use Rattle.guard.specs.declared.register.RegisterFault.TheVariants as register
 use Rattle.station_jobs.specs.declared.station_fault.StationFault.{StationFault}
-use Rattle.station_jobs.specs.declared.station_fault.StationFault.TheVariants.{BadPolicy, Clock, Damaged, File, NoMemory, Write}
+use Rattle.station_jobs.specs.declared.station_fault.StationFault.TheVariants.{BadPolicy, Clock, Damaged, File, Input, NoMemory}
+use Rattle.station_jobs.specs.declared.station_fault.StationFault.TheVariants.{Write}
 use Rattle.station_jobs.specs.Faults.{IsOfABody, IsOfAFile, IsOfAPolicy, IsOfAQuestion, IsOfARow, IsOfAnAnswer}
+use Rattle.station_jobs.specs.Faults.{IsOfAnInput}
 use Rattle.station_jobs.specs.Faults.{IsOfBodies, IsOfJudging, IsOfRows, of_register}
 
 pub of_a_file : (e : StationFault) → IsOfAFile e → IsOfAPolicy e
@@ -18,15 +20,22 @@ of_a_body File h = tt
 of_a_body NoMemory h = tt
 of_a_body other h = absurd h
 
+pub input_of_a_file : (e : StationFault) → IsOfAFile e → IsOfAnInput e
+input_of_a_file File h = tt
+input_of_a_file NoMemory h = tt
+input_of_a_file other h = absurd h
+
 -- ---- faults of judging
 
-pub judging_of_a_file : (Bad : ℕ → Type 0) (e : StationFault) → IsOfAFile e → IsOfJudging Bad e
-judging_of_a_file Bad File h = tt
-judging_of_a_file Bad NoMemory h = tt
-judging_of_a_file Bad other h = absurd h
+pub judging_of_an_input : (Bad : ℕ → Type 0) (e : StationFault) → IsOfAnInput e → IsOfJudging Bad e
+judging_of_an_input Bad Input h = tt
+judging_of_an_input Bad File h = tt
+judging_of_an_input Bad NoMemory h = tt
+judging_of_an_input Bad other h = absurd h
 
 pub judging_of_bodies : (Bad : ℕ → Type 0) (e : StationFault) → IsOfBodies e → IsOfJudging Bad e
 judging_of_bodies Bad (BadPolicy line) h = absurd h
+judging_of_bodies Bad Input h = absurd h
 judging_of_bodies Bad other h = h
 
 pub judging_of_a_policy : (Bad : ℕ → Type 0) (e : StationFault) → IsOfAPolicy e

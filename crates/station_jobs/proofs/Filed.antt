@@ -1,5 +1,6 @@
 -- From the guard that files held before a job to the one that they hold after it.
 use Rattle.std.proofs.Common.{◌≡◌, ℕ, List, Bool, true, false, Option, Result, Ok, Err}
+use Rattle.std.specs.List.{flat_map}
 use Rattle.guard.specs.declared.register.Register as register
 use Rattle.guard.specs.declared.scope.Scope.{Scope}
 use Rattle.guard.specs.Machine.{State, Question, opened}
@@ -98,9 +99,10 @@ pub given_so : (b : Bool) (s : State) (Left Left' : State → Result (Unit {0}) 
     → ((t : State) (r : Result (Unit {0}) StationFault) → Left t r → Left' t r)
     → JudgesGiven b s Left Asked bodies input held holds r → JudgesGiven b s Left' Asked bodies input held holds r
 given_so true s Left Left' Asked bodies input held holds r leads is = record {
-  paths = is.paths;
-  lines = is.lines;
-  judges = judged_so Left Left' Asked s is.paths held holds r (λ t left. leads t r left) is.judges;
+  batches = is.batches;
+  are = is.are;
+  judges = judged_so Left Left' Asked s (flat_map (λ bodies. bodies) is.batches) held holds r (λ t left. leads t r left)
+      is.judges;
 }
 given_so false s Left Left' Asked bodies input held holds r leads is =
     judged_so Left Left' Asked s bodies held holds r (λ t left. leads t r left) is

@@ -1,6 +1,7 @@
 -- What calls over a register leave, in sequence.
 use Rattle.std.proofs.Common.{◌≡◌, ◌<◌, ◌^◌, ℕ, List, Option, Result, Ok, Err, refl, sym, subst, inl, inr}
 use Rattle.std.specs.Prelude.{IfErr, OnErr, OnOk}
+use Rattle.std.specs.List.{flat_map}
 use Rattle.std.specs.Io.KnownBytes.{Appends}
 use Rattle.wire.specs.Streams.{AppendsBeginning}
 use Rattle.guard.specs.declared.judging.Answer.{Answer}
@@ -9,13 +10,13 @@ use Rattle.guard.specs.declared.register.RegisterFault.{RegisterFault}
 use Rattle.guard.specs.declared.register.RegisterFault.TheVariants as register
 use Rattle.guard.specs.declared.scope.Scope.{Scope}
 use Rattle.guard.specs.AnswerLines.{answer_line}
-use Rattle.guard.specs.Judged.{Answers, IsKept, HasCause as IsRegisters}
-use Rattle.guard.specs.Machine.{State, Question, after}
+use Rattle.guard.specs.Judged.{AreAnswers, HasCause as IsRegisters}
+use Rattle.guard.specs.Machine.{State, Question, after_all}
 use Rattle.station_jobs.specs.declared.station_fault.StationFault.{StationFault}
 use Rattle.station_jobs.specs.declared.station_fault.StationFault.TheVariants as fault
-use Rattle.station_jobs.specs.Faults.{IsOfABody, IsOfAFile, IsOfAnAnswer, IsOfAPolicy, of_register}
-use Rattle.station_jobs.specs.Leaving.{HasCause, IsNext, Leaves, OfQuestion, Outlasts, Stays, Step}
-use Rattle.station_jobs.specs.Steps.{AnswersOne}
+use Rattle.station_jobs.specs.Faults.{IsOfABody, IsOfAFile, IsOfAnAnswer, IsOfAnInput, IsOfAPolicy, of_register}
+use Rattle.station_jobs.specs.Leaving.{HasCause, IsNext, Leaves, OfQuestions, Outlasts, Stays, Step}
+use Rattle.station_jobs.specs.Steps.{AnswersAll}
 
 -- ---- faults that don't come from a register
 
@@ -40,6 +41,12 @@ answer_cause : (failed : Type 0) (e : StationFault) → IsOfAnAnswer e → HasCa
 answer_cause failed fault.Write h = tt
 answer_cause failed fault.NoMemory h = tt
 answer_cause failed other h = absurd h
+
+pub input_cause : (failed : Type 0) (e : StationFault) → IsOfAnInput e → HasCause failed e
+input_cause failed fault.Input h = tt
+input_cause failed fault.File h = tt
+input_cause failed fault.NoMemory h = tt
+input_cause failed other h = absurd h
 
 -- a fault of a register has its cause
 pub register_cause : (failed : Type 0) (e : RegisterFault) → IsRegisters e failed → HasCause failed (of_register e)
@@ -96,42 +103,41 @@ module _ {G : Type 0} (guard : Ghosts G) where
     cause = λ low. second.cause (subst (λ (x : Scope). x.last < 2 ^ 63) (sym same) low);
   }
 
-  -- ---- one body
+  -- ---- questions that are answered together
 
-  pub unanswered : (old new : G) (s : State) (q : Question) (held : Option (List ℕ)) (e : RegisterFault)
-      → guard.keeps new s → (guard.leaves old s s → guard.leaves new s (after s q))
+  pub unanswered : (old new : G) (s : State) (qs : List Question) (held : Option (List ℕ)) (e : RegisterFault)
+      → guard.keeps new s → (guard.leaves old s s → guard.leaves new s (after_all s qs))
       → (s.scope.last < 2 ^ 63 → IsRegisters e (guard.has_failed new))
-      → AnswersOne s (Leaves guard (OfQuestion q) old new s) q held held (Err (of_register e))
-  unanswered old new s q held e kept crash cause = inr (
+      → AnswersAll s (Leaves guard (OfQuestions qs) old new s) qs held held (Err (of_register e))
+  unanswered old new s qs held e kept crash cause = inr (
     tt,
     record {
       kept = kept;
-      lasts = λ left. (after s q, inr (inl (q, refl, refl)), crash left);
+      lasts = λ left. (after_all s qs, inr (inl (qs, refl, refl)), crash left);
       cause = λ low. register_cause (guard.has_failed new) e (cause low);
     },
     refl,
   )
 
-  pub answered : (old new : G) (s : State) (q : Question) (held holds : Option (List ℕ)) (a : Answer)
-      (r : Result (Unit {0}) StationFault) → Answers a s q → guard.keeps new (after s q) → IsKept a (after s q) q.body
-      → (guard.leaves old s s → guard.leaves new (after s q) (after s q)) → OnOk r (Appends held holds (answer_line a))
-      → OnErr r (AppendsBeginning held holds (answer_line a)) → IfErr r IsOfAnAnswer
-      → AnswersOne s (Leaves guard (OfQuestion q) old new s) q held holds r
-  answered old new s q held holds a (Ok done) answers left kept durable ok err only = inl (record {
-    answer = a;
+  pub answered : (old new : G) (s : State) (qs : List Question) (held holds : Option (List ℕ)) (answers : List Answer)
+      (r : Result (Unit {0}) StationFault) → AreAnswers answers s qs → guard.keeps new (after_all s qs)
+      → (guard.leaves old s s → guard.leaves new (after_all s qs) (after_all s qs))
+      → OnOk r (Appends held holds (flat_map answer_line answers))
+      → OnErr r (AppendsBeginning held holds (flat_map answer_line answers)) → IfErr r IsOfAnAnswer
+      → AnswersAll s (Leaves guard (OfQuestions qs) old new s) qs held holds r
+  answered old new s qs held holds answers (Ok done) are left durable ok err only = inl (record {
     answers = answers;
+    are = are;
     left = record { kept = left; lasts = durable; cause = λ low. tt };
-    kept = kept;
     printed = ok;
   })
-  answered old new s q held holds a (Err e) answers left kept durable ok err only = inl (record {
-    answer = a;
+  answered old new s qs held holds answers (Err e) are left durable ok err only = inl (record {
     answers = answers;
+    are = are;
     left = record {
       kept = left;
-      lasts = λ l. (after s q, inl refl, durable l);
+      lasts = λ l. (after_all s qs, inl refl, durable l);
       cause = λ low. answer_cause (guard.has_failed new) e only;
     };
-    kept = kept;
     printed = err;
   })

@@ -3,7 +3,7 @@ mod Reported
 mod Leavings
 mod Longer
 mod Judgements
-mod Lines
+mod Batches
 mod Rows
 mod Filed
 mod Retirings

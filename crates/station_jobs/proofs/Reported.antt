@@ -8,8 +8,10 @@ use Rattle.guard.specs.declared.retiring.RetireFault.TheVariants as retiring
 use Rattle.guard.specs.Reported.{LastFault, RetirePassesOn}
 use Rattle.guard.specs.Reported.{IsOwn as IsOfGuard}
 use Rattle.station_jobs.specs.declared.station_fault.StationFault.{StationFault}
-use Rattle.station_jobs.specs.declared.station_fault.StationFault.TheVariants.{BadPolicy, Clock, Damaged, File, NoMemory, Write}
-use Rattle.station_jobs.specs.Faults.{IsOfABody, IsOfAFile, IsOfAPolicy, IsOfARow, IsOfAnAnswer, of_register, of_retiring}
+use Rattle.station_jobs.specs.declared.station_fault.StationFault.TheVariants.{BadPolicy, Clock, Damaged, File, Input, NoMemory}
+use Rattle.station_jobs.specs.declared.station_fault.StationFault.TheVariants.{Write}
+use Rattle.station_jobs.specs.Faults.{IsOfABody, IsOfAFile, IsOfAPolicy, IsOfARow, IsOfAnAnswer, IsOfAnInput, of_register}
+use Rattle.station_jobs.specs.Faults.{of_retiring}
 use Rattle.station_jobs.specs.Reported.{IsOwn, IsPassedOn, PassesOn}
 
 -- ---- the register's faults
@@ -50,6 +52,12 @@ pub own_file : (e : StationFault) → IsOfAFile e → IsOwn e
 own_file File h = tt
 own_file NoMemory h = tt
 own_file other h = absurd h
+
+pub own_input : (e : StationFault) → IsOfAnInput e → IsOwn e
+own_input Input h = tt
+own_input File h = tt
+own_input NoMemory h = tt
+own_input other h = absurd h
 
 pub own_policy : (e : StationFault) → IsOfAPolicy e → IsOwn e
 own_policy File h = tt

@@ -47,6 +47,11 @@ IsOfAFile fault.File = Unit {0}
 IsOfAFile fault.NoMemory = Unit {0}
 IsOfAFile other = ⊥
 
+-- The faults of reading bodies from the input.
+abbrev pub IsOfAnInput : StationFault → Type 0
+IsOfAnInput fault.Input = Unit {0}
+IsOfAnInput other = IsOfAFile other
+
 -- The faults of reading an unsigned certificate (body) and the clock.
 abbrev pub IsOfABody : StationFault → Type 0
 IsOfABody fault.File = Unit {0}
@@ -109,8 +114,9 @@ IsOfBodies fault.File = Unit {0}
 IsOfBodies fault.Clock = Unit {0}
 IsOfBodies other = IsOfAQuestion other
 
--- The faults of judging the bodies at the paths of an input: the policy is read again for each, and `Bad` says at which
--- line it may be invalid.
+-- The faults of judging the bodies of an input: the policy is read again for each batch, and `Bad` says at which line it
+-- may be invalid.
 abbrev pub IsOfJudging : (Bad : ℕ → Type 0) → StationFault → Type 0
+IsOfJudging Bad fault.Input = Unit {0}
 IsOfJudging Bad (fault.BadPolicy line) = Bad line
 IsOfJudging Bad other = IsOfBodies other

@@ -1,7 +1,9 @@
--- Paths from an input, one per line.
-use Rattle.std.specs.Prelude.{◌≡◌, ◌≢◌, ◌⊎◌, [], ◌∷◌, ℕ, List, Option, Some, None, IfSome, Result, Ok, Err}
-use Rattle.std.specs.Io.KnownBytes.{IsAtEnd}
-use Rattle.std.specs.Io.BufRead.{drop_through, first_piece, take_through}
+-- Batches of bodies (unsigned certificates) from an input.
+use Rattle.std.specs.Prelude.{◌≡◌, ◌⊎◌, ◌≤◌, ◌++◌, ◌∷◌, ℕ, List, All, codes, decimal, length, Option, Some, None}
+use Rattle.std.specs.Prelude.{IfSome, Result, Ok, Err, []}
+use Rattle.std.specs.List.{flat_map}
+use Rattle.std.specs.Io.BufRead.{drop_through, take_through}
+use Rattle.std.specs.Io.KnownBytes.{Consumes, IsAtEnd}
 use Rattle.guard.specs.Machine.{State, Question}
 use Rattle.station_jobs.specs.declared.station_fault.StationFault.{StationFault}
 use Rattle.station_jobs.specs.Judging.{Judges}
@@ -10,37 +12,57 @@ use Rattle.station_jobs.specs.Judging.{Judges}
 abbrev pub TakesLine : (old new : Option (List ℕ)) → List ℕ → Type 0
 TakesLine old new line = IfSome old (λ text. (line ≡ take_through 10 text) × (new ≡ Some (drop_through 10 text)))
 
--- the text consists of these lines, followed by `left`
-abbrev pub Begins : (lines : List (List ℕ)) → (text left : List ℕ) → Type 0
-Begins [] text left = text ≡ left
-Begins (line ∷ lines) text left =
-    (text ≢ []) × (line ≡ first_piece 10 text) × Begins lines (drop_through 10 text) left
+-- ---- the form of the input
 
--- these are the lines of a text: all, or after a fault the first ones
-abbrev pub AreLines : (lines : List (List ℕ)) → List ℕ → Result (Unit {0}) StationFault → Type 0
-AreLines lines text (Ok done) = Begins lines text []
-AreLines lines text (Err e) = (left : List ℕ) × Begins lines text left
+-- a number as a line
+abbrev pub number_line : ℕ → List ℕ
+number_line n = decimal n ++ 10 ∷ []
 
--- the path is the first line of the input without its line feed, and this line is removed from the input
-abbrev pub TakesPath : (old new : Option (List ℕ)) → List ℕ → Type 0
-TakesPath old new path =
-    IfSome old (λ text. (text ≢ []) × (path ≡ first_piece 10 text) × (new ≡ Some (drop_through 10 text)))
+-- a body with its length before it
+abbrev pub body_text : List ℕ → List ℕ
+body_text body = number_line (length body) ++ body
 
--- The body at the next path was judged. Or the input is at its end, or has no such path, and nothing was judged.
+-- bodies with their number before them
+abbrev pub batch_text : List (List ℕ) → List ℕ
+batch_text bodies = (codes "judge " ++ number_line (length bodies)) ++ flat_map body_text bodies
+
+-- a length that a body may have
+abbrev pub HasLength : List ℕ → Type 0
+HasLength body = (1 ≤ length body) × (length body ≤ 16384)
+
+-- how many bodies come together
+pub record IsBatch (bodies : List (List ℕ)) : Type 0 where
+  pub least : 1 ≤ length bodies
+  pub most : length bodies ≤ 64
+  pub lengths : All HasLength bodies
+
+-- the input begins with this batch, which is removed from it
+abbrev pub TakesBatch : (old new : Option (List ℕ)) → List (List ℕ) → Type 0
+TakesBatch old new bodies = IsBatch bodies × Consumes old new (batch_text bodies)
+
+-- the text consists of these batches; or after a fault it begins with them
+abbrev pub AreBatches : List (List (List ℕ)) → List ℕ → Result (Unit {0}) StationFault → Type 0
+AreBatches batches text (Ok done) = All IsBatch batches × (text ≡ flat_map batch_text batches)
+AreBatches batches text (Err e) =
+    All IsBatch batches × ((left : List ℕ) × (text ≡ flat_map batch_text batches ++ left))
+
+-- ---- judging
+
+-- The bodies of the next batch were judged. Or the input is at its end, or has no such batch, and nothing was judged.
 abbrev pub JudgesNext : {A : Type 0} (s : State) (Left : State → Result (Unit {0}) StationFault → Type 0)
     (Asked : List ℕ → Question → Type 0) (old new held holds : Option (List ℕ)) → Result (Option A) StationFault
     → Type 0
 JudgesNext s Left Asked old new held holds (Ok (Some x)) =
-    (path : List ℕ) × TakesPath old new path × Judges s Left Asked (path ∷ []) held holds (Ok tt)
+    (bodies : List (List ℕ)) × TakesBatch old new bodies × Judges 64 s Left Asked bodies held holds (Ok tt)
 JudgesNext s Left Asked old new held holds (Ok None) = IsAtEnd old × Left s (Ok tt) × (holds ≡ held)
 JudgesNext s Left Asked old new held holds (Err e) =
-    ((path : List ℕ) × TakesPath old new path × Judges s Left Asked (path ∷ []) held holds (Err e))
+    ((bodies : List (List ℕ)) × TakesBatch old new bodies × Judges 64 s Left Asked bodies held holds (Err e))
     ⊎ (Left s (Err e) × (holds ≡ held))
 
--- the bodies at the paths of an input were judged
+-- the bodies of an input were judged, batch by batch
 pub record JudgesInput (s : State) (Left : State → Result (Unit {0}) StationFault → Type 0)
     (Asked : List ℕ → Question → Type 0) (input held holds : Option (List ℕ)) (result : Result (Unit {0}) StationFault)
     : Type 0 where
-  pub paths : List (List ℕ)
-  pub lines : IfSome input (λ text. AreLines paths text result)
-  pub judges : Judges s Left Asked paths held holds result
+  pub batches : List (List (List ℕ))
+  pub are : IfSome input (λ text. AreBatches batches text result)
+  pub judges : Judges 64 s Left Asked (flat_map (λ bodies. bodies) batches) held holds result

@@ -21,7 +21,7 @@ abbrev pub IsLawful : GuardJob → Type 0
 IsLawful (Init scope) = IsTrue (are_serials scope.first scope.last)
 IsLawful other = Unit {0}
 
--- whether the job reads paths from the input
+-- whether the job reads bodies from the input
 abbrev pub reads_input : GuardJob → Bool
 reads_input (Judge j) = is_input (map string_bytes j.bodies.now)
 reads_input other = false

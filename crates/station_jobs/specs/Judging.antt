@@ -1,5 +1,6 @@
 -- Judging unsigned certificates (bodies) in order, and printing the answers.
-use Rattle.std.specs.Prelude.{◌≡◌, ◌≤◌, ◌++◌, ◌∷◌, [], ℕ, List, All, length, map, take, Option, IfSome, Result, Ok, Err}
+use Rattle.std.specs.Prelude.{◌≡◌, ◌≤◌, ◌++◌, ◌∷◌, [], ℕ, List, Bool, true, false, All, length, map, take, Option, IfSome}
+use Rattle.std.specs.Prelude.{Result, Ok, Err}
 use Rattle.std.specs.List.{flat_map}
 use Rattle.std.specs.Io.KnownBytes.{Appends}
 use Rattle.message.specs.declared.department.Department.{Department}
@@ -39,11 +40,23 @@ module _ {E F : Type 0} (world : Ghosts E F) (around : E) (remaining : F → Opt
   abbrev pub AsksNow : (policy : List ℕ) → (ahead : ℕ) → (path : List ℕ) → Question → Type 0
   AsksNow policy ahead = Asks (IsPolicyAt policy) ahead
 
+  -- the question is about these bytes, at a time of the clock
+  pub record AsksOf (ByPolicy : List Department → Type 0) (ahead : ℕ) (body : List ℕ) (q : Question) : Type 0 where
+    pub is : q.body ≡ body
+    pub policy : ByPolicy q.policy
+    pub moment : world.shows around q.moment
+    pub ahead_of : q.ahead ≡ ahead
+
+  -- by the policy that a file has at the time, of bodies that are given, or of those at paths
+  abbrev pub AsksGiven : Bool → (policy : List ℕ) → (ahead : ℕ) → (given : List ℕ) → Question → Type 0
+  AsksGiven true policy ahead = AsksOf (IsPolicyAt policy) ahead
+  AsksGiven false policy ahead = AsksNow policy ahead
+
 -- ---- answers
 
--- a body that was judged: its path, the question, and the answer
+-- a body that was judged: what was given, its path or the body itself, the question, and the answer
 pub record Judgement : Type 0 where
-  pub path : List ℕ
+  pub given : List ℕ
   pub question : Question
   pub answer : Answer
 
@@ -61,27 +74,28 @@ left_by s (j ∷ js) = left_by (after s j.question) js
 abbrev pub lines_of : List Judgement → List ℕ
 lines_of js = flat_map (λ j. answer_line j.answer) js
 
--- The judged paths are those that were given: all, or after a fault the first ones.
-abbrev pub Covers : (paths judged : List (List ℕ)) → Result (Unit {0}) StationFault → Type 0
-Covers paths judged (Ok done) = judged ≡ paths
-Covers paths judged (Err e) = (rest : List (List ℕ)) × (paths ≡ judged ++ rest)
+-- What was judged is what was given: all, or after a fault the first ones.
+abbrev pub Covers : (given judged : List (List ℕ)) → Result (Unit {0}) StationFault → Type 0
+Covers given judged (Ok done) = judged ≡ given
+Covers given judged (Err e) = (rest : List (List ℕ)) × (given ≡ judged ++ rest)
 
--- All lines are printed; after a fault, the last one may be missing or cut short.
-abbrev pub IsPrinted : List Judgement → (held holds : Option (List ℕ)) → Result (Unit {0}) StationFault → Type 0
-IsPrinted js held holds (Ok done) = Appends held holds (lines_of js)
-IsPrinted js held holds (Err e) =
-    (whole : List Judgement) × (last : List Judgement) × (count : ℕ) × (js ≡ whole ++ last) × (length last ≤ 1)
+-- All lines are printed; after a fault, the last ones, at most so many, may be missing or cut short.
+abbrev pub IsPrinted : (most : ℕ) → List Judgement → (held holds : Option (List ℕ)) → Result (Unit {0}) StationFault
+    → Type 0
+IsPrinted most js held holds (Ok done) = Appends held holds (lines_of js)
+IsPrinted most js held holds (Err e) =
+    (whole : List Judgement) × (last : List Judgement) × (count : ℕ) × (js ≡ whole ++ last) × (length last ≤ most)
     × Appends held holds (lines_of whole ++ take count (lines_of last))
 
--- The bodies at these paths were judged in order, from this state on, and the answers were printed. What is left is
--- what the model keeps, and this includes each body whose answer was to sign it.
-pub record Judges (s : State) (Left : State → Result (Unit {0}) StationFault → Type 0)
-    (Asked : List ℕ → Question → Type 0) (paths : List (List ℕ)) (held holds : Option (List ℕ))
+-- The bodies that were given were judged in order, from this state on, and the answers were printed. What is left is
+-- what the model keeps, and this includes each body whose answer was to sign it. At most so many lines come together.
+pub record Judges (most : ℕ) (s : State) (Left : State → Result (Unit {0}) StationFault → Type 0)
+    (Asked : List ℕ → Question → Type 0) (given : List (List ℕ)) (held holds : Option (List ℕ))
     (result : Result (Unit {0}) StationFault) : Type 0 where
   pub judged : List Judgement
-  pub asked : All (λ j. Asked j.path j.question) judged
+  pub asked : All (λ j. Asked j.given j.question) judged
   pub answered : AreAnswered s judged
   pub left : Left (left_by s judged) result
   pub kept : All (λ j. IsKept j.answer (left_by s judged) j.question.body) judged
-  pub in_order : Covers paths (map (λ j. j.path) judged) result
-  pub printed : IsPrinted judged held holds result
+  pub in_order : Covers given (map (λ j. j.given) judged) result
+  pub printed : IsPrinted most judged held holds result

@@ -1,29 +1,30 @@
 -- What a call over a register leaves: when it returns, and after a crash.
-use Rattle.std.specs.Prelude.{ℕ, List, ◌≡◌, ◌⊎◌, ◌<◌, ◌^◌, IfErr, Result, Ok, Err}
+use Rattle.std.specs.Prelude.{ℕ, List, ◌≡◌, ◌⊎◌, ◌<◌, ◌≤◌, ◌^◌, All, IfErr, length, Result, Ok, Err}
 use Rattle.guard.specs.declared.register.Register.{Ghosts}
-use Rattle.guard.specs.Machine.{State, Question, after}
+use Rattle.guard.specs.Machine.{State, Question, after_all}
 use Rattle.guard.specs.Retirement.{retirement}
 use Rattle.station_jobs.specs.declared.station_fault.StationFault.{StationFault}
 use Rattle.station_jobs.specs.declared.station_fault.StationFault.TheVariants.{Damaged, Device}
 
--- one step of a job over a guard: a question about a body, or a retirement to a last serial
+-- one step of a job over a guard: questions about bodies that are kept together, or a retirement to a last serial
 pub data Step : Type 0 where
-  asking : Question → Step
+  asking : List Question → Step
   retiring : ℕ → Step
 
 -- a job that only reads
 abbrev pub OfNone : Step → Type 0
 OfNone step = ⊥
 
--- one question
-abbrev pub OfQuestion : Question → Step → Type 0
-OfQuestion q (Step.asking p) = p ≡ q
-OfQuestion q (Step.retiring last) = ⊥
+-- these questions, together
+abbrev pub OfQuestions : List Question → Step → Type 0
+OfQuestions questions (Step.asking asked) = asked ≡ questions
+OfQuestions questions (Step.retiring last) = ⊥
 
--- questions that are asked of the bodies at paths
-abbrev pub OfBodies : (Asked : List ℕ → Question → Type 0) → Step → Type 0
-OfBodies Asked (Step.asking q) = (path : List ℕ) × Asked path q
-OfBodies Asked (Step.retiring last) = ⊥
+-- so many questions together, or fewer, each asked of something that was given
+abbrev pub OfBodies : (most : ℕ) → (Asked : List ℕ → Question → Type 0) → Step → Type 0
+OfBodies most Asked (Step.asking questions) =
+    (length questions ≤ most) × All (λ q. (given : List ℕ) × Asked given q) questions
+OfBodies most Asked (Step.retiring last) = ⊥
 
 -- one retirement, to this last serial
 abbrev pub OfRetiring : ℕ → Step → Type 0
@@ -34,7 +35,7 @@ OfRetiring last (Step.retiring lower) = lower ≡ last
 abbrev pub IsNext : (May : Step → Type 0) → State → State → Type 0
 IsNext May s next =
     (next ≡ s)
-    ⊎ (((q : Question) × May (Step.asking q) × (next ≡ after s q))
+    ⊎ (((questions : List Question) × May (Step.asking questions) × (next ≡ after_all s questions))
     ⊎ ((last : ℕ) × May (Step.retiring last) × (retirement s last ≡ Ok next)))
 
 -- A crash leaves this state, or after a fault perhaps the next one.

@@ -18,6 +18,7 @@ line_fault_name line.NoMemory = codes "NoMemory"
 -- the name of a job's fault
 abbrev pub station_fault_name : StationFault → List ℕ
 station_fault_name fault.File = codes "File"
+station_fault_name fault.Input = codes "Input"
 station_fault_name fault.Write = codes "Write"
 station_fault_name fault.NoMemory = codes "NoMemory"
 station_fault_name fault.Clock = codes "Clock"

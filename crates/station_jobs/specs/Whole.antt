@@ -19,7 +19,7 @@ use Rattle.station_jobs.specs.declared.station_fault.StationFault.{StationFault}
 use Rattle.station_jobs.specs.declared.station_fault.StationFault.TheVariants.{BadPolicy, BadSerials, SerialApproved}
 use Rattle.station_jobs.specs.Faults.{IsOfAPolicy, IsOfARegister, IsOfBodies, IsOfJudging}
 use Rattle.station_jobs.specs.Input.{JudgesInput}
-use Rattle.station_jobs.specs.Judging.{AsksNow, IsBadPolicyAt, IsPolicyAt, Judges}
+use Rattle.station_jobs.specs.Judging.{AsksGiven, IsBadPolicyAt, IsPolicyAt, Judges}
 use Rattle.station_jobs.specs.Leaving.{Leaves, OfBodies, OfNone, Outlasts, Step}
 use Rattle.station_jobs.specs.Reported.{PassesOn}
 
@@ -119,19 +119,24 @@ module _ {D G : Type 0} (guard : register.Ghosts G) (file : file.Ghosts D G) (db
 
 -- ---- judging
 
--- a `-` as the only body stands for the paths of the input
+-- a `-` as the only body stands for the bodies of the input
 abbrev pub is_input : (bodies : List (List ℕ)) → Bool
 is_input (body ∷ []) = bytes_eq body (codes "-")
 is_input bodies = false
 
--- what was judged: the named bodies, or those at the paths of the input
+-- what was judged: the named bodies, or those of the input
 abbrev pub JudgesGiven : Bool → State → (Left : State → Result (Unit {0}) StationFault → Type 0)
     → (Asked : List ℕ → Question → Type 0) → (bodies : List (List ℕ)) → (input held holds : Option (List ℕ))
     → Result (Unit {0}) StationFault → Type 0
 JudgesGiven true s Left Asked bodies input held holds r = JudgesInput s Left Asked input held holds r
-JudgesGiven false s Left Asked bodies input held holds r = Judges s Left Asked bodies held holds r
+JudgesGiven false s Left Asked bodies input held holds r = Judges 1 s Left Asked bodies held holds r
 
--- the faults of judging named bodies, or those at the paths of the input, if the policy is invalid only at such a line
+-- how many bodies come together
+abbrev pub most_of : Bool → ℕ
+most_of true = 64
+most_of false = 1
+
+-- the faults of judging named bodies, or those of the input, if the policy is invalid only at such a line
 abbrev pub IsOfGiven : (Bad : ℕ → Type 0) → Bool → StationFault → Type 0
 IsOfGiven Bad true e = IsOfJudging Bad e
 IsOfGiven Bad false e = IsOfBodies e
@@ -157,9 +162,10 @@ pub record JudgesIn {E F D G : Type 0} (world : surroundings.Ghosts E F) (around
   pub known : Result (List Department) StationFault
   pub read : IsReadAs world around remaining policy known
   pub judged : Follows
-      (λ _. RunsIn guard file db db' path (OfBodies (AsksNow world around remaining policy ahead))
-      (λ s Left r. JudgesGiven (is_input bodies) s Left (AsksNow world around remaining policy ahead) bodies input held
-      holds r × IfErr r (IsOfGiven (IsBadPolicyAt world around remaining policy) (is_input bodies))) (holds ≡ held))
+      (λ _. RunsIn guard file db db' path
+      (OfBodies (most_of (is_input bodies)) (AsksGiven world around remaining (is_input bodies) policy ahead))
+      (λ s Left r. JudgesGiven (is_input bodies) s Left
+      (AsksGiven world around remaining (is_input bodies) policy ahead) bodies input held holds r × IfErr r (IsOfGiven (IsBadPolicyAt world around remaining policy) (is_input bodies))) (holds ≡ held))
       ((db' ≡ db) × (holds ≡ held)) known result
 
 -- ---- the last serial

@@ -107,7 +107,7 @@ pub fn run_in<
     ensures runs { RunsJob P.Surroundings around.now F.remaining G.Register D.GuardFile db.old db.new path.now job.now
         (I.remaining input.old) (W.contents out.old) (W.contents out.new) result }
 
-    // Only a job that judges the bodies at the input's paths reads the input.
+    // Only a job that judges the bodies of the input reads it.
     ensures unread { reads_input job.now ≡ false → I.remaining input.new ≡ I.remaining input.old }
 {
     match job {

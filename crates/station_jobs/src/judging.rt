@@ -2,16 +2,17 @@
 
 ghost use Rattle.std.specs.Prelude.{◌≡◌, ◌≢◌, ◌<◌, ◌≤◌, ◌^◌, ◌∷◌, ◌⊎◌, [], take, map, string_bytes, IfErr, IfOk};
 ghost use Rattle.std.specs.Prelude.{IfSome, OnErr, OnOk};
+ghost use Rattle.std.specs.List.{flat_map};
 ghost use Rattle.std.specs.Io.KnownBytes.{Appends};
 ghost use Rattle.wire.specs.Streams.{AppendsBeginning};
 ghost use Rattle.guard.specs.AnswerLines.{answer_line};
-ghost use Rattle.guard.specs.Decided.{question};
+ghost use Rattle.guard.specs.Decided.{questions};
 ghost use Rattle.guard.specs.Machine.{State};
 ghost use Rattle.station_jobs.specs.Faults.{IsOfABody, IsOfAQuestion, IsOfAnAnswer, IsOfBodies};
 ghost use Rattle.station_jobs.specs.Judging.{Asks, Judges};
-ghost use Rattle.station_jobs.specs.Leaving.{Leaves, OfBodies, OfQuestion};
+ghost use Rattle.station_jobs.specs.Leaving.{Leaves, OfBodies, OfQuestions};
 ghost use Rattle.station_jobs.specs.Reported.{PassesOn};
-ghost use Rattle.station_jobs.specs.Steps.{Answered, AnswersOne, Weighs};
+ghost use Rattle.station_jobs.specs.Steps.{AnswersAll, Weighs};
 
 use crate::file_reader::read_body;
 use crate::output::print;
@@ -20,35 +21,54 @@ use crate::surroundings::Surroundings;
 use guard::{Answer, Policy, Register, Window, judge, put_answer};
 use std::alloc::Global;
 use std::io::{Read, Write};
+use text::{NoMemory, Text};
 
-/// Prints the line of an answer. After a fault, a prefix of it may have been printed.
-fn print_answer<W: Write>(alloc: Global, answer: Answer, out: &mut W) -> Result<(), StationFault>
-    ensures ok { OnOk result (Appends (W.contents out.old) (W.contents out.new) (answer_line answer)) }
-    ensures err { OnErr result (AppendsBeginning (W.contents out.old) (W.contents out.new) (answer_line answer)) }
+/// The lines of answers.
+fn lines_of(alloc: Global, answers: &[Answer]) -> Result<Vec<u8>, NoMemory>
+    ensures { IfOk result (λ text. text.items ≡ flat_map answer_line answers.now) }
+{
+    let mut text = Vec::new(alloc);
+    for answer in answers {
+        put_answer(&mut text, *answer)?;
+    }
+    Ok(text)
+}
+
+/// Prints the lines of answers. After a fault, a prefix of them may have been printed.
+fn print_answers<W: Write>(
+    alloc: Global,
+    answers: &[Answer],
+    out: &mut W,
+) -> Result<(), StationFault>
+    ensures ok { OnOk result (Appends (W.contents out.old) (W.contents out.new) (flat_map answer_line answers.now)) }
+    ensures err { OnErr result
+        (AppendsBeginning (W.contents out.old) (W.contents out.new) (flat_map answer_line answers.now)) }
     ensures only { IfErr result IsOfAnAnswer }
     ensures silent { IfErr result (λ e. e ≢ StationFault.Write → W.contents out.new ≡ W.contents out.old) }
 {
-    let mut line = Vec::new(alloc);
-    put_answer(&mut line, answer)?;
-    print(out, line.as_slice())
+    match lines_of(alloc, answers) {
+        Ok(text) => print(out, text.as_slice()),
+        Err(NoMemory) => Err(StationFault::NoMemory),
+    }
 }
 
-/// Judges a body, and prints the answer after the register has stored what is signed. The time is below 2^63.
+/// Judges bodies in order, and prints the answers after the register has stored what is signed, all at once. The time
+/// is below 2^63.
 #[tactic(auto, using(crate::proofs::Causes::question_of_a_register, crate::proofs::Causes::question_of_an_answer))]
-fn answer_body<G: Register, W: Write>(
+pub fn judge_bodies<G: Register, W: Write>(
     alloc: Global,
     register: &mut G,
     policy: &Policy,
     window: Window,
-    body: &[u8],
+    bodies: &[Text],
     out: &mut W,
 ) -> Result<(), StationFault>
     requires { window.moment < 2 ^ 63 }
     ensures honest { G.is_honest register.new → G.is_honest register.old }
     ensures answers { G.is_honest register.new → (s : State) → G.keeps register.old s
-        → AnswersOne s (Leaves G.Register (OfQuestion (question policy.now window body.now))
+        → AnswersAll s (Leaves G.Register (OfQuestions (questions policy.now window bodies.now))
         register.old register.new s)
-        (question policy.now window body.now) (W.contents out.old) (W.contents out.new) result }
+        (questions policy.now window bodies.now) (W.contents out.old) (W.contents out.new) result }
     ensures only { IfErr result IsOfAQuestion }
     ensures reported { PassesOn (G.reported register.old) (G.reported register.new) result }
 
@@ -59,8 +79,8 @@ fn answer_body<G: Register, W: Write>(
     // Nor is anything printed beside a fault other than that of the output.
     ensures silent { IfErr result (λ e. e ≢ StationFault.Write → W.contents out.new ≡ W.contents out.old) }
 {
-    match judge(alloc, register, policy, window, body) {
-        Ok(answer) => print_answer(alloc, answer, out),
+    match judge(alloc, register, policy, window, bodies) {
+        Ok(answers) => print_answers(alloc, answers.as_slice(), out),
         Err(fault) => Err(StationFault::from(fault)),
     }
 }
@@ -97,8 +117,8 @@ pub fn judge_file<F: Read + Drop, P: Surroundings<File = F>, G: Register, W: Wri
 ) -> Result<(), StationFault>
     ensures honest { G.is_honest register.new → G.is_honest register.old }
     ensures judges { G.is_honest register.new → (s : State) → G.keeps register.old s
-        → Judges s (Leaves G.Register
-        (OfBodies (Asks P.Surroundings around.now F.remaining (λ p. p ≡ policy.now) ahead)) register.old register.new s)
+        → Judges 1 s (Leaves G.Register
+        (OfBodies 1 (Asks P.Surroundings around.now F.remaining (λ p. p ≡ policy.now) ahead)) register.old register.new s)
         (Asks P.Surroundings around.now F.remaining (λ p. p ≡ policy.now) ahead) (path.now ∷ []) (W.contents out.old)
         (W.contents out.new) result }
     ensures only { IfErr result IsOfBodies }
@@ -109,7 +129,8 @@ pub fn judge_file<F: Read + Drop, P: Surroundings<File = F>, G: Register, W: Wri
     match weighed(alloc, around, path) {
         Ok((body, moment)) => {
             let window = Window { moment, ahead };
-            answer_body(alloc, register, policy, window, body.as_slice(), out)
+            let bodies = [Text::from_vec(body)];
+            judge_bodies(alloc, register, policy, window, &bodies, out)
         }
         Err(fault) => Err(fault),
     }
@@ -132,8 +153,8 @@ pub fn judge_files<F: Read + Drop, P: Surroundings<File = F>, G: Register, W: Wr
 ) -> Result<(), StationFault>
     ensures honest { G.is_honest register.new → G.is_honest register.old }
     ensures judges { G.is_honest register.new → (s : State) → G.keeps register.old s
-        → Judges s (Leaves G.Register
-        (OfBodies (Asks P.Surroundings around.now F.remaining (λ p. p ≡ policy.now) ahead)) register.old register.new s)
+        → Judges 1 s (Leaves G.Register
+        (OfBodies 1 (Asks P.Surroundings around.now F.remaining (λ p. p ≡ policy.now) ahead)) register.old register.new s)
         (Asks P.Surroundings around.now F.remaining (λ p. p ≡ policy.now) ahead) (map string_bytes paths.now)
         (W.contents out.old) (W.contents out.new) result }
     ensures only { IfErr result IsOfBodies }

@@ -1,8 +1,9 @@
 //! The jobs of `sshstation`, over any register of a guard, any files, any input and any output.
 //!
-//! `judge_files` judges the unsigned certificates (bodies) in files in order, and prints each answer. `judge_lines`
-//! does so for paths from an input, one per line, and reads the policy again before each. The answers are those of the
-//! guard's reference model. The register keeps the body of each `sign` line, even if the call ends with a fault.
+//! `judge_files` judges the unsigned certificates (bodies) in files in order, and prints each answer. `judge_batches`
+//! does so for bodies from an input, up to 64 at once, and reads the policy again before each batch. The answers are
+//! those of the guard's reference model. The register keeps the body of each `sign` line, even if the call ends with a
+//! fault.
 #![tactic(auto)]
 
 mod bodies;

@@ -48,6 +48,7 @@ fn print_name<E: Sink>(err: &mut E, fault: StationFault) -> Result<(), Failed>
 {
     match fault {
         StationFault::File => write_all(err, b"File"),
+        StationFault::Input => write_all(err, b"Input"),
         StationFault::Write => write_all(err, b"Write"),
         StationFault::NoMemory => write_all(err, b"NoMemory"),
         StationFault::Clock => write_all(err, b"Clock"),

@@ -8,6 +8,8 @@ use lines::LineFault;
 pub enum StationFault {
     /// A file or the input can't be read, or a file is longer than any of its kind.
     File,
+    /// The input doesn't fit the form of batches.
+    Input,
     /// The output can't be written.
     Write,
     /// An allocation was refused.

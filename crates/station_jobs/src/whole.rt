@@ -8,15 +8,15 @@ ghost use Rattle.guard.specs.Machine.{State};
 ghost use Rattle.guard.specs.Policies.{policy_at};
 ghost use Rattle.station_jobs.specs.Bodies.{PrintsBody, PrintsRows};
 ghost use Rattle.station_jobs.specs.Faults.{IsOfBodies};
-ghost use Rattle.station_jobs.specs.Judging.{AsksNow, IsBadPolicyAt, IsPolicyAt, Judges};
+ghost use Rattle.station_jobs.specs.Judging.{AsksGiven, AsksNow, IsBadPolicyAt, IsPolicyAt, Judges};
 ghost use Rattle.station_jobs.specs.Leaving.{Leaves, OfBodies, OfNone, OfRetiring};
 ghost use Rattle.station_jobs.specs.Reported.{PassesOn};
 ghost use Rattle.station_jobs.specs.Whole.{IsOfGiven, IsReadAs, JudgesGiven, JudgesIn, KeepsFiles, MakesIn, Retires};
-ghost use Rattle.station_jobs.specs.Whole.{RunsIn, departments_of, is_input};
+ghost use Rattle.station_jobs.specs.Whole.{RunsIn, departments_of, is_input, most_of};
 
 use crate::bodies::{print_bodies, print_body};
 use crate::guard_file::GuardFile;
-use crate::input::judge_lines;
+use crate::input::judge_batches;
 use crate::judging::judge_files;
 use crate::policy_file::{PolicyText, read_policy};
 use crate::station_fault::StationFault;
@@ -33,11 +33,11 @@ pub struct Judging<'a> {
     pub policy: &'a str,
     /// How many seconds after the current time a validity may begin.
     pub ahead: u64,
-    /// The paths of the bodies, or one `-` for the paths of the input.
+    /// The paths of the bodies, or one `-` for the bodies of the input.
     pub bodies: &'a [String],
 }
 
-/// Whether these bodies stand for the paths of the input.
+/// Whether these bodies stand for those of the input.
 fn is_input(bodies: &[String]) -> bool
     ensures { result ≡ is_input (map string_bytes bodies.now) }
 {
@@ -59,7 +59,7 @@ fn judge_named<F: Read + Drop, P: Surroundings<File = F>, G: Register, W: Write>
     requires { IsPolicyAt P.Surroundings around.now F.remaining judging.now.policy.now known.policy }
     ensures honest { G.is_honest register.new → G.is_honest register.old }
     ensures judges { G.is_honest register.new → (s : State) → G.keeps register.old s
-        → Judges s (Leaves G.Register (OfBodies
+        → Judges 1 s (Leaves G.Register (OfBodies 1
         (AsksNow P.Surroundings around.now F.remaining judging.now.policy.now judging.now.ahead))
         register.old register.new s)
         (AsksNow P.Surroundings around.now F.remaining judging.now.policy.now judging.now.ahead)
@@ -73,7 +73,7 @@ fn judge_named<F: Read + Drop, P: Surroundings<File = F>, G: Register, W: Write>
     done
 }
 
-/// Judges the named bodies, or those at the paths of the input.
+/// Judges the named bodies, or those of the input.
 fn judge_given<F: Read + Drop, P: Surroundings<File = F>, G: Register, I: BufRead, W: Write>(
     alloc: Global,
     around: &P,
@@ -88,10 +88,11 @@ fn judge_given<F: Read + Drop, P: Surroundings<File = F>, G: Register, I: BufRea
     ensures honest { G.is_honest register.new → G.is_honest register.old }
     ensures judges { G.is_honest register.new → (s : State) → G.keeps register.old s
         → JudgesGiven (is_input (map string_bytes judging.now.bodies.now)) s
-        (Leaves G.Register (OfBodies
-        (AsksNow P.Surroundings around.now F.remaining judging.now.policy.now judging.now.ahead))
-        register.old register.new s)
-        (AsksNow P.Surroundings around.now F.remaining judging.now.policy.now judging.now.ahead)
+        (Leaves G.Register (OfBodies (most_of (is_input (map string_bytes judging.now.bodies.now)))
+        (AsksGiven P.Surroundings around.now F.remaining (is_input (map string_bytes judging.now.bodies.now))
+        judging.now.policy.now judging.now.ahead)) register.old register.new s)
+        (AsksGiven P.Surroundings around.now F.remaining (is_input (map string_bytes judging.now.bodies.now))
+        judging.now.policy.now judging.now.ahead)
         (map string_bytes judging.now.bodies.now) (I.remaining input.old) (W.contents out.old) (W.contents out.new)
         result }
     ensures only { IfErr result (IsOfGiven
@@ -103,7 +104,7 @@ fn judge_given<F: Read + Drop, P: Surroundings<File = F>, G: Register, I: BufRea
 {
     let (policy, ahead) = (judging.policy, judging.ahead);
     if is_input(judging.bodies) {
-        return judge_lines(alloc, around, register, policy, ahead, known, input, out);
+        return judge_batches(alloc, around, register, policy, ahead, known, input, out);
     }
     judge_named(alloc, around, register, judging, known, out)
 }
@@ -145,9 +146,12 @@ fn judge_over<
     requires at { IsPolicyAt P.Surroundings around.now F.remaining judging.now.policy.now known.policy }
     requires keeps { KeepsFiles G.Register D.GuardFile }
     ensures runs { RunsIn G.Register D.GuardFile db.old db.new path.now
-        (OfBodies (AsksNow P.Surroundings around.now F.remaining judging.now.policy.now judging.now.ahead))
+        (OfBodies (most_of (is_input (map string_bytes judging.now.bodies.now)))
+        (AsksGiven P.Surroundings around.now F.remaining (is_input (map string_bytes judging.now.bodies.now))
+        judging.now.policy.now judging.now.ahead))
         (λ s Left r. JudgesGiven (is_input (map string_bytes judging.now.bodies.now)) s Left
-        (AsksNow P.Surroundings around.now F.remaining judging.now.policy.now judging.now.ahead)
+        (AsksGiven P.Surroundings around.now F.remaining (is_input (map string_bytes judging.now.bodies.now))
+        judging.now.policy.now judging.now.ahead)
         (map string_bytes judging.now.bodies.now) (I.remaining input.old) (W.contents out.old) (W.contents out.new) r
         × IfErr r (IsOfGiven (IsBadPolicyAt P.Surroundings around.now F.remaining judging.now.policy.now)
         (is_input (map string_bytes judging.now.bodies.now))))
@@ -196,7 +200,7 @@ pub fn judge_in<
         judging.now.policy.now judging.now.ahead (map string_bytes judging.now.bodies.now) (I.remaining input.old)
         (W.contents out.old) (W.contents out.new) result }
 
-    // The input is read only for its paths.
+    // The input is read only for its bodies.
     ensures unread { is_input (map string_bytes judging.now.bodies.now) ≡ false
         → I.remaining input.new ≡ I.remaining input.old }
 {

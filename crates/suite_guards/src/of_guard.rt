@@ -115,18 +115,40 @@ fn what_is_kept_is_signed_again_and_no_other(rt: HostRuntime) {
 /// The SHA-256 of the body, by sha256sum(1).
 const DIGEST: &[u8; 64] = b"82e0c34fe67da3fc3dc1be6682073994ec021449271b641cdd36180e95572e79";
 
-/// A guard's answer for some bytes, judged by the policy `WEB` with 0 seconds ahead.
+/// A guard's answers for some bytes, judged at once by the policy `WEB` with 0 seconds ahead.
+fn answers_to<R: Register>(
+    alloc: Global,
+    guard: &mut R,
+    moment: u64,
+    bytes: &[&[u8]],
+) -> Option<Vec<Answer>> {
+    let Ok(policy) = Policy::read(alloc, WEB) else {
+        return None;
+    };
+    let mut bodies = Vec::new(alloc);
+    for body in bytes {
+        let Ok(body) = Text::from_slice(alloc, body) else {
+            return None;
+        };
+        if bodies.push(body).is_err() {
+            return None;
+        }
+    }
+    let window = Window { moment, ahead: 0 };
+    judge(alloc, guard, &policy, window, bodies.as_slice()).ok()
+}
+
+/// The answer for some bytes, judged alone.
 fn answer_to<R: Register>(
     alloc: Global,
     guard: &mut R,
     moment: u64,
     body: &[u8],
 ) -> Option<Answer> {
-    let Ok(policy) = Policy::read(alloc, WEB) else {
-        return None;
-    };
-    let window = Window { moment, ahead: 0 };
-    judge(alloc, guard, &policy, window, body).ok()
+    match answers_to(alloc, guard, moment, &[body]) {
+        Some(answers) => answers.first().copied(),
+        None => None,
+    }
 }
 
 #[test]
@@ -162,6 +184,30 @@ fn a_guard_signs_one_body_a_serial(rt: HostRuntime) {
         Some(taken)
     );
     assert_eq!(rt; answer_to(rt.alloc(), &mut guard, 2000, BODY), Some(signed));
+}
+
+#[test]
+fn bodies_that_come_together_are_judged_in_order(rt: HostRuntime) {
+    let scope = Scope {
+        ca: [0x11; 32],
+        first: 1,
+        last: 1,
+    };
+    let mut guard = MemoryGuard::new(rt.alloc(), scope);
+    let mut second = *BODY;
+    second[44] = b'4';
+    let signed = Answer::Sign {
+        serial: 1,
+        digest: *DIGEST,
+    };
+    let taken = Answer::Refuse(Refusal::SerialTaken);
+    let bodies = [BODY.as_slice(), second.as_slice(), BODY.as_slice()];
+    let answers = answers_to(rt.alloc(), &mut guard, 1500, &bodies).expect(&rt, "memory suffices");
+    assert_eq!(rt; answers.as_slice(), [signed, taken, signed].as_slice());
+    assert_eq!(rt;
+        answer_to(rt.alloc(), &mut guard, 1500, &second),
+        Some(taken)
+    );
 }
 
 #[test]

@@ -30,7 +30,27 @@ fn keep(alloc: Global, guard: &mut GuardStore<MemStore>, serial: u64, body: &[u8
         moment: 1000,
         body,
     };
-    guard.keep(row).is_ok()
+    let mut rows = Vec::new(alloc);
+    if rows.push(row).is_err() {
+        return false;
+    }
+    guard.keep(rows).is_ok()
+}
+
+/// Stores bodies under these serials at once, and returns whether that succeeded.
+fn keep_all(alloc: Global, guard: &mut GuardStore<MemStore>, serials: &[u64]) -> bool {
+    let mut rows = Vec::new(alloc);
+    for serial in serials {
+        let row = Approved {
+            serial: *serial,
+            moment: 1000,
+            body: Text::new(alloc),
+        };
+        if rows.push(row).is_err() {
+            return false;
+        }
+    }
+    guard.keep(rows).is_ok()
 }
 
 /// Whether this body is found under a serial.
@@ -71,6 +91,18 @@ fn bodies_are_kept_and_found(rt: HostRuntime) {
     assert_eq!(rt; first_from(alloc, &mut guard, 0), Some((3, 1000)));
     assert_eq!(rt; first_from(alloc, &mut guard, 4), Some((7, 1000)));
     assert_eq!(rt; first_from(alloc, &mut guard, 8), None);
+}
+
+#[test]
+fn bodies_are_kept_together_or_not_at_all(rt: HostRuntime) {
+    let alloc = rt.alloc();
+    let mut guard = guard_in_memory(alloc).expect(&rt, "memory suffices");
+    assert!(rt; keep_all(alloc, &mut guard, &[7, 3]));
+    assert!(rt; !keep_all(alloc, &mut guard, &[4, 7]));
+    assert!(rt; !keep_all(alloc, &mut guard, &[5, u64::MAX]));
+    assert_eq!(rt; first_from(alloc, &mut guard, 4), Some((7, 1000)));
+    assert!(rt; keep_all(alloc, &mut guard, &[]));
+    assert_eq!(rt; first_from(alloc, &mut guard, 0), Some((3, 1000)));
 }
 
 #[test]

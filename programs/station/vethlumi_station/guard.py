@@ -6,8 +6,7 @@ import sys
 from .ending import at_most, held_off
 from .faults import Fault
 from .journal import print_line
-from .limits import LONGEST_ENDING, LONGEST_JUDGING, MOST_JUDGED
-from .running import Memory
+from .limits import LONGEST_ENDING, LONGEST_JUDGED, LONGEST_JUDGING
 
 
 def serial_of(body):
@@ -19,23 +18,34 @@ def serial_of(body):
     return int.from_bytes(body[at:at + 8], "big") if at + 8 <= len(body) else None
 
 
+def refused_for_its_length(body):
+    """What it would answer to a body that it doesn't take."""
+    return ["refuse", "NotABody", "TooLong" if body else "Truncated"]
+
+
 class Guard:
     """The guard, which judges bodies in their order. What it reports of its own end goes to standard error. While it is
     begun, and while it ends, what tells the station to end is held off."""
 
     def __init__(self, given):
-        self.bodies = [Memory() for _ in range(MOST_JUDGED)]
         words = ["sshstation", "judge", "--db", given.db, "--policy", given.policy, "--ahead", str(given.ahead), "-"]
-        how = {"stdin": subprocess.PIPE, "stdout": subprocess.PIPE, "pass_fds": [it.handle for it in self.bodies]}
-        self.process = subprocess.Popen(words, **how)
+        self.process = subprocess.Popen(words, stdin=subprocess.PIPE, stdout=subprocess.PIPE)
 
     def answers(self, bodies):
-        """The words of its answers to at most MOST_JUDGED bodies, such as `sign 7 DIGEST`, in their order."""
+        """The words of its answers to at most MOST_JUDGED bodies, such as `sign 7 DIGEST`, in their order. They come
+        after one commit. It takes no body of another length than 1 to LONGEST_JUDGED."""
+        judged = iter(self.answers_of([it for it in bodies if 1 <= len(it) <= LONGEST_JUDGED]))
+        return [next(judged) if 1 <= len(it) <= LONGEST_JUDGED else refused_for_its_length(it) for it in bodies]
+
+    def answers_of(self, bodies):
+        """The same for bodies that it takes."""
+        if not bodies:
+            return []
+
         def answered():
-            for memory, body in zip(self.bodies, bodies):
-                memory.put(body)
             with contextlib.suppress(BrokenPipeError):
-                self.process.stdin.write("".join(f"{it.path}\n" for it in self.bodies[:len(bodies)]).encode())
+                self.process.stdin.write(b"judge %d\n" % len(bodies))
+                self.process.stdin.write(b"".join(b"%d\n" % len(it) + it for it in bodies))
                 self.process.stdin.flush()
             return [self.process.stdout.readline() for _ in bodies]
 

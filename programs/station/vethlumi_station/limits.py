@@ -26,6 +26,8 @@ LONGEST_AGAIN = 1
 # In bytes: for the pending certificates, for a body (the guard refuses one that is too long), for a reply or a refusal,
 # for the list of what is revoked (the front and the servers take none that is longer).
 LONGEST_PENDING, LONGEST_BODY, LONGEST_REPLY, LONGEST_LIST = 1 << 26, 1 << 16, 1 << 12, 1 << 25
+# How many bytes of a body the guard reads.
+LONGEST_JUDGED = 1 << 14
 # How many bytes of an answer are read at once. Chunks of a byte each take many times their length of memory.
 PIECE = 1 << 16
 # In bytes: for ssh-keygen. The longest list takes 300 MB, and one may be made so that 2 MB would take more than that.

@@ -12,15 +12,15 @@ returns-in-Err-clause-judges g c h s kept =
     let register = c.args.register.now in
     let Asked : List ℕ → Question → Type 0 =
     Asks g.P.Surroundings c.args.around.now g.F.Read.remaining (λ p. p ≡ c.args.policy.now) c.args.ahead in
-    fault_first (Leaves g.G.Register (OfBodies Asked) register register s) Asked s _ _ _
+    fault_first (Leaves g.G.Register (OfBodies 1 Asked) register register s) Asked s _ _ _
     (fails_same g.G.Register Unit register s c.in-Err.fault kept
     (body_cause (g.G.Register.has_failed register) c.in-Err.fault c.in-Err.ensures.only))
 
 pub returns-in-Ok-clause-judges : goal.returns-in-Ok-clause-judges
 returns-in-Ok-clause-judges g c h s kept =
-    one_weighed g.G.Register c.args.register.now c.answer_body.new.register g.P.Surroundings c.args.around.now
-    g.F.Read.remaining c.args.policy.now c.args.ahead c.args.path.now _ _ _ c.as_slice.ensures.value
-    c.in-Ok.ensures.weighs s _ _ _ (c.answer_body.ensures.answers h s kept)
+    one_weighed g.G.Register c.args.register.now c.judge_bodies.new.register g.P.Surroundings c.args.around.now
+    g.F.Read.remaining c.args.policy.now c.args.ahead c.args.path.now _ _ _ c.from_vec.ensures
+    c.in-Ok.ensures.weighs s _ _ _ (c.judge_bodies.ensures.answers h s kept)
 
 pub returns-in-Err-clause-reported : goal.returns-in-Err-clause-reported
 returns-in-Err-clause-reported g c = inr (refl, own_body c.in-Err.fault c.in-Err.ensures.only)

@@ -12,7 +12,7 @@ loop-path-init g c = record {
   judges = λ h s kept.
       let Asked = Asks g.P.Surroundings c.args.around.now g.F.Read.remaining
       (λ p. p ≡ c.args.policy.now) c.args.ahead in
-      none_judged (Leaves g.G.Register (OfBodies Asked) c.args.register.now c.args.register.now s) Asked s
+      none_judged (Leaves g.G.Register (OfBodies 1 Asked) c.args.register.now c.args.register.now s) Asked s
       (g.W.Write.contents c.args.out.now) (stays_same g.G.Register c.args.register.now s kept);
   reported = refl;
 }
@@ -32,13 +32,13 @@ loop-path-preserved g c =
           let before = inv.judges (c.judge_file.ensures.honest h) s kept in
           let t = left_by s before.judged in
           let one = c.judge_file.ensures.judges h t before.left.kept in
-          subst (λ (ps : List (List ℕ)). Judges s (Leaves g.G.Register (OfBodies Asked) old new s) Asked ps
+          subst (λ (ps : List (List ℕ)). Judges 1 s (Leaves g.G.Register (OfBodies 1 Asked) old new s) Asked ps
           (g.W.Write.contents c.args.out.now) (g.W.Write.contents c.judge_file.new.out) (Ok tt))
           (next_path string_bytes paths i c.path-item.result c.as_str-path.result.now c.loop-path-test.true c.path-item.is
           c.as_str-path.ensures.value)
           (judged_then g.G.Register old between new Asked s (map string_bytes (take i paths))
           (c.as_str-path.result.now ∷ []) _ (g.W.Write.contents c.loop-path.out) _ (Ok tt) before
-          (subst (λ r. Judges t (Leaves g.G.Register (OfBodies Asked) between new t) Asked
+          (subst (λ r. Judges 1 t (Leaves g.G.Register (OfBodies 1 Asked) between new t) Asked
           (c.as_str-path.result.now ∷ [])
           (g.W.Write.contents c.loop-path.out) (g.W.Write.contents c.judge_file.new.out) r) c.in-Ok.is one));
       reported = c.in-Ok.ensures.reported ∙ inv.reported;
@@ -59,15 +59,15 @@ returns-in-Err-clause-judges g c h s kept =
     let held = g.W.Write.contents c.args.out.now in
     let holds = g.W.Write.contents c.judge_file.new.out in
     let r = Err c.in-Err.fault in
-    let Left = Leaves g.G.Register (OfBodies Asked) old new s in
+    let Left = Leaves g.G.Register (OfBodies 1 Asked) old new s in
     let both = judged_then g.G.Register old between new Asked s (map string_bytes (take i paths))
     (c.as_str-path.result.now ∷ []) held (g.W.Write.contents c.loop-path.out) holds r before
-    (subst (λ r. Judges t (Leaves g.G.Register (OfBodies Asked) between new t) Asked (c.as_str-path.result.now ∷ [])
+    (subst (λ r. Judges 1 t (Leaves g.G.Register (OfBodies 1 Asked) between new t) Asked (c.as_str-path.result.now ∷ [])
     (g.W.Write.contents c.loop-path.out) holds r) c.in-Err.is one) in
-    subst (λ (ps : List (List ℕ)). Judges s Left Asked ps held holds r) (given_after string_bytes paths (i + 1))
+    subst (λ (ps : List (List ℕ)). Judges 1 s Left Asked ps held holds r) (given_after string_bytes paths (i + 1))
     (more_given Left Asked s (map string_bytes (take (i + 1) paths)) (map string_bytes (drop (i + 1) paths)) held holds
     c.in-Err.fault
-    (subst (λ (ps : List (List ℕ)). Judges s Left Asked ps held holds r)
+    (subst (λ (ps : List (List ℕ)). Judges 1 s Left Asked ps held holds r)
     (next_path string_bytes paths i c.path-item.result c.as_str-path.result.now c.loop-path-test.true c.path-item.is
     c.as_str-path.ensures.value) both))
 
