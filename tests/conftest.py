@@ -23,6 +23,7 @@ BUILT = {"program", "sshstation", "krl_tool", "trial", "heads_tool", "bad_lines"
 # A shell that starts the tests in the background has them ignore interrupts, and so would each program that they start.
 if signal.getsignal(signal.SIGINT) == signal.SIG_IGN:
     signal.signal(signal.SIGINT, signal.default_int_handler)
+    signal.signal(signal.SIGQUIT, signal.SIG_DFL)
 
 
 def pytest_addoption(parser):
