@@ -976,6 +976,43 @@ def test_a_guard_judges_what_is_signed(alone):
     assert made == pathlib.Path("judged").read_bytes()
 
 
+# A guard that answers each batch of the bodies of two serials, after others of one body, with the lines in this order.
+SWAPPING = """#!/usr/bin/python3 -I
+import hashlib, sys
+for line in sys.stdin.buffer:
+    bodies = [sys.stdin.buffer.read(int(sys.stdin.buffer.readline())) for _ in range(int(line.split()[1]))]
+    with open("judged", "a") as judged:
+        judged.write(f"{len(bodies)}\\n")
+    digests = [hashlib.sha256(it).hexdigest() for it in bodies]
+    serials = [SERIALS[it] for it in digests]
+    rows = list(zip(serials, digests))
+    for serial, digest in reversed(rows) if SWAPS else rows:
+        print("sign", serial, digest, flush=True)
+"""
+
+
+@pytest.mark.parametrize("swaps", [False, True])
+def test_bodies_are_judged_together_and_each_has_its_own_answer(alone, swaps):
+    """The first one is waited for, and the others are there by then. If the guard answers in another order, each has
+    the answer of another, and none is signed."""
+    bodies = {serial: body(serial, ca=alone.blob) for serial in range(1, 65)}
+    with WaitingOffice(b"GET /v1/certs/1/", bodies) as web:
+        station = Station(alone, web.url, alone.key)
+        station.runs_in_place_of("sshstation", "exec ./guard")
+        serials = {digest_of(it): serial for serial, it in bodies.items()}
+        pathlib.Path("guard").write_text(SWAPPING.replace("SERIALS", repr(serials)).replace("SWAPS", repr(swaps)))
+        os.chmod("guard", 0o755)
+        process = subprocess.Popen([*map(str, station.words), "--once", web.url], stdout=subprocess.PIPE,
+                                   stderr=subprocess.DEVNULL, env=station.environment)
+        until(lambda: sum(b"/body " in it for it in web.requests) == 63)
+        time.sleep(0.5)
+        web.may_answer.set()
+        out = process.communicate(timeout=60)[0].decode().splitlines()
+    assert "64\n" == pathlib.Path("judged").read_text()
+    assert (1, [], []) if swaps else (0, [f"signed {it}" for it in bodies], 64 * [0]) == (
+        process.returncode, out, [0 for _ in web.delivered])
+
+
 KEYS_THAT_ARE_NONE = [
     (lambda: b"no key\n", "no-key.pem has no private key in PKCS #8 without a passphrase"),
     (lambda: run(["openssl", "genpkey", "-algorithm", "ed25519", "-aes256", "-pass", "pass:1234"]).stdout,
