@@ -201,6 +201,19 @@ def test_a_reader_has_eight_tables_under_way(make_front):
         assert {200: 8, 429: 52} == {status: got.count([status]) for status in (200, 429)}
 
 
+def test_a_caller_has_the_departments_read_four_times_at_once(make_front):
+    """The front keeps no page of them, so the office is asked each time. Another caller isn't held up."""
+    edits = [("limit_req zone=reports burst=10 delay=2;", "limit_req zone=reports burst=100 nodelay;")]
+    with Recorder(seconds=300) as recorder, contextlib.ExitStack() as peers:
+        front = make_front(recorder.port, edits=edits)
+        for count in range(1, 5):
+            peers.enter_context(front.connect("ana")).sendall(getting("/v1/departments"))
+            until(lambda count=count: count == len(recorder.requests))
+        assert [429] == each(front, 1, getting("/v1/departments"), "ana")
+        peers.enter_context(front.connect("root")).sendall(getting("/v1/departments"))
+        until(lambda: 5 == len(recorder.requests))
+
+
 # ---- memory
 
 def memory_of(front):

@@ -15,7 +15,7 @@ import pytest
 
 from asking import department, issue
 from fetching import Web, response
-from running import PROGRAMS, run, until
+from running import PROGRAMS, free_port, run, until
 
 CLIENT = PROGRAMS / "client"
 POLICY = """# people
@@ -300,6 +300,22 @@ def test_a_message_can_be_given_up(clients, front, alice):
     assert 2 == ana("outbox", "--drop", "none")[0]
     assert 0 == ana("outbox", "--drop", kept.name)[0]
     assert [] == ana.kept()
+
+
+def test_a_message_is_kept_however_old_it_is(room):
+    """What a kill has left half written goes after a day, and no message does before it has its answer."""
+    ana = Client(room / "home", f"http://127.0.0.1:{free_port()}", caller="ana")
+    words = ["--wait", "1", "revoke", "--yes"]
+    assert 3 == ana(*words, "1")[0]
+    [kept] = ana.kept()
+    for name, age in ((kept.name, 40 * 86400), (".vethlumi-old", 86400 + 60), (".vethlumi-new", 86400 - 600)):
+        (ana.outbox / name).touch()
+        os.utime(ana.outbox / name, (time.time() - age,) * 2)
+    assert 3 == ana(*words, "2")[0]
+    names = {it.name for it in ana.outbox.iterdir()}
+    assert {kept.name, ".vethlumi-new"} < names and (3, False) == (len(names), ".vethlumi-old" in names)
+    # The same command sends the message of before.
+    assert (3, 2) == (ana(*words, "1")[0], len({it.name for it in ana.outbox.iterdir()} - {".vethlumi-new"}))
 
 
 @pytest.mark.parametrize("out", ["none/cert.pub", "folder", "/dev/full/cert.pub"])

@@ -19,6 +19,7 @@ import signal
 import subprocess
 import tempfile
 import time
+import types
 
 import pytest
 
@@ -1087,6 +1088,26 @@ def test_what_a_unit_said_is_told(room, monkeypatch, journal, why):
     monkeypatch.setenv("PATH", f"{room}:{os.environ['PATH']}")
     with pytest.raises(common.Fault, match=f"^a.service failed: {re.escape(why)}$"):
         common.start("a.service")
+
+
+@pytest.mark.parametrize("comes_at", [0, 58, None])
+def test_a_set_up_waits_a_minute_for_the_first_list(monkeypatch, comes_at):
+    """Without a list sshd refuses everybody, so one that hasn't come is a fault."""
+    common = load("setting_up.py")
+    now, asked = [0], []
+
+    def start(unit):
+        asked.append(unit)
+        if comes_at is None or now[0] < comes_at:
+            raise common.Fault("no list came")
+
+    def sleep(seconds):
+        now[0] += seconds
+    monkeypatch.setattr(common, "start", start)
+    monkeypatch.setattr(common, "time", types.SimpleNamespace(monotonic=lambda: now[0], sleep=sleep))
+    with contextlib.nullcontext() if comes_at is not None else pytest.raises(common.Fault, match="no list came"):
+        common.fetch_list()
+    assert ({"office-list.service"}, True) == ({*asked}, now[0] == comes_at if comes_at is not None else 60 <= now[0])
 
 
 def test_an_account_is_created_once(room, monkeypatch):
