@@ -8,6 +8,7 @@
 #![tactic(auto)]
 
 mod approvals;
+mod approved_rows;
 mod closing;
 mod creating;
 mod creation;
@@ -21,7 +22,6 @@ mod look;
 mod opening;
 mod opening_fault;
 mod register;
-mod rows;
 mod serving;
 mod sql;
 mod store;

@@ -13,7 +13,7 @@ ghost use Rattle.guard_sql.specs.Rows.{approved_in};
 use crate::approvals::{ApprovalRow, find_approval, first_approval_from};
 use crate::faults::register_fault;
 use crate::keeping::{end_at, keep_approvals};
-use crate::rows::{approved, are_low};
+use crate::approved_rows::{approved, are_low};
 use guard::{Approved, RegisterFault};
 use sqlite::{Alter, Connection};
 use std::alloc::Global;

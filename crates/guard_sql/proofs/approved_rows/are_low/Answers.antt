@@ -2,7 +2,7 @@ use Rattle.std.proofs.Common.{refl, subst}
 use Rattle.std.proofs.lemmas.List.Elements.{All-more, All-nil}
 use Rattle.guard.specs.Judged.{IsKeepable}
 use Rattle.guard_sql.specs.Several.{IsLow}
-use Rattle.guard_sql.proofs.rows.are_low.Goals as goal
+use Rattle.guard_sql.proofs.approved_rows.are_low.Goals as goal
 
 pub loop-row-init : goal.loop-row-init
 loop-row-init c = All-nil IsLow
