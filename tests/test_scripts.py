@@ -46,7 +46,8 @@ def test_a_script_of_python_runs_no_module_that_somebody_has_put_there(room, nam
     copied = shutil.copy(TOP / name, room)
     for it in (PROGRAMS / "setup").glob("*.py"):
         shutil.copy(it, room)
-    shutil.copytree(PROGRAMS / "station/vethlumi_station", room / "vethlumi_station")
+    for it in ("station/vethlumi_station", "registrar/vethlumi_registrar", "client/vethlumi"):
+        shutil.copytree(PROGRAMS / it, room / it.rpartition("/")[2])
     for it in ("argparse", "datetime", "hashlib", "subprocess"):
         (room / f"{it}.py").write_text("print('planted')\nraise SystemExit(9)\n")
     assert 9 == run(["/usr/bin/python3", "-B", copied, "--help"]).returncode, "it would be run"
