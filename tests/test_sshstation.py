@@ -533,7 +533,7 @@ BATCH = batch(body(2))
     b"judge 1\r\n" + BATCH[8:], b"Judge 1\n" + BATCH[8:], b" " + BATCH, b"judge 1" + BATCH[8:],
     b"judge 18446744073709551617\n" + BATCH[8:], BATCH[:8] + b"0" + BATCH[8:], BATCH[:8] + b"+" + BATCH[8:],
     BATCH[:8] + b"\n" + BATCH[8:], BATCH[:8] + b"18446744073709551616\n", b"none\n", b"\xff\n", b"\0" * 100],
-    ids=repr)
+    ids=lambda it: f"{it[:30]!r} of {len(it)}")
 def test_an_input_of_another_form_ends_the_call(guard, text):
     one = body(1)
     assert (1, sign(1, one), "sshstation: Input\n") == judged(guard, batch(one) + text)

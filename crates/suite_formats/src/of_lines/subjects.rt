@@ -14,7 +14,7 @@ fn is_read(alloc: Global, line: &[u8]) -> bool {
 
 /// Whether a modulus of so many bytes, the first of them this, is one of a key. The exponent is 65537.
 fn is_modulus(alloc: Global, first: u8, size: usize) -> Result<bool, NoMemory> {
-    let mut modulus = Vec::new_in(alloc);
+    let mut modulus = Vec::new(alloc);
     modulus.push(first)?;
     while modulus.len() < size {
         modulus.push(0xff)?;
@@ -27,7 +27,7 @@ fn is_modulus(alloc: Global, first: u8, size: usize) -> Result<bool, NoMemory> {
 
 /// The same of an exponent, beside a modulus of 2048 bits.
 fn is_exponent(alloc: Global, exponent: &[u8]) -> Result<bool, NoMemory> {
-    let mut modulus = Vec::new_in(alloc);
+    let mut modulus = Vec::new(alloc);
     modulus.push(0)?;
     while modulus.len() < 257 {
         modulus.push(0xff)?;
@@ -40,7 +40,7 @@ fn is_exponent(alloc: Global, exponent: &[u8]) -> Result<bool, NoMemory> {
 
 /// Whether an application of so many bytes is one of a security key.
 fn is_application(alloc: Global, beginning: &[u8], size: usize) -> Result<bool, NoMemory> {
-    let mut application = Vec::new_in(alloc);
+    let mut application = Vec::new(alloc);
     application.extend_from_slice(beginning)?;
     while application.len() < size {
         application.push(b'~')?;
