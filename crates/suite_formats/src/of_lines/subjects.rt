@@ -16,7 +16,7 @@ fn is_read(alloc: Global, line: &[u8]) -> bool {
 fn is_modulus(alloc: Global, first: u8, size: usize) -> Result<bool, NoMemory> {
     let mut modulus = Vec::new(alloc);
     modulus.push(first)?;
-    while modulus.len() < size {
+    for _ in 1..size {
         modulus.push(0xff)?;
     }
     let mut parts = Texts::new(alloc);
@@ -29,7 +29,7 @@ fn is_modulus(alloc: Global, first: u8, size: usize) -> Result<bool, NoMemory> {
 fn is_exponent(alloc: Global, exponent: &[u8]) -> Result<bool, NoMemory> {
     let mut modulus = Vec::new(alloc);
     modulus.push(0)?;
-    while modulus.len() < 257 {
+    for _ in 1..257 {
         modulus.push(0xff)?;
     }
     let mut parts = Texts::new(alloc);
@@ -42,7 +42,7 @@ fn is_exponent(alloc: Global, exponent: &[u8]) -> Result<bool, NoMemory> {
 fn is_application(alloc: Global, beginning: &[u8], size: usize) -> Result<bool, NoMemory> {
     let mut application = Vec::new(alloc);
     application.extend_from_slice(beginning)?;
-    while application.len() < size {
+    for _ in beginning.len()..size {
         application.push(b'~')?;
     }
     let mut parts = Texts::new(alloc);
