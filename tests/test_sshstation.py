@@ -803,20 +803,20 @@ def test_a_file_that_is_missing_is_told_before_a_clock_that_has_stopped(guard, r
     assert (1, "", "sshstation: File\n") == guard.judge("missing", env=environment)
 
 
-def test_each_body_is_judged_at_the_time_at_which_its_path_is_read(guard, room, programs):
+def test_each_body_is_judged_at_the_time_at_which_it_comes(guard, room, programs):
     """Proved is only that each time is one of the clock: a guard that runs for months reads it again for each body."""
     early, late = {"after": 1000, "before": 2000}, {"after": 9000, "before": 9500}
     data = {"a": body(1, **early), "b": body(2, **early), "c": body(3, **late)}
-    put(room, moment=b"1500", **data)
+    put(room, moment=b"1500")
     strange = preloaded("strange_system.c", room)
     opened = Open(guard, programs, env=os.environ | {"LD_PRELOAD": str(strange), "MOMENT_FILE": str(room / "moment")})
-    assert sign(1, data["a"]) == opened.ask("a")
-    assert "refuse TooFarAhead\n" == opened.ask("c")
+    assert sign(1, data["a"]) == opened.ask(data["a"])
+    assert "refuse TooFarAhead\n" == opened.ask(data["c"])
     put(room, moment=b"2000")
-    assert "refuse AlreadyEnded\n" == opened.ask("b")
+    assert "refuse AlreadyEnded\n" == opened.ask(data["b"])
     put(room, moment=b"5399")
-    assert "refuse TooFarAhead\n" == opened.ask("c")
+    assert "refuse TooFarAhead\n" == opened.ask(data["c"])
     put(room, moment=b"5400")
-    assert sign(3, data["c"]) == opened.ask("c")
+    assert sign(3, data["c"]) == opened.ask(data["c"])
     assert (0, "", "") == opened.end()
     assert [("1", "1500"), ("3", "5400")] == [(serial, moment) for serial, _, moment, _ in guard.bodies()]
