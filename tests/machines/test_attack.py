@@ -144,7 +144,9 @@ def test_the_user_who_reads_the_network_becomes_no_ca(attacked, flooded):
         assert [False, False] == ["granted" in attacked.login("mallory", it) for it in ("root", "alice")], command
         assert trusted == server.says("cat /etc/vethlumi/trusted-cas") and "granted" == attacked.login("guest")
         server.run("rm -rf /var/lib/office-list/cas.pub")
-    server.run("systemctl restart office-ca-keys")
+    # Beside the flood an answer may come too late.
+    boxes.wait_until(lambda: server.run("systemctl restart office-ca-keys", False).returncode == 0,
+                     "the keys are fetched")
 
 
 @marked(*on_boxes)
@@ -254,7 +256,8 @@ def test_neither_a_caller_nor_a_server_makes_the_list_so_long_that_logins_hang(a
     of_server = attacked.attack("server", "flood", FRONT, CACERT["server"], HOST_PEM, "server-example-org", "200")
     # Some of the server's 30 were used up by the test before.
     assert 1 <= of_server["200"] <= 31 + of_server["seconds"] / 60, of_server
-    assert 2000 <= of_caller["200"] <= 2001 + of_caller["seconds"] / 6, of_caller
+    # And the caller may have sent up to ten others.
+    assert 1990 <= of_caller["200"] <= 2001 + of_caller["seconds"] / 6, of_caller
     for it in (of_server, of_caller):
         assert {"200", "429", "seconds"} == {*it}, it
     # Each key ID takes its own bytes and four more: the department, a slash, and a name of 64 letters.

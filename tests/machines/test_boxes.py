@@ -204,7 +204,7 @@ time.sleep(600)
 
 def test_no_box_outlives_its_maker(base, tmp_path):
     """Not even if its maker is killed. What it leaves is a folder of a control group, which the next one removes."""
-    words = [sys.executable, "-c", MAKER, TOP / "tests", tmp_path, base]
+    words = [sys.executable, "-c", MAKER, TOP / "tests/machines", tmp_path, base]
     with subprocess.Popen(words, stdout=subprocess.PIPE) as maker:
         init = pathlib.Path("/proc", maker.stdout.readline().decode().strip())
         assert init.exists()
