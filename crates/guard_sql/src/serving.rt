@@ -11,9 +11,9 @@ ghost use Rattle.guard_sql.specs.Registering.{LeadsOf, ShowsOf};
 ghost use Rattle.guard_sql.specs.Rows.{approved_in};
 
 use crate::approvals::{ApprovalRow, find_approval, first_approval_from};
+use crate::approved_rows::{approved, are_low};
 use crate::faults::register_fault;
 use crate::keeping::{end_at, keep_approvals};
-use crate::approved_rows::{approved, are_low};
 use guard::{Approved, RegisterFault};
 use sqlite::{Alter, Connection};
 use std::alloc::Global;
