@@ -1,7 +1,7 @@
 -- The text of valid fields is read back.
 use Rattle.cert.proofs.Words.{Bool, CertFault, CertFields, CriticalOptions, Extensions, IsCertFields, List, Ok, Option}
-use Rattle.cert.proofs.Words.{Result, Some, [], ap, append-nil, append_assoc, arith, body_text, bytes_eq-Decides}
-use Rattle.cert.proofs.Words.{cert_type, check, eq-eqb, front, is_validity, key_blob, key_of_again, kind_number, length}
+use Rattle.cert.proofs.Words.{Result, Some, [], ap, append-nil, append_assoc, arith, body_text, cert_name}
+use Rattle.cert.proofs.Words.{check, eq-eqb, front, is_validity, key_blob, key_of_again, kind_number, length}
 use Rattle.cert.proofs.Words.{nat_tests, options_text, or_fault, principals_text, refl, string_again, string_at}
 use Rattle.cert.proofs.Words.{string_text, sym, true, u32_at, u32_text, u64_at, u64_text, w32, w64, wide32, wide64, ℕ}
 use Rattle.cert.proofs.Words.{◌++◌, ◌<◌, ◌>>=◌, ◌^◌, ◌∙◌, ◌≡◌}
@@ -14,6 +14,8 @@ use Rattle.cert.proofs.Sizes.{key_id-lt, principals_text-lt, options_text-lt}
 use Rattle.cert.proofs.NestedLaws.{principals_again}
 use Rattle.cert.proofs.OptionLaws.{options_of_again}
 use Rattle.cert.proofs.Tails
+use Rattle.cert.proofs.Words.{parts_text, strings_at}
+use Rattle.lines.proofs.Subjects.{cert_name-lt, strings_again, type_again}
 use Rattle.cert.proofs.BodyParts.{kind_again, kind_small}
 
 before_small : (a b : ℕ) → is_validity a b ≡ true → (a < 2 ^ 64) × (b < 2 ^ 64)
@@ -61,8 +63,8 @@ Reads n next = (c : CertFields) → IsCertFields c → (rest : List ℕ) → bod
 
 pub reads_type : Reads 1 Tails.from_nonce
 reads_type c l rest =
-    reads_string _ _ [] cert_type rest tt (Tails.body_at-from_type c) (omega arith)
-    (passes fault.WrongType _ _ ((bytes_eq-Decides cert_type cert_type).1 refl))
+    reads_string _ _ [] (cert_name c.key_type) rest c.key_type (Tails.body_at-from_type c) (cert_name-lt c.key_type)
+    (is_text fault.WrongType _ _ _ (type_again c.key_type))
 
 pub reads_nonce : Reads 2 Tails.from_key
 reads_nonce c l rest =
@@ -71,8 +73,8 @@ reads_nonce c l rest =
 
 pub reads_key : Reads 3 Tails.from_serial
 reads_key c l rest =
-    reads_string _ _ (front 2 c) c.key rest c.key (reads_nonce c l) (omega (arith, l.key))
-    (passes fault.BadKey _ _ (eq-eqb _ _ l.key))
+    reads (strings_at c.key_type) _ _ (front 2 c) (parts_text c.key) rest c.key c.key (reads_nonce c l)
+    (strings_again c.key_type c.key rest l.key) (passes fault.BadKey _ _ l.key)
 
 pub reads_serial : Reads 4 Tails.from_kind
 reads_serial c l rest =

@@ -2,7 +2,7 @@
 use Rattle.cert.proofs.Words.{Bool, CertFault, CertFields, CriticalOptions, Err, Extensions, GivesRead, IsBytes}
 use Rattle.cert.proofs.Words.{IsCertFields, IsCertFault, LeavesRest, List, None, Ok, Option, Result, Some, [], ap}
 use Rattle.cert.proofs.Words.{arith}
-use Rattle.cert.proofs.Words.{body_text, bytes_eq-Decides, cert_type, check, ends_at, eqb, eqb-true, false, front}
+use Rattle.cert.proofs.Words.{body_text, cert_name, check, ends_at, eqb, eqb-true, false, front}
 use Rattle.cert.proofs.Words.{is_some, is_whole, key_blob, key_of, key_of_found, kind_number, kind_of, length}
 use Rattle.cert.proofs.Words.{option_map, options_of, options_text, or_fault, principals_of, principals_text, refl}
 use Rattle.cert.proofs.Words.{string_at, string_takes, subst, suc, sym, true, zero, ℕ, ◌++◌, ◌<◌, ◌>>=◌, ◌∙◌, ◌≡◌, ◌≢◌}
@@ -15,6 +15,8 @@ use Rattle.cert.proofs.NestedLaws.{principals_found}
 use Rattle.text.proofs.ByteLemmas.{IsBytes_left}
 use Rattle.cert.proofs.OptionLaws.{options_of_found}
 use Rattle.cert.proofs.Tails
+use Rattle.cert.proofs.Words.{type_of}
+use Rattle.lines.proofs.Subjects.{type_found}
 use Rattle.cert.proofs.BodyParts.{no_value, none_of, kind_found}
 use Rattle.cert.proofs.BodySays.{Says, body_at-says}
 use Rattle.cert.proofs.BodyAgain.{Reads, reads_type, reads_nonce, reads_key, reads_serial, reads_kind, reads_key_id}
@@ -61,7 +63,7 @@ begun next {rest = rest} {c = c} h reads = ap body_at h.text ∙ reads c h.lawfu
 reads_none : Reads 0 Tails.from_type
 reads_none c l rest = Tails.body_at-from_type c rest
 
-cut : (n : ℕ) → n < 12 → (c : CertFields) (rest : List ℕ) → IsCertFields c → is_whole n rest ≡ false
+cut : (n : ℕ) → n < 12 → (c : CertFields) (rest : List ℕ) → IsCertFields c → is_whole n c rest ≡ false
     → body_at (front n c ++ rest) ≡ Err fault.Truncated
 cut zero lt c rest l e = reads_none c l rest ∙ cut_at _ _ _ e
 cut (suc zero) lt c rest l e = reads_type c l rest ∙ cut_at _ _ _ e
@@ -84,11 +86,12 @@ cut (suc (suc (suc (suc (suc (suc (suc (suc (suc (suc (suc (suc n)))))))))))) lt
 pub body_at-fault : (bytes : List ℕ) (e : CertFault) → IsBytes bytes → e ≢ fault.NoMemory → IsCertFault bytes e
     → body_at bytes ≡ Err e
 body_at-fault bytes fault.WrongType fits other (c, rest, h, w) = begun _ h reads_none
-    ∙ bad_at _ _ _ w.0 _ w.1 (fails _ _ _ (λ t. w.2 ((bytes_eq-Decides w.0.0 cert_type).0 t)))
+    ∙ bad_at _ _ _ w.0 _ w.1 (no_text _ _ _ (no_value type_of cert_name (λ _. Unit {0}) w.0.0
+    (λ t e. (type_found cert_name w.0.0 t e, tt)) (λ x. w.2 (x.0, x.2))))
 body_at-fault bytes fault.BadNonce fits other (c, rest, h, w) = begun _ h reads_type
     ∙ bad_at _ _ _ w.0 _ w.1 (fails _ _ _ (λ t. w.2 (eqb-true _ _ t)))
 body_at-fault bytes fault.BadKey fits other (c, rest, h, w) = begun _ h reads_nonce
-    ∙ bad_at _ _ _ w.0 _ w.1 (fails _ _ _ (λ t. w.2 (eqb-true _ _ t)))
+    ∙ bad_at _ _ _ w.0 _ w.1 (fails _ _ _ w.2)
 body_at-fault bytes fault.BadSerial fits other (c, rest, h, w) = begun _ h reads_key
     ∙ bad_at _ _ _ w.0 _ w.1 (fails _ _ _ w.2)
 body_at-fault bytes fault.BadKind fits other (c, rest, h, w) = begun _ h reads_serial

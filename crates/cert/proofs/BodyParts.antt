@@ -4,6 +4,9 @@ use Rattle.cert.proofs.Words.{OptionField, Pair, Some, User, [], ap, append_asso
 use Rattle.cert.proofs.Words.{codes, eq-eqb, eqb, false, is_key_id, is_options, is_serial, is_some, is_validity}
 use Rattle.cert.proofs.Words.{kind_number, kind_of, length, nat_tests, refl, sym, true, ℕ, ◌++◌, ◌<◌, ◌^◌, ◌∙◌, ◌∷◌}
 use Rattle.cert.proofs.Words.{◌≡◌, ◌≢◌}
+use Rattle.cert.proofs.Words.{KeyType, are_parts}
+use Rattle.lines.proofs.Subjects.{sample_key, sample_key_passes}
+use Rattle.lines.specs.declared.subject.KeyType.TheVariants.{Ed25519}
 use Rattle.std.proofs.Common.{replicate}
 
 pub option_cases : {A : Type 0} (o : Option A) (P : Type 0) → (o ≡ None → P) → ((x : A) → o ≡ Some x → P) → P
@@ -47,8 +50,9 @@ kind_small Host = omega arith
 -- a certificate without options
 pub sample : CertFields
 sample = record {
+  key_type = Ed25519;
   nonce = replicate 32 0;
-  key = replicate 32 0;
+  key = sample_key Ed25519;
   serial = 1;
   kind = User;
   key_id = codes "a/a";
@@ -89,7 +93,10 @@ module _ (c : CertFields) (l : IsCertFields c) where
   pub with_nonce : (x : List ℕ) → length x ≡ 32 → IsCertFields (record c { nonce = x })
   with_nonce x h = assumption (h, l)
 
-  pub with_key : (x : List ℕ) → length x ≡ 32 → IsCertFields (record c { key = x })
+  pub with_type : (t : KeyType) → IsCertFields (record c { key_type = t; key = sample_key t })
+  with_type t = let passes = sample_key_passes t in assumption (passes, l)
+
+  pub with_key : (x : List (List ℕ)) → are_parts c.key_type x ≡ true → IsCertFields (record c { key = x })
   with_key x h = assumption (h, l)
 
   pub with_serial : (x : ℕ) → is_serial x ≡ true → IsCertFields (record c { serial = x })

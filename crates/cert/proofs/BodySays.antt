@@ -2,8 +2,8 @@
 use Rattle.cert.proofs.Words.{Bool, CertFault, CertFields, CriticalOptions, Err, Extensions, IsBytes, IsCertFields}
 use Rattle.cert.proofs.Words.{IsCertFault, LeavesRest, List, None, Ok, Option, Result, Some, ap, append-nil}
 use Rattle.cert.proofs.Words.{append_assoc}
-use Rattle.cert.proofs.Words.{are_principals, arith, body_text, both_ways, bytes_eq, bytes_eq-Decides, cases_Bool}
-use Rattle.cert.proofs.Words.{cert_type, check, ends_at, eq-eqb, eqb, eqb-true, false, front, inl, inr, is_key_id}
+use Rattle.cert.proofs.Words.{are_principals, arith, body_text, both_ways, cases_Bool, cert_name}
+use Rattle.cert.proofs.Words.{check, ends_at, eq-eqb, eqb, eqb-true, false, front, inl, inr, is_key_id}
 use Rattle.cert.proofs.Words.{is_options, is_serial, is_some, is_validity, is_whole, key_blob, key_of, key_of_again}
 use Rattle.cert.proofs.Words.{key_of_found, kind_number, kind_of, length, option_and_then, option_and_then_some}
 use Rattle.cert.proofs.Words.{options_of, options_text, or_fault, principals_of, principals_text, refl, same_Some}
@@ -17,6 +17,9 @@ use Rattle.cert.proofs.NestedLaws.{principals_found, principals_again}
 use Rattle.text.proofs.ByteLemmas.{IsBytes_left}
 use Rattle.cert.proofs.OptionLaws.{options_of_found, options_of_again}
 use Rattle.cert.proofs.Tails
+use Rattle.cert.proofs.Words.{are_parts, parts_text, strings_at, type_of}
+use Rattle.lines.proofs.Subjects.{sample_key, strings_take, type_again, type_found}
+use Rattle.cert.proofs.BodyParts.{with_type}
 use Rattle.cert.proofs.BodyParts.{option_cases, not_empty, advance, kind_found, kind_again, IsBare, with_key_id}
 use Rattle.cert.proofs.BodyParts.{with_principals, with_options, with_extensions, with_ca, with_ends, with_kind}
 use Rattle.cert.proofs.BodyParts.{with_serial, with_key, with_nonce, sample, sample_is_lawful, sample_is_bare}
@@ -43,7 +46,7 @@ says_end c l bytes rest text = by (eqb (length rest) 0) refl
 module _ (n : ℕ) (small : n < 12) (c : CertFields) (l : IsCertFields c) (bytes rest : List ℕ) (fits : IsBytes rest)
     (text : bytes ≡ front n c ++ rest) {S A : Type 0} (at : List ℕ → Option (S × List ℕ)) (source : S → List ℕ)
     (takes : (s : S) (left : List ℕ) → at rest ≡ Some (s, left) → rest ≡ source s ++ left)
-    (whole : is_whole n rest ≡ is_some (at rest)) (bad : CertFault)
+    (whole : is_whole n c rest ≡ is_some (at rest)) (bad : CertFault)
     (next : A × List ℕ → Result CertFields CertFault) where
   here_left : LeavesRest bytes n c rest
   here_left = record { lawful = l; text = text }
@@ -196,9 +199,10 @@ says_serial c (l, bare) bytes rest fits text =
 
 says_key : SaysFrom IsStart 2 Tails.from_key
 says_key c (l, bare) bytes rest fits text =
-    says_tested 2 (omega arith) c l bytes rest fits text string_at string_text (string_here rest fits) refl fault.BadKey
-    _ (λ s. eqb (length s) 32) (λ s. s) (λ h s is fails. (c, rest, h, (s, is, λ e. both_ways _ fails (eq-eqb _ _ e))))
-    (λ s left passes. says_serial (record c { key = s }) (with_key c l s (eqb-true _ _ passes), bare) bytes left)
+    says_tested 2 (omega arith) c l bytes rest fits text (strings_at c.key_type) parts_text
+    (strings_take c.key_type rest fits) refl fault.BadKey _ (are_parts c.key_type) (λ ps. ps)
+    (λ h ps is fails. (c, rest, h, (ps, is, both_ways _ fails)))
+    (λ ps left passes. says_serial (record c { key = ps }) (with_key c l ps passes, bare) bytes left)
 
 says_nonce : SaysFrom IsStart 1 Tails.from_nonce
 says_nonce c (l, bare) bytes rest fits text =
@@ -209,11 +213,10 @@ says_nonce c (l, bare) bytes rest fits text =
 
 says_type : SaysFrom IsStart 0 Tails.from_type
 says_type c (l, bare) bytes rest fits text =
-    says_tested 0 (omega arith) c l bytes rest fits text string_at string_text (string_here rest fits) refl
-    fault.WrongType _ (λ s. bytes_eq s cert_type) (λ _. tt)
-    (λ h s is fails. (c, rest, h, (s, is, λ e. both_ways _ fails ((bytes_eq-Decides s.0 cert_type).1 e))))
-    (λ s left passes fits text. says_nonce c (l, bare) bytes left fits
-    (text ∙ ap (λ t. front 0 c ++ string_text t ++ left) ((bytes_eq-Decides s cert_type).0 passes)))
+    says_made 0 (omega arith) c l bytes rest fits text string_at string_text (string_here rest fits) refl
+    fault.WrongType _ type_of cert_name (λ _. Unit {0}) (λ s t left here e. (type_found cert_name s t e, tt))
+    (λ t _. type_again t) (λ h s is none. (c, rest, h, (s, is, λ w. none (w.0, tt, w.1))))
+    (λ t left _. says_nonce (record c { key_type = t; key = sample_key t }) (with_type c l t, bare) bytes left)
 
 -- what reading gives is true of the bytes
 pub body_at-says : (bytes : List ℕ) → IsBytes bytes → Says bytes (body_at bytes)

@@ -1,5 +1,5 @@
 -- Steps of reading: if one fails, reading fails with its fault.
-use Rattle.cert.proofs.Words.{CertFault, Err, GivesRead, Kind, List, None, Ok, Option, Result, Some, ap, inl}
+use Rattle.cert.proofs.Words.{CertFault, Err, GivesRead, KeyType, Kind, List, None, Ok, Option, Result, Some, ap, inl}
 use Rattle.cert.proofs.Words.{inr, option_and_then, or_fault, refl, subst, sym, ℕ, ◌>>=◌, ◌≡◌}
 use Rattle.std.proofs.Common.{◌⊎◌}
 use Rattle.cert.specs.Reading.{GivesRest, both_options_at, end_at, from_key_id_at, names_at, validity_at}
@@ -90,12 +90,13 @@ joined (Ok x) f g = refl
 joined (Err e) f g = refl
 
 -- the fields from the key id on in four steps
-pub in_four : (nonce key : List ℕ) (serial : ℕ) (kind : Kind) (bytes : List ℕ)
-    → from_key_id_at nonce key serial kind bytes ≡ (names_at bytes
+pub in_four : (key_type : KeyType) (nonce : List ℕ) (key : List (List ℕ)) (serial : ℕ) (kind : Kind) (bytes : List ℕ)
+    → from_key_id_at key_type nonce key serial kind bytes ≡ (names_at bytes
     >>= λ names. validity_at names.1
     >>= λ ends. both_options_at kind ends.1
     >>= λ options. end_at options.1
     >>= λ ca. Ok (record {
+      key_type = key_type;
       nonce = nonce;
       key = key;
       serial = serial;
@@ -109,7 +110,7 @@ pub in_four : (nonce key : List ℕ) (serial : ℕ) (kind : Kind) (bytes : List 
       ca = ca;
     }))
 unfolding from_key_id_at
-in_four nonce key serial kind bytes = simp joined
+in_four key_type nonce key serial kind bytes = simp joined
 
 -- a fault in a part of an option is a fault of the option
 pub passes_on : {A B : Type 0} (bad e : CertFault) (o : Option A) (f : A → Option B)

@@ -1,9 +1,9 @@
 -- Reading the fields of a body in order: the steps that remain after each, and how each goes on or fails.
 use Rattle.cert.proofs.Words.{Bool, CertFault, CertFields, CriticalOptions, Extensions, List, None, Ok, Option, Result}
-use Rattle.cert.proofs.Words.{Some, ap, bytes_eq, cert_type, check, ends_at, eqb, is_key_id, is_serial, is_some}
+use Rattle.cert.proofs.Words.{Some, ap, are_parts, check, ends_at, eqb, is_key_id, is_serial, is_some}
 use Rattle.cert.proofs.Words.{is_validity, key_of, kind_of, length, option_map, options_of, or_fault, principals_of}
-use Rattle.cert.proofs.Words.{refl, same_Some, string_at, u32_at, u64_at, ℕ, ◌>>=◌, ◌≡◌}
-use Rattle.cert.specs.Reading.{type_at, bytes_32_at, serial_at, kind_at, key_id_at, principals_at, validity_at}
+use Rattle.cert.proofs.Words.{refl, same_Some, string_at, strings_at, type_of, u32_at, u64_at, ℕ, ◌>>=◌, ◌≡◌}
+use Rattle.cert.specs.Reading.{type_at, bytes_32_at, key_at, serial_at, kind_at, key_id_at, principals_at, validity_at}
 use Rattle.cert.specs.Reading.{options_at, reserved_at, ca_at, from_key_id_at, body_at}
 use Rattle.cert.specs.declared.cert_fault.CertFault.TheVariants as fault
 use Rattle.cert.proofs.BodyParts.{option_cases}
@@ -79,7 +79,7 @@ from_serial c rest = tested fault.BadSerial u64_at is_serial (λ n. n) rest
     >>= λ x. from_kind (record c { serial = x.0 }) x.1
 
 abbrev pub from_key : CertFields → List ℕ → Result CertFields CertFault
-from_key c rest = tested fault.BadKey string_at (λ s. eqb (length s) 32) (λ s. s) rest
+from_key c rest = tested fault.BadKey (strings_at c.key_type) (are_parts c.key_type) (λ ps. ps) rest
     >>= λ x. from_serial (record c { key = x.0 }) x.1
 
 abbrev pub from_nonce : CertFields → List ℕ → Result CertFields CertFault
@@ -87,12 +87,11 @@ from_nonce c rest = tested fault.BadNonce string_at (λ s. eqb (length s) 32) (�
     >>= λ x. from_key (record c { nonce = x.0 }) x.1
 
 abbrev pub from_type : CertFields → List ℕ → Result CertFields CertFault
-from_type c rest = tested fault.WrongType string_at (λ s. bytes_eq s cert_type) (λ _. tt) rest
-    >>= λ (x : Unit {0} × List ℕ). from_nonce c x.1
+from_type c rest = made fault.WrongType string_at type_of rest >>= λ x. from_nonce (record c { key_type = x.0 }) x.1
 
 -- reading a body begins with its type
 pub body_at-from_type : (c : CertFields) (bytes : List ℕ) → body_at bytes ≡ from_type c bytes
-unfolding body_at from_key_id_at type_at bytes_32_at serial_at kind_at key_id_at principals_at options_at reserved_at
+unfolding body_at from_key_id_at type_at bytes_32_at key_at serial_at kind_at key_id_at principals_at options_at reserved_at
     ca_at
 body_at-from_type c bytes = simp validity_is_tested
 

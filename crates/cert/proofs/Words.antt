@@ -1,5 +1,5 @@
 -- The names from libraries and definitions that several proof files use.
-pub use Rattle.cert.specs.Bodies.{IsCertFields, are_principals, body_text, cert_type, front, is_validity, kind_number}
+pub use Rattle.cert.specs.Bodies.{IsCertFields, are_principals, body_text, front, is_validity, kind_number}
 pub use Rattle.cert.specs.Bodies.{principals_text}
 pub use Rattle.cert.specs.Faults.{IsCertFault, LeavesRest, ends_at, is_whole}
 pub use Rattle.cert.specs.OptionFaults.{first_fault, options_fault, pair_fault}
@@ -7,6 +7,9 @@ pub use Rattle.cert.specs.Options.{are_for_kind, comes_before, is_ascending, is_
 pub use Rattle.cert.specs.Options.{option_data, option_text, options_text}
 pub use Rattle.cert.specs.Reading.{GivesRead, check, comes_next, kind_of, options_of, options_within, pair_at, pair_of}
 pub use Rattle.cert.specs.Reading.{principals_of, strings_within}
+pub use Rattle.lines.specs.Subjects.{are_parts, cert_name, part_count, parts_text, strings_at, strings_from, type_of}
+pub use Rattle.lines.specs.Subjects.{pass_each, tests_of, type_or}
+pub use Rattle.lines.specs.declared.subject.KeyType.{KeyType}
 pub use Rattle.cert.specs.declared.cert_fault.CertFault.{CertFault}
 pub use Rattle.cert.specs.declared.fields.CertFields.{CertFields}
 pub use Rattle.cert.specs.declared.option_fault.OptionFault.{OptionFault}

@@ -1,5 +1,4 @@
--- Unsigned certificates, called bodies (PROTOCOL.certkeys, "New certificate formats":
--- ssh-ed25519-cert-v01@openssh.com, up to the signature).
+-- Unsigned certificates, called bodies (PROTOCOL.certkeys, "New certificate formats", up to the signature).
 use Rattle.std.specs.Prelude.{
   ◌≡◌,
   ℕ,
@@ -10,7 +9,6 @@ use Rattle.std.specs.Prelude.{
   length,
   take,
   fold,
-  codes,
   Bool,
   ◌&&◌,
   nat_le,
@@ -26,12 +24,9 @@ use Rattle.values.specs.Serials.{is_serial}
 use Rattle.values.specs.declared.kind.Kind.{Kind}
 use Rattle.values.specs.declared.kind.Kind.TheVariants.{User, Host}
 use Rattle.values.specs.declared.option_field.OptionField.TheVariants.{CriticalOptions, Extensions}
+use Rattle.lines.specs.Subjects.{are_parts, cert_name, parts_text}
 use Rattle.cert.specs.Options.{is_options, options_text}
 use Rattle.cert.specs.declared.fields.CertFields.{CertFields}
-
--- the name of the certificate type
-abbrev pub cert_type : List ℕ
-cert_type = codes "ssh-ed25519-cert-v01@openssh.com"
 
 -- SSH_CERT_TYPE_USER and SSH_CERT_TYPE_HOST
 abbrev pub kind_number : Kind → ℕ
@@ -45,9 +40,9 @@ principals_text principals = flat_map string_text principals
 -- the text of each field, in order
 abbrev pub field_texts : CertFields → List (List ℕ)
 field_texts c =
-    string_text cert_type
+    string_text (cert_name c.key_type)
     ∷ string_text c.nonce
-    ∷ string_text c.key
+    ∷ parts_text c.key
     ∷ u64_text c.serial
     ∷ u32_text (kind_number c.kind)
     ∷ string_text c.key_id
@@ -78,7 +73,7 @@ is_validity after before = nat_lt after before && nat_le before 253402300799
 -- the conditions on the fields of a certificate
 pub record IsCertFields (c : CertFields) : Type 0 where
   pub nonce : length c.nonce ≡ 32
-  pub key : length c.key ≡ 32
+  pub key : IsTrue (are_parts c.key_type c.key)
   pub serial : IsTrue (is_serial c.serial)
   pub key_id : IsTrue (is_key_id c.key_id)
   pub principals : IsTrue (are_principals c.principals)

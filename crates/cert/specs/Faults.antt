@@ -26,9 +26,10 @@ use Rattle.values.specs.declared.option_field.OptionField.TheVariants.{CriticalO
 use Rattle.text.specs.declared.pair.Pair.{Pair}
 use Rattle.cert.specs.Options.{is_options, options_text}
 use Rattle.values.specs.Serials.{is_serial}
+use Rattle.lines.specs.Subjects.{are_parts, cert_name, part_count, strings_at}
+use Rattle.lines.specs.declared.subject.KeyType.{KeyType}
 use Rattle.cert.specs.Bodies.{
   IsCertFields,
-  cert_type,
   kind_number,
   principals_text,
   front,
@@ -75,20 +76,24 @@ ends_at bytes =
       before.1,
     )) (u64_at after.1)) (u64_at bytes)
 
--- whether the nth field is whole at the front of the bytes: a serial, a kind, two ends, or else a string
-abbrev pub is_whole : ℕ → List ℕ → Bool
-is_whole n bytes =
-    if n == 3 then is_some (u64_at bytes)
+-- whether the nth field is whole at the front of the bytes, after those of c: a key, a serial, a kind, two ends, or else
+-- a string
+abbrev pub is_whole : ℕ → CertFields → List ℕ → Bool
+is_whole n c bytes =
+    if n == 2 then is_some (strings_at c.key_type bytes)
+    else (if n == 3 then is_some (u64_at bytes)
     else (if n == 4 then is_some (u32_at bytes)
-    else (if n == 7 then is_some (ends_at bytes) else is_some (string_at bytes)))
+    else (if n == 7 then is_some (ends_at bytes) else is_some (string_at bytes))))
 
 -- what each fault means for the bytes; a refused allocation means nothing for them
 abbrev pub IsCertFault : List ℕ → CertFault → Type 0
 IsCertFault bytes Truncated =
-    (n : ℕ) × (n < 12) × (c : CertFields) × (rest : List ℕ) × LeavesRest bytes n c rest × (is_whole n rest ≡ false)
-IsCertFault bytes WrongType = HasBadString bytes 0 (λ c s. s ≡ cert_type)
+    (n : ℕ) × (n < 12) × (c : CertFields) × (rest : List ℕ) × LeavesRest bytes n c rest × (is_whole n c rest ≡ false)
+IsCertFault bytes WrongType = HasBadString bytes 0 (λ c s. (t : KeyType) × (s ≡ cert_name t))
 IsCertFault bytes BadNonce = HasBadString bytes 1 (λ c s. length s ≡ 32)
-IsCertFault bytes BadKey = HasBadString bytes 2 (λ c s. length s ≡ 32)
+IsCertFault bytes BadKey =
+    (c : CertFields) × (rest : List ℕ) × LeavesRest bytes 2 c rest
+    × ((ps : List (List ℕ) × List ℕ) × (strings_at c.key_type rest ≡ Some ps) × ¬ (IsTrue (are_parts c.key_type ps.0)))
 IsCertFault bytes BadSerial =
     (c : CertFields) × (rest : List ℕ) × LeavesRest bytes 3 c rest
     × ((n : ℕ × List ℕ) × (u64_at rest ≡ Some n) × ¬ (IsTrue (is_serial n.0)))

@@ -23,7 +23,6 @@ use Rattle.std.specs.Prelude.{
 }
 use Rattle.std.specs.Option.{option_map}
 use Rattle.text.specs.Results.{◌>>=◌, or_fault}
-use Rattle.std.specs.Str.{bytes_eq}
 use Rattle.text.specs.declared.pair.Pair.{Pair}
 use Rattle.wire.specs.Reading.{u32_at, u64_at, string_at}
 use Rattle.lines.specs.Keys.{key_of}
@@ -36,7 +35,9 @@ use Rattle.values.specs.declared.option_field.OptionField.{OptionField}
 use Rattle.values.specs.declared.option_field.OptionField.TheVariants.{CriticalOptions, Extensions}
 use Rattle.cert.specs.Options.{comes_before, is_option}
 use Rattle.values.specs.Serials.{is_serial}
-use Rattle.cert.specs.Bodies.{cert_type, is_validity}
+use Rattle.lines.specs.Subjects.{are_parts, strings_at, type_of}
+use Rattle.lines.specs.declared.subject.KeyType.{KeyType}
+use Rattle.cert.specs.Bodies.{is_validity}
 use Rattle.cert.specs.declared.fields.CertFields.{CertFields}
 use Rattle.cert.specs.declared.cert_fault.CertFault.{CertFault}
 use Rattle.cert.specs.declared.cert_fault.CertFault.TheVariants.{
@@ -133,17 +134,23 @@ kind_of n = if n == 1 then Some User else (if n == 2 then Some Host else None)
 
 -- ---- field by field
 
-unfoldable pub type_at : List ℕ → Result (Unit {0} × List ℕ) CertFault
+unfoldable pub type_at : List ℕ → Result (KeyType × List ℕ) CertFault
 type_at bytes = do
   name ← or_fault Truncated (string_at bytes)
-  _ ← check WrongType (bytes_eq name.0 cert_type)
-  Ok (tt, name.1)
+  key_type ← or_fault WrongType (type_of name.0)
+  Ok (key_type, name.1)
 
 unfoldable pub bytes_32_at : CertFault → List ℕ → Result (List ℕ × List ℕ) CertFault
 bytes_32_at fault bytes = do
   text ← or_fault Truncated (string_at bytes)
   _ ← check fault (length text.0 == 32)
   Ok text
+
+unfoldable pub key_at : KeyType → List ℕ → Result (List (List ℕ) × List ℕ) CertFault
+key_at key_type bytes = do
+  parts ← or_fault Truncated (strings_at key_type bytes)
+  _ ← check BadKey (are_parts key_type parts.0)
+  Ok parts
 
 unfoldable pub serial_at : List ℕ → Result (ℕ × List ℕ) CertFault
 serial_at bytes = do
@@ -222,8 +229,8 @@ end_at bytes = do
   Ok ca.0
 
 -- the fields from the key id on, together with those before it
-unfoldable pub from_key_id_at : (nonce key : List ℕ) → ℕ → Kind → List ℕ → Result CertFields CertFault
-from_key_id_at nonce key serial kind bytes = do
+unfoldable pub from_key_id_at : KeyType → List ℕ → List (List ℕ) → ℕ → Kind → List ℕ → Result CertFields CertFault
+from_key_id_at key_type nonce key serial kind bytes = do
   key_id ← key_id_at bytes
   principals ← principals_at key_id.1
   validity ← validity_at principals.1
@@ -233,6 +240,7 @@ from_key_id_at nonce key serial kind bytes = do
   ca ← ca_at reserved.1
   _ ← check TrailingBytes (length ca.1 == 0)
   Ok (record {
+    key_type = key_type;
     nonce = nonce;
     key = key;
     serial = serial;
@@ -251,7 +259,7 @@ unfoldable pub body_at : List ℕ → Result CertFields CertFault
 body_at bytes = do
   named ← type_at bytes
   nonce ← bytes_32_at BadNonce named.1
-  key ← bytes_32_at BadKey nonce.1
+  key ← key_at named.0 nonce.1
   serial ← serial_at key.1
   kind ← kind_at serial.1
-  from_key_id_at nonce.0 key.0 serial.0 kind.0 kind.1
+  from_key_id_at named.0 nonce.0 key.0 serial.0 kind.0 kind.1

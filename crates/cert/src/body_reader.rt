@@ -10,6 +10,7 @@ ghost use Rattle.cert.specs.Reading.{
   GivesRest,
   type_at,
   bytes_32_at,
+  key_at,
   serial_at,
   kind_at,
   key_id_at,
@@ -29,23 +30,23 @@ use crate::cert_fault::CertFault;
 use crate::fields::CertFields;
 use crate::nested::{options_in, principals_in};
 use crate::options::Options;
-use lines::read_key_blob;
+use lines::{KeyType, are_parts, read_key_blob, read_strings_of, type_of};
 use std::alloc::Global;
 use text::{Text, Texts};
 use values::{Kind, LATEST_MOMENT, OptionField, is_key_id, is_serial};
 use wire::Cursor;
 
 #[tactic(auto, unfolding(crate::specs::Reading::type_at))]
-fn read_type(cursor: &mut Cursor) -> Result<(), CertFault>
+fn read_type(cursor: &mut Cursor) -> Result<KeyType, CertFault>
     ensures { GivesRest result cursor.new (type_at cursor.old) }
 {
     let Some(name) = cursor.string() else {
         return Err(CertFault::Truncated);
     };
-    if name != b"ssh-ed25519-cert-v01@openssh.com".as_slice() {
+    let Some(key_type) = type_of(name) else {
         return Err(CertFault::WrongType);
-    }
-    Ok(())
+    };
+    Ok(key_type)
 }
 
 #[tactic(auto, unfolding(crate::specs::Reading::bytes_32_at))]
@@ -61,6 +62,19 @@ fn read_bytes_32(cursor: &mut Cursor, fault: CertFault) -> Result<[u8; 32], Cert
     let mut bytes = [0; 32];
     bytes.copy_from_slice(text);
     Ok(bytes)
+}
+
+#[tactic(auto, unfolding(crate::specs::Reading::key_at))]
+fn read_key(alloc: Global, cursor: &mut Cursor, key_type: KeyType) -> Result<Texts, CertFault>
+    ensures { GivesRest result cursor.new (key_at key_type cursor.old) }
+{
+    let Some(strings) = read_strings_of(alloc, cursor, key_type)? else {
+        return Err(CertFault::Truncated);
+    };
+    if !are_parts(key_type, strings.as_slice()) {
+        return Err(CertFault::BadKey);
+    }
+    Ok(strings)
 }
 
 #[tactic(auto, unfolding(crate::specs::Reading::serial_at))]
@@ -208,18 +222,20 @@ fn read_end(cursor: &mut Cursor) -> Result<[u8; 32], CertFault>
 fn read_from_key_id(
     alloc: Global,
     cursor: &mut Cursor,
+    key_type: KeyType,
     nonce: [u8; 32],
-    key: [u8; 32],
+    key: Texts,
     serial: u64,
     kind: Kind,
 ) -> Result<CertFields, CertFault>
-    ensures { GivesRead result (from_key_id_at nonce key serial kind cursor.old) }
+    ensures { GivesRead result (from_key_id_at key_type nonce key serial kind cursor.old) }
 {
     let (key_id, principals) = read_names(alloc, cursor)?;
     let (after, before) = read_validity(cursor)?;
     let (options, extensions) = read_both_options(alloc, cursor, kind)?;
     let ca = read_end(cursor)?;
     Ok(CertFields {
+        key_type,
         nonce,
         key,
         serial,
@@ -239,12 +255,12 @@ fn fields_in(alloc: Global, bytes: &[u8]) -> Result<CertFields, CertFault>
     ensures { GivesRead result (body_at bytes.now) }
 {
     let mut cursor = Cursor::new(bytes);
-    read_type(&mut cursor)?;
+    let key_type = read_type(&mut cursor)?;
     let nonce = read_bytes_32(&mut cursor, CertFault::BadNonce)?;
-    let key = read_bytes_32(&mut cursor, CertFault::BadKey)?;
+    let key = read_key(alloc, &mut cursor, key_type)?;
     let serial = read_serial(&mut cursor)?;
     let kind = read_kind(&mut cursor)?;
-    read_from_key_id(alloc, &mut cursor, nonce, key, serial, kind)
+    read_from_key_id(alloc, &mut cursor, key_type, nonce, key, serial, kind)
 }
 
 /// Reads an unsigned certificate (PROTOCOL.certkeys) of the profile: a text that `write_body` may write, and no other.

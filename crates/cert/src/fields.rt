@@ -1,16 +1,19 @@
 //! The fields of a certificate.
 
 use crate::options::Options;
+use lines::KeyType;
 use text::{Text, Texts};
 use values::Kind;
 
-/// The fields of an unsigned certificate, or body (PROTOCOL.certkeys, ssh-ed25519-cert-v01@openssh.com).
+/// The fields of an unsigned certificate, or body (PROTOCOL.certkeys).
 #[derive(Drop)]
 pub struct CertFields {
+    /// The type of the subject's key.
+    pub key_type: KeyType,
     /// The nonce, which makes two bodies differ.
     pub nonce: [u8; 32],
-    /// The subject's Ed25519 public key.
-    pub key: [u8; 32],
+    /// The strings of the subject's public key, as its blob has them after the name of the type.
+    pub key: Texts,
     /// 1 to 9223372036854775806.
     pub serial: u64,
     /// Whether the certificate is for a user or for a host.

@@ -5,11 +5,12 @@ ghost use Rattle.cert.specs.Options.{option_text, options_text};
 ghost use Rattle.cert.specs.declared.fields.CertFields.{CertFields};
 ghost use Rattle.cert.specs.Reading.{body_at};
 ghost use Rattle.cert.specs.Bodies.{IsCertFields, body_text, front, kind_number, principals_text};
+ghost use Rattle.lines.specs.Subjects.{parts_text};
 ghost use Rattle.wire.specs.Texts.{string_text};
 
 use crate::fields::CertFields;
 use crate::options::Options;
-use lines::key_blob_of;
+use lines::{cert_name, key_blob_of};
 use std::alloc::Global;
 use text::{NoMemory, Pair, Text};
 use values::{Kind, is_flag};
@@ -25,13 +26,13 @@ fn number_of(kind: Kind) -> u32
     }
 }
 
-fn principals_bytes(alloc: Global, principals: &[Text]) -> Result<Vec<u8>, NoMemory>
-    requires { All (λ p. length p < 2 ^ 32) principals.now }
-    ensures { IfOk result (λ v. v.items ≡ principals_text principals.now) }
+fn strings_bytes(alloc: Global, strings: &[Text]) -> Result<Vec<u8>, NoMemory>
+    requires { All (λ s. length s < 2 ^ 32) strings.now }
+    ensures { IfOk result (λ v. v.items ≡ parts_text strings.now) }
 {
     let mut out = Vec::new(alloc);
-    for principal in principals {
-        put_string(&mut out, principal.as_slice())?;
+    for string in strings {
+        put_string(&mut out, string.as_slice())?;
     }
     Ok(out)
 }
@@ -72,13 +73,15 @@ fn put_options(alloc: Global, out: &mut Vec<u8>, options: &Options) -> Result<()
 
 // The fields are appended in order. At each call, the text so far consists of the fields before the call's own.
 
-fn put_key(out: &mut Vec<u8>, fields: &CertFields) -> Result<(), NoMemory>
-    requires { out.old.items ≡ front 0 fields.now }
+fn put_key(alloc: Global, out: &mut Vec<u8>, fields: &CertFields) -> Result<(), NoMemory>
+    requires lawful { IsCertFields fields.now }
+    requires before { out.old.items ≡ front 0 fields.now }
     ensures { OnOk result (out.new.items ≡ front 3 fields.now) }
 {
-    put_string(out, b"ssh-ed25519-cert-v01@openssh.com")?;
+    let key = strings_bytes(alloc, fields.key.as_slice())?;
+    put_string(out, cert_name(fields.key_type))?;
     put_string(out, &fields.nonce)?;
-    put_string(out, &fields.key)
+    Ok(out.extend_from_slice(key.as_slice())?)
 }
 
 fn put_kind(out: &mut Vec<u8>, fields: &CertFields) -> Result<(), NoMemory>
@@ -94,7 +97,7 @@ fn put_names(alloc: Global, out: &mut Vec<u8>, fields: &CertFields) -> Result<()
     requires before { out.old.items ≡ front 5 fields.now }
     ensures { OnOk result (out.new.items ≡ front 7 fields.now) }
 {
-    let principals = principals_bytes(alloc, fields.principals.as_slice())?;
+    let principals = strings_bytes(alloc, fields.principals.as_slice())?;
     put_string(out, fields.key_id.as_slice())?;
     put_string(out, principals.as_slice())
 }
@@ -120,7 +123,7 @@ fn put_upto_names(alloc: Global, out: &mut Vec<u8>, fields: &CertFields) -> Resu
     requires before { out.old.items ≡ front 0 fields.now }
     ensures { OnOk result (out.new.items ≡ front 7 fields.now) }
 {
-    put_key(out, fields)?;
+    put_key(alloc, out, fields)?;
     put_kind(out, fields)?;
     put_names(alloc, out, fields)
 }

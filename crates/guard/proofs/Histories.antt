@@ -12,8 +12,9 @@ use Rattle.cert.specs.declared.fields.CertFields.{CertFields}
 use Rattle.guard.specs.declared.approved.Approved.{Approved}
 use Rattle.guard.specs.declared.scope.Scope.{Scope}
 use Rattle.guard.specs.Machine.{State, Question, opened, fields_of, body_of, refusal_of, row_of, after}
-use Rattle.message.specs.Permissions.{are_listed, is_life_permitted, meet_rules}
-use Rattle.guard.specs.SmallOrder.{has_small_order}
+use Rattle.values.specs.Names.{name_of}
+use Rattle.message.specs.Permissions.{are_listed, are_options_permitted, is_key_permitted, is_life_permitted, meet_rules}
+use Rattle.guard.specs.SmallOrder.{has_weak_key}
 use Rattle.guard.specs.History.{AddsNoSmallOrder, IsStill, KeyHasNoSmallOrder, MaySign, WasAsked, state}
 use Rattle.guard.proofs.Allowed.{IsInScope, IsNew, kept_with_row, left_by, signed, signed_again}
 
@@ -50,14 +51,15 @@ stays scope l later =
 -- ---- keys of small order
 
 -- a body that may be signed has a key that hasn't small order
-may_sign_order : (scope : Scope) (q : Question) (c : CertFields) → MaySign scope q c → has_small_order c.key ≡ false
+may_sign_order : (scope : Scope) (q : Question) (c : CertFields) → MaySign scope q c → has_weak_key c.key_type c.key ≡ false
 may_sign_order scope q c may =
     let d = may.allowed.0 in
-    let rules = and_parts (meet_rules d c.principals) _ may.allowed.2.permits in
-    let options = and_parts (are_listed d.options c.options) _ rules.1 in
+    let rules = and_parts (meet_rules d (name_of c.key_id) c.principals) _ may.allowed.2.permits in
+    let options = and_parts (are_options_permitted d c.options) _ rules.1 in
     let extensions = and_parts (are_listed d.extensions c.extensions) _ options.1 in
     let life = and_parts (is_life_permitted d c.after c.before) _ extensions.1 in
-    not-true (has_small_order c.key) life.1
+    let type = and_parts (is_key_permitted d c.key_type) _ life.1 in
+    not-true (has_weak_key c.key_type c.key) type.1
 
 one_adds : (first s : State) (q : Question) → AddsNoSmallOrder first s → AddsNoSmallOrder first (after s q)
 one_adds first s q (rows, is, are) =

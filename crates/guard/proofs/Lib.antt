@@ -2,6 +2,7 @@ pub mod Refused
 pub mod Allowed
 pub mod LittleEndian
 pub mod Histories
+pub mod OwnNames
 pub mod PolicyLines
 pub mod BodyTexts
 pub mod PolicyReadings

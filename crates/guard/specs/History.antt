@@ -1,11 +1,12 @@
 -- Lists of questions, and what is known about each approved unsigned certificate (body).
-use Rattle.std.specs.Prelude.{◌≡◌, ◌+◌, ◌<◌, ◌≤◌, List, ◌∷◌, ◌++◌, fold, All, IsTrue, false, Some}
-use Rattle.values.specs.Names.{department_of}
+use Rattle.std.specs.Prelude.{◌≡◌, ◌+◌, ◌<◌, ◌≤◌, List, ◌∷◌, ◌++◌, fold, All, Any, IsTrue, false, Some}
+use Rattle.values.specs.Laws.{MeetsFor, MeetsName}
+use Rattle.values.specs.Names.{department_of, is_for_names, name_of}
 use Rattle.message.specs.declared.department.Department.{Department}
 use Rattle.cert.specs.declared.fields.CertFields.{CertFields}
 use Rattle.guard.specs.declared.approved.Approved.{Approved}
 use Rattle.guard.specs.declared.scope.Scope.{Scope}
-use Rattle.guard.specs.SmallOrder.{has_small_order}
+use Rattle.guard.specs.SmallOrder.{has_weak_key}
 use Rattle.guard.specs.Machine.{State, Question, opened, fields_of, department_named, permits, row_of, after}
 
 -- the state after a list of questions
@@ -38,11 +39,25 @@ WasAsked scope l a =
     (before : List Question) × (q : Question) × (later : List Question) × (c : CertFields)
     × (l ≡ before ++ q ∷ later) × MaySign scope q c × (a ≡ row_of q c)
 
+-- each principal meets a rule of the department, a rule with {name} only by the name in the certificate's own key ID.
+-- If all rules are for names, each principal is that name and the suffix of a rule
+pub record HasOwnPrincipals (d : Department) (c : CertFields) : Type 0 where
+  pub met : All (λ p. Any (MeetsFor (name_of c.key_id) p) d.rules) c.principals
+  pub own : All (λ rule. IsTrue (is_for_names rule)) d.rules
+      → All (λ p. Any (MeetsName (name_of c.key_id) p) d.rules) c.principals
+
+-- the row is that of a question whose body has its own principals, by the department in the given policy
+abbrev pub WasOwn : List Question → Approved → Type 0
+WasOwn l a =
+    (before : List Question) × (q : Question) × (later : List Question) × (c : CertFields) × (d : Department)
+    × (l ≡ before ++ q ∷ later) × (fields_of q.body ≡ Some c)
+    × (department_named q.policy (department_of c.key_id) ≡ Some d) × HasOwnPrincipals d c × (a ≡ row_of q c)
+
 -- the row's body has a key, and this hasn't small order
 pub record KeyHasNoSmallOrder (a : Approved) : Type 0 where
   pub fields : CertFields
   pub are : fields_of a.body ≡ Some fields
-  pub order : has_small_order fields.key ≡ false
+  pub order : has_weak_key fields.key_type fields.key ≡ false
 
 -- what was approved later is only for keys that haven't small order
 abbrev pub AddsNoSmallOrder : State → State → Type 0

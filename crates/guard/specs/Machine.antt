@@ -3,10 +3,11 @@ use Rattle.std.specs.Prelude.{◌+◌, List, [], ◌∷◌, ◌++◌, Bool, fals
 use Rattle.std.specs.Prelude.{fold, if◌then◌else◌, Option, Some, None, is_none, is_some}
 use Rattle.std.specs.Option.{option_map_or}
 use Rattle.std.specs.Str.{bytes_eq}
-use Rattle.values.specs.Names.{department_of}
+use Rattle.values.specs.Names.{department_of, name_of}
 use Rattle.message.specs.declared.department.Department.{Department}
 use Rattle.cert.specs.declared.fields.CertFields.{CertFields}
-use Rattle.message.specs.Permissions.{are_listed, has_other_kind, is_life_permitted, is_missing, meet_rules}
+use Rattle.message.specs.Permissions.{are_listed, are_options_permitted, has_other_kind, is_key_permitted}
+use Rattle.message.specs.Permissions.{is_life_permitted, is_missing, meet_rules}
 use Rattle.guard.specs.declared.approved.Approved.{Approved}
 use Rattle.guard.specs.declared.refusal.Refusal.{Refusal}
 use Rattle.guard.specs.declared.refusal.Refusal.TheVariants.{
@@ -20,21 +21,22 @@ use Rattle.guard.specs.declared.refusal.Refusal.TheVariants.{
   AlreadyEnded,
   TooFarAhead,
 }
-use Rattle.guard.specs.SmallOrder.{has_small_order}
+use Rattle.guard.specs.SmallOrder.{has_weak_key}
 pub use Rattle.guard.specs.State.{State, Question, opened, fields_of, department_named, body_of, is_same, is_other}
 
 -- ---- refusals
 
--- in the terms of departments: each principal meets a rule, options and extensions are listed, the lifetime isn't too
--- long.
+-- in the terms of departments: each principal meets a rule, options are permitted and those that must be are there,
+-- extensions are listed, the lifetime isn't too long, the key has a type that is permitted.
 -- In the guard's own: the key hasn't small order
 abbrev pub permits : Department → CertFields → Bool
 permits d c =
-    meet_rules d c.principals
-    && (are_listed d.options c.options
+    meet_rules d (name_of c.key_id) c.principals
+    && (are_options_permitted d c.options
     && (are_listed d.extensions c.extensions
     && (is_life_permitted d c.after c.before
-    && not (has_small_order c.key))))
+    && (is_key_permitted d c.key_type
+    && not (has_weak_key c.key_type c.key)))))
 
 abbrev pub is_permitted_by : Option Department → CertFields → Bool
 is_permitted_by (Some d) c = permits d c

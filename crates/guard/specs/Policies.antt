@@ -1,6 +1,7 @@
 -- Policy files: texts of departments, with empty lines and comments between them.
-use Rattle.std.specs.Prelude.{◌≡◌, ℕ, zero, suc, ◌+◌, ◌-◌, List, [], ◌∷◌, ◌++◌, Bool, true, ◌==◌}
+use Rattle.std.specs.Prelude.{◌≡◌, ℕ, zero, suc, ◌+◌, ◌-◌, List, [], ◌∷◌, ◌++◌, take, codes, Bool, true, ◌==◌}
 use Rattle.std.specs.Prelude.{if◌then◌else◌, is_some, Result, Ok, Err}
+use Rattle.std.specs.Str.{bytes_eq}
 use Rattle.text.specs.Results.{◌>>=◌}
 use Rattle.message.specs.declared.department.Department.{Department}
 use Rattle.message.specs.declared.kinds.Message.{Message}
@@ -26,6 +27,15 @@ text_of zero ps = []
 text_of (suc n) [] = []
 text_of (suc n) (p ∷ ps) = p ++ behind ps (text_of n ps)
 
+-- the last line of a department's text: the one of its namespaces
+abbrev pub is_last : List ℕ → Bool
+is_last line = bytes_eq (take 10 line) (codes "namespaces")
+
+-- how many lines the text has that begins here: those up to the first that is the last of a text, or else all
+abbrev pub text_size : List (List ℕ) → ℕ
+text_size [] = 0
+text_size (p ∷ ps) = if is_last p then 1 else suc (text_size ps)
+
 -- the department in a text whose first line has this number; if the text is a message of another kind, that line is bad
 abbrev pub department_in : ℕ → Result Message ℕ → Result Department ℕ
 department_in number (Ok (message.Department d)) = Ok d
@@ -37,16 +47,18 @@ abbrev pub if_first : ℕ → List Department → Department → Result Departme
 if_first number known d = if is_some (department_named known d.name) then Err number else Ok d
 
 abbrev pub department_at : ℕ → List Department → List (List ℕ) → Result Department ℕ
-department_at number known ps = department_in number (message_at (text_of 8 ps)) >>= if_first number known
+department_at number known ps =
+    department_in number (message_at (text_of (text_size ps) ps)) >>= if_first number known
 
 -- the departments of the lines from this number on, after the known ones: the last text that was read has `left` more
--- lines, and then comes an empty line, a comment, or a text of eight lines
+-- lines, and then comes an empty line, a comment, or a text
 abbrev pub policy_from : (left number : ℕ) → List Department → List (List ℕ) → Result (List Department) ℕ
 policy_from left number known [] = Ok known
 policy_from (suc left) number known (p ∷ ps) = policy_from left (number + 1) known ps
 policy_from zero number known (p ∷ ps) =
     if is_between p then policy_from 0 (number + 1) known ps
-    else (department_at number known (p ∷ ps) >>= λ d. policy_from 7 (number + 1) (known ++ d ∷ []) ps)
+    else (department_at number known (p ∷ ps) >>=
+    λ d. policy_from (text_size (p ∷ ps) - 1) (number + 1) (known ++ d ∷ []) ps)
 
 -- the departments of a policy file, or its first invalid line
 abbrev pub policy_at : List ℕ → Result (List Department) ℕ

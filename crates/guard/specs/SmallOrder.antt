@@ -1,8 +1,10 @@
--- Ed25519 public keys of small order. A public key is an encoded point of the curve (RFC 8032, section 5.1.5). If the
+-- Ed25519 public keys of small order, in a security key or not. A public key is an encoded point of the curve (RFC 8032, section 5.1.5). If the
 -- point's order divides the cofactor 8, it has small order (RFC 7748, sections 6.1 and 7), and everybody can make
 -- signatures that are valid for it: no private key is needed.
-use Rattle.std.specs.Prelude.{ℕ, ◌+◌, ◌-◌, ◌*◌, ◌^◌, ◌%◌, ◌==◌, nat_lt, List, [], ◌∷◌, length, Bool, ◌&&◌}
+use Rattle.std.specs.Prelude.{ℕ, ◌+◌, ◌-◌, ◌*◌, ◌^◌, ◌%◌, ◌==◌, nat_lt, List, [], ◌∷◌, length, Bool, false, ◌&&◌}
 use Rattle.std.specs.List.{list_all, list_any}
+use Rattle.lines.specs.declared.subject.KeyType.{KeyType}
+use Rattle.lines.specs.declared.subject.KeyType.TheVariants.{Ed25519, SkEd25519}
 
 -- RFC 8032, section 5.1
 abbrev pub prime : ℕ
@@ -38,3 +40,15 @@ small_order_ys =
 -- the encoded point has small order
 unfoldable pub has_small_order : List ℕ → Bool
 has_small_order encoding = list_any (λ y. y == y_of encoding) small_order_ys
+
+-- the key's first string is the 32 bytes of such a point
+abbrev pub is_first_weak : List (List ℕ) → Bool
+is_first_weak [] = false
+is_first_weak (encoding ∷ more) = length encoding == 32 && has_small_order encoding
+
+-- the key is one of Ed25519, in a security key or not, and its point has small order; keys of other types have no such
+-- point
+abbrev pub has_weak_key : KeyType → List (List ℕ) → Bool
+has_weak_key Ed25519 key = is_first_weak key
+has_weak_key SkEd25519 key = is_first_weak key
+has_weak_key t key = false

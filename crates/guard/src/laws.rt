@@ -8,7 +8,7 @@ ghost use Rattle.guard.specs.declared.approved.Approved.{Approved};
 ghost use Rattle.guard.specs.declared.refusal.Refusal.{Refusal};
 ghost use Rattle.guard.specs.declared.scope.Scope.{Scope};
 ghost use Rattle.guard.specs.Machine.{State, Question, after, body_of, fields_of, refusal_of, refusals};
-ghost use Rattle.guard.specs.History.{AddsNoSmallOrder, IsStill, MaySign, WasAsked, state};
+ghost use Rattle.guard.specs.History.{AddsNoSmallOrder, IsStill, MaySign, WasAsked, WasOwn, state};
 ghost use Rattle.guard.specs.Policies.{policy_at};
 ghost use Rattle.guard.specs.PolicyTexts.{AreBetween, AreParts, Part, policy_text};
 ghost use Rattle.guard.specs.Laws.{IsBodyOf, ascend_from};
@@ -28,6 +28,13 @@ pub fn a_refusal_changes_nothing()
 /// for the guard's CA and one of its serials, permitted by the given policy, within its time.
 pub fn an_approved_body_was_permitted()
     ensures { (scope : Scope) (l : List Question) → All (WasAsked scope l) (state scope l).approved }
+{}
+
+/// Each principal of a body that a guard keeps met a rule of its department in the given policy, and a rule with
+/// `{name}` only by the name in the body's own key ID. If all rules of the department are for names, each principal is
+/// that name and the suffix of a rule, whoever asked for it.
+pub fn an_approved_body_has_its_own_principals()
+    ensures { (scope : Scope) (l : List Question) → All (WasOwn l) (state scope l).approved }
 {}
 
 /// Whatever a guard kept before, and whatever it is asked then: each body that it approves has a key that hasn't small

@@ -32,9 +32,9 @@ pub use laws::{
     a_body_that_was_approved_stays, a_policy_is_read_as_its_departments, a_question_is_one_step,
     a_refusal_changes_nothing, a_retired_guard_keeps_its_bodies, a_retired_guard_signs_again,
     a_retired_guard_signs_none_over_its_last_serial, a_serial_has_one_body,
-    an_approved_body_is_signed_again, an_approved_body_was_permitted,
-    no_key_of_small_order_is_approved, refusals_ascend, what_has_fields_is_a_body,
-    what_may_be_signed_is_approved,
+    an_approved_body_has_its_own_principals, an_approved_body_is_signed_again,
+    an_approved_body_was_permitted, no_key_of_small_order_is_approved, refusals_ascend,
+    what_has_fields_is_a_body, what_may_be_signed_is_approved,
 };
 pub use memory::MemoryGuard;
 pub use policy::{LONGEST_POLICY, Policy};

@@ -10,8 +10,10 @@ ghost use Rattle.guard.specs.Policies.{
   department_in,
   is_between,
   policy_at,
+  is_last,
   policy_from,
   text_of,
+  text_size,
 };
 
 use crate::policy::{LONGEST_POLICY, Policy, named};
@@ -40,15 +42,37 @@ fn put_piece(text: &mut Vec<u8>, piece: &[u8], rest: &[&[u8]]) -> Result<(), NoM
     Ok(())
 }
 
-/// The text of the next eight lines, or of the remaining ones if there are fewer.
+/// Whether this is the last line of a department's text: the one of its namespaces.
+fn is_last(line: &[u8]) -> bool
+    ensures { result ≡ is_last line.now }
+{
+    line.starts_with(b"namespaces")
+}
+
+/// How many lines the text has that begins here: those up to the first that is the last of a text, or else all.
+fn text_size(pieces: &[&[u8]]) -> usize
+    ensures size { result ≡ text_size (map (λ x. x.now) pieces.now) }
+    ensures within { result ≤ length pieces.now }
+{
+    let mut size: usize = 0;
+    for piece in pieces {
+        size += 1;
+        if is_last(piece) {
+            return size;
+        }
+    }
+    size
+}
+
+/// The text of the next `size` lines, or of the remaining ones if there are fewer.
 #[tactic(auto, using(crate::proofs::PolicyLines::text_whole))]
-fn text_of(alloc: Global, pieces: &[&[u8]]) -> Result<Text, NoMemory>
-    ensures text { IfOk result (λ text. text ≡ text_of 8 (map (λ x. x.now) pieces.now)) }
+fn text_of(alloc: Global, pieces: &[&[u8]], size: usize) -> Result<Text, NoMemory>
+    ensures text { IfOk result (λ text. text ≡ text_of size (map (λ x. x.now) pieces.now)) }
     ensures size { IfOk result (λ text. length text < 2 ^ 63) }
 {
     let mut text = Vec::new(alloc);
     let mut rest = pieces;
-    for _line in 0..8_u64 {
+    for _line in 0..size {
         let [piece, after @ ..] = rest else {
             return Ok(Text::from_vec(text));
         };
@@ -82,7 +106,7 @@ fn department_at(
     requires { (1 ≤ number) × (number < 2 ^ 62) }
     ensures { Gives result (department_at number known.now (map (λ x. x.now) pieces.now)) }
 {
-    let text = text_of(alloc, pieces)?;
+    let text = text_of(alloc, pieces, text_size(pieces))?;
     let department = department_in(alloc, number, text.as_slice())?;
     if named(known, department.name.as_slice()).is_some() {
         drop(department);
@@ -106,14 +130,14 @@ fn departments_in(alloc: Global, pieces: &[&[u8]]) -> Result<Policy, PolicyFault
     let mut departments = Vec::new(alloc);
     let mut rest = pieces;
     let mut number: u64 = 1;
-    let mut left: u64 = 0;
+    let mut left: usize = 0;
     while let [piece, after @ ..] = rest {
         if 0 < left {
             left -= 1;
         } else if !is_between(piece) {
             let department = department_at(alloc, number, departments.as_slice(), rest)?;
             push(&mut departments, department)?;
-            left = 7;
+            left = text_size(rest) - 1;
         }
         rest = after;
         number += 1;

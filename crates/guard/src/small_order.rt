@@ -1,14 +1,19 @@
 //! Points of small order, which as public keys allow everybody to sign.
 
-ghost use Rattle.std.specs.Prelude.{◌≡◌, ◌==◌, IsTrue, map};
+ghost use Rattle.std.specs.Prelude.{◌≡◌, ◌==◌, ◌&&◌, IsTrue, length, map};
 ghost use Rattle.std.specs.List.{list_all, list_any};
 ghost use Rattle.guard.specs.SmallOrder.{
   has_small_order,
+  has_weak_key,
   is_encoding,
+  is_first_weak,
   little_endian,
   small_order_ys,
   y_of,
 };
+
+use lines::KeyType;
+use text::Text;
 
 /// The encodings of the points of small order, without the sign of x, as many libraries list them.
 const ENCODINGS: [[u8; 32]; 7] = [
@@ -79,8 +84,40 @@ fn is_listed(encoding: &[u8; 32]) -> bool
 }
 
 /// Whether the encoded point, with either sign of x, has small order.
-pub(crate) fn has_small_order(encoding: &[u8; 32]) -> bool
+fn has_small_order(encoding: &[u8; 32]) -> bool
     ensures { result ≡ has_small_order encoding.now }
 {
     is_listed(&without_sign(*encoding))
+}
+
+/// Whether the bytes are the 32 of a point of small order.
+fn is_weak(encoding: &[u8]) -> bool
+    ensures { result ≡ (length encoding.now == 32 && has_small_order encoding.now) }
+{
+    if encoding.len() != 32 {
+        return false;
+    }
+    let mut bytes = [0; 32];
+    bytes.copy_from_slice(encoding);
+    has_small_order(&bytes)
+}
+
+/// Whether the first string of a key is a point of small order.
+fn is_first_weak(key: &[Text]) -> bool
+    ensures { result ≡ is_first_weak key.now }
+{
+    match key.first() {
+        Some(encoding) => is_weak(encoding.as_slice()),
+        None => false,
+    }
+}
+
+/// Whether the key is one of Ed25519, in a security key or not, whose point has small order.
+pub(crate) fn has_weak_key(key_type: KeyType, key: &[Text]) -> bool
+    ensures { result ≡ has_weak_key key_type key.now }
+{
+    match key_type {
+        KeyType::Ed25519 | KeyType::SkEd25519 => is_first_weak(key),
+        _ => false,
+    }
 }

@@ -20,7 +20,8 @@ use Rattle.guard.specs.Retiring.{IsLowered, with_last}
 use Rattle.guard.specs.declared.scope.Scope.{Scope}
 use Rattle.guard.proofs.Allowed.{IsInScope, IsNew, kept_with_row, left_by, signed, signed_again}
 use Rattle.guard.proofs.Retired.{signs_again}
-use Rattle.guard_sql.specs.Steps.{IsLater, Step, WasAskedIn, guard_after, next_guard, stepped}
+use Rattle.guard_sql.specs.Steps.{AddsAsked, IsLater, Step, WasAskedFrom, WasAskedIn, guard_after, next_guard}
+use Rattle.guard_sql.specs.Steps.{stepped}
 
 -- ---- a retirement
 
@@ -206,6 +207,66 @@ asked_all done (step ∷ todo) p is are =
 
 pub asked : (steps : List Step) (s : State) → guard_after steps ≡ Some s → All (WasAskedIn steps) s.approved
 asked steps s is = subst (AreAsked steps) is (asked_all [] steps None refl tt)
+
+-- ---- each body that is added was asked for
+
+asked_from_still : (s : State) (done : List Step) (step : Step) (a : Approved) → WasAskedFrom s done a
+    → WasAskedFrom s (done ++ step ∷ []) a
+asked_from_still s done step a is = record {
+  before = is.before;
+  question = is.question;
+  later = is.later ++ step ∷ [];
+  fields = is.fields;
+  among = ap (λ (steps : List Step). steps ++ step ∷ []) is.among
+      ∙ append_assoc is.before (Step.asking is.question ∷ is.later) (step ∷ []);
+  may = is.may;
+  row = is.row;
+}
+
+added_next : (s : State) (done : List Step) (step : Step) → AddsAsked s done → AddsAsked s (done ++ step ∷ [])
+added_next s done step (rows, same, are) =
+    subst Adds (sym (fold-append stepped s done (step ∷ [])))
+    (after_step Adds now still step
+    (λ q c asks new. (
+      rows ++ row_of q c ∷ [],
+      ap (λ (approved : List Approved). approved ++ row_of q c ∷ []) same
+          ∙ append_assoc s.approved rows (row_of q c ∷ []),
+      All-push Asked rows (row_of q c) asked_before
+          (record {
+            before = done;
+            question = q;
+            later = [];
+            fields = c;
+            among = ap (λ (x : Step). done ++ x ∷ []) asks;
+            may = new.may;
+            row = refl;
+          }),
+    ))
+    (λ last low. still))
+  where
+    now : State
+    now = fold stepped s done
+
+    Asked : Approved → Type 0
+    Asked = WasAskedFrom s (done ++ step ∷ [])
+
+    Adds : State → Type 0
+    Adds t = (more : List Approved) × (t.approved ≡ s.approved ++ more) × All Asked more
+
+    asked_before : All Asked rows
+    asked_before = All-weaker (WasAskedFrom s done) Asked (asked_from_still s done step) rows are
+
+    still : Adds now
+    still = (rows, same, asked_before)
+
+added_all : (s : State) (done todo : List Step) → AddsAsked s done → AddsAsked s (done ++ todo)
+added_all s done [] adds = subst (AddsAsked s) (sym (append-nil done)) adds
+added_all s done (step ∷ todo) adds =
+    subst (AddsAsked s) (append_assoc done (step ∷ []) todo)
+    (added_all s (done ++ step ∷ []) todo (added_next s done step adds))
+
+pub added : (s : State) (steps : List Step) → AddsAsked s steps
+added s steps = added_all s [] steps ([], sym (append-nil s.approved), All-nil (WasAskedFrom s []))
 
 -- ---- one body per serial
 

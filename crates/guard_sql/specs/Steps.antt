@@ -42,6 +42,22 @@ pub record WasAskedIn (steps : List Step) (a : Approved) : Type 0 where
   pub may : MaySign state.scope question fields
   pub row : a ≡ row_of question fields
 
+-- The row is that of a question among the steps that a guard took from this state on, and the guard could sign its body
+-- then.
+pub record WasAskedFrom (s : State) (steps : List Step) (a : Approved) : Type 0 where
+  pub before : List Step
+  pub question : Question
+  pub later : List Step
+  pub fields : CertFields
+  pub among : steps ≡ before ++ Step.asking question ∷ later
+  pub may : MaySign (fold stepped s before).scope question fields
+  pub row : a ≡ row_of question fields
+
+-- After steps from this state on, its bodies are followed by bodies that were asked for in them.
+abbrev pub AddsAsked : State → List Step → Type 0
+AddsAsked s steps =
+    (rows : List Approved) × ((fold stepped s steps).approved ≡ s.approved ++ rows) × All (WasAskedFrom s steps) rows
+
 -- A later state of a guard: of the same CA and from the same first serial on, up to no higher last one. It has each
 -- body that was approved, followed by bodies under serials up to the earlier last one.
 pub record IsLater (s later : State) : Type 0 where

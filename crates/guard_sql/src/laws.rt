@@ -9,7 +9,7 @@ ghost use Rattle.guard.specs.Retirement.{retirement};
 ghost use Rattle.guard_sql.specs.Keeping.{HasOneBodyASerial};
 ghost use Rattle.guard_sql.specs.Lives.{LivesKeep, RunsGoOn};
 ghost use Rattle.guard_sql.specs.Runs.{FoundIsHad, RunKeepsGuard};
-ghost use Rattle.guard_sql.specs.Steps.{IsLater, Step, WasAskedIn, guard_after};
+ghost use Rattle.guard_sql.specs.Steps.{AddsAsked, IsLater, Step, WasAskedIn, guard_after};
 
 use crate::store::GuardStore;
 use sqlite::{Alter, Connection, Files};
@@ -48,6 +48,12 @@ pub fn a_run_keeps_the_guard<D: Disk + Drop>(files: &Files<D>)
 /// the policy that was given, for the guard's CA and under one of its serials at that time.
 pub fn a_kept_body_was_permitted()
     ensures { (steps : List Step) (s : State) → guard_after steps ≡ Some s → All (WasAskedIn steps) s.approved }
+{}
+
+/// Each body that is added by steps was asked for in one of them, and could be signed then, from any state on: also from
+/// one that an older copy of the files has, whatever they held.
+pub fn an_added_body_was_permitted()
+    ensures { (s : State) (steps : List Step) → AddsAsked s steps }
 {}
 
 /// Whatever steps come later, the CA and the first serial stay, and the last serial is never raised. Each approved body

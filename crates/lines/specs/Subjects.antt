@@ -79,7 +79,7 @@ abbrev pub is_modulus : List ℕ → Bool
 is_modulus p =
     is_positive p && (nat_le 257 (length p) && (nat_le (length p) 2048 || bytes_eq (take 1 p) (0 ∷ [])))
 
--- an exponent from 3 to 2 ^ 64 - 1
+-- an exponent from 3 to 2 ^ 63 - 1
 abbrev pub is_exponent : List ℕ → Bool
 is_exponent p = is_positive p && (nat_le (length p) 8 && not (bytes_eq p (1 ∷ []) || bytes_eq p (2 ∷ [])))
 

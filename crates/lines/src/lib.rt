@@ -31,5 +31,5 @@ pub use signers::{OutFault, SignerRow, write_signers};
 pub use subject::{
     KeyType, are_parts, cert_name, is_key_type, key_name, read_strings_of, type_named, type_of,
 };
-pub use subject_line::{SubjectLine, read_subject_line};
+pub use subject_line::{SubjectLine, put_subject_line, read_subject_line};
 pub use writing::{bare_key_line, put_key_line, write_key_line};

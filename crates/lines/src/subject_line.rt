@@ -1,27 +1,30 @@
 //! Public-key lines of keys that a certificate may be for.
 
-ghost use Rattle.std.specs.Prelude.{◌≡◌, IfOk, IsTrue, option_copied};
+ghost use Rattle.std.specs.Prelude.{◌≡◌, ◌++◌, IfOk, IsTrue, OnOk, option_copied};
 ghost use Rattle.std.specs.Option.{option_map};
 ghost use Rattle.std.specs.Result.{result_ok};
 ghost use Rattle.base64.specs.Engines.{standard};
 ghost use Rattle.base64.specs.GeneralPurpose.{decode_of};
-ghost use Rattle.lines.specs.KeyLines.{is_comment_or_none};
+ghost use Rattle.lines.specs.KeyLines.{comment_text, is_comment_or_none};
+ghost use Rattle.lines.specs.Subjects.{are_parts};
 ghost use Rattle.lines.specs.SubjectLines.{
   is_subject_line,
   key_in_blob,
   key_in_word,
   line_after,
+  subject_blob,
   subject_line_at,
   subject_line_text,
 };
 
+use crate::cert_line::put_word;
 use crate::key_line_reader::{is_comment, word_and_rest};
 use crate::subject::{KeyType, are_parts, key_name, read_strings_of, type_named};
 use base64::DecodeAllocError;
 use base64::engine::general_purpose::STANDARD;
 use std::alloc::Global;
 use text::{NoMemory, Text, Texts};
-use wire::Cursor;
+use wire::{Cursor, put_string};
 
 /// A public key, with a comment or none.
 #[derive(Drop)]
@@ -142,4 +145,45 @@ pub fn read_subject_line(alloc: Global, line: &[u8]) -> Result<Option<SubjectLin
         → IfOk result (λ o. o ≡ Some k) }
 {
     read(alloc, line)
+}
+
+fn blob_of(alloc: Global, line: &SubjectLine) -> Result<Vec<u8>, NoMemory>
+    requires { IsTrue (are_parts line.now.key_type line.now.key) }
+    ensures { IfOk result (λ blob. blob.items ≡ subject_blob line.now.key_type line.now.key) }
+{
+    let mut blob = Vec::new(alloc);
+    put_string(&mut blob, key_name(line.key_type))?;
+    for string in line.key.as_slice() {
+        put_string(&mut blob, string.as_slice())?;
+    }
+    Ok(blob)
+}
+
+fn put_comment(out: &mut Vec<u8>, comment: &Option<Text>) -> Result<(), NoMemory>
+    ensures { OnOk result (out.new.items ≡ out.old.items ++ comment_text comment.now) }
+{
+    if let Some(comment) = comment {
+        out.push(b' ')?;
+        out.extend_from_slice(comment.as_slice())?;
+    }
+    Ok(())
+}
+
+/// Appends a public-key line of any type, without a line feed. Its key has to be one of the type.
+///
+/// # Errors
+///
+/// `NoMemory`, if an allocation was refused.
+pub fn put_subject_line(
+    alloc: Global,
+    out: &mut Vec<u8>,
+    line: &SubjectLine,
+) -> Result<(), NoMemory>
+    requires { IsTrue (are_parts line.now.key_type line.now.key) }
+    ensures { OnOk result (out.new.items ≡ out.old.items ++ subject_line_text line.now) }
+{
+    let blob = blob_of(alloc, line)?;
+    out.extend_from_slice(key_name(line.key_type))?;
+    put_word(alloc, out, &blob)?;
+    put_comment(out, &line.comment)
 }

@@ -16,6 +16,12 @@ pub failed : {A B X : Type 0} (r : Result A ℕ) (f : A → Result B ℕ) (of : 
 failed {A} r f of (fault.BadLine n) is = ap (λ (r : Result A ℕ). made of (r >>= f)) is
 failed r f of fault.NoMemory is = tt
 
+-- the same, for values that no message is made of yet
+pub fails : {A B : Type 0} (r : Result A ℕ) (f : A → Result B ℕ) (e : MessageFault)
+    → Gives {X = A} (Err e) r → Gives {X = B} (Err e) (r >>= f)
+fails r f (fault.BadLine n) is = ap (λ r. r >>= f) is
+fails r f fault.NoMemory is = tt
+
 -- two steps, with the fault of the first that failed
 pub both_give : {A B : Type 0} (result : Result (A × B) MessageFault) (one : Result A MessageFault)
     (other : Result B MessageFault) (a : Result A ℕ) (b : Result B ℕ) → result ≡ both one other → Gives one a

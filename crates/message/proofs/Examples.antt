@@ -2,6 +2,7 @@
 use Rattle.message.proofs.Words.{None, Some, User, [], codes, message_text, refl, replicate, ◌++◌, ◌∷◌, ◌≡◌}
 use Rattle.std.specs.Fmt.{digits}
 use Rattle.base64.proofs.OnLiterals.{base64_on_literals}
+use Rattle.lines.specs.declared.subject.KeyType.TheVariants.{Ed25519}
 use Rattle.message.specs.declared.kinds.Message.TheVariants as message
 
 -- a department
@@ -11,7 +12,9 @@ pub department : message_text (message.Department (record {
   administrators = codes "ana" ∷ [];
   rules = codes "alice" ∷ codes "*@example.org" ∷ [];
   options = codes "force-command" ∷ [];
+  demands = [];
   extensions = codes "permit-pty" ∷ [];
+  key_types = [];
   longest_life = 86400;
   namespaces = codes "file" ∷ codes "git" ∷ [];
 })) ≡ codes "department web\nkind user\nadmins ana\nprincipals alice,*@example.org\noptions force-command\n" ++
@@ -19,11 +22,31 @@ pub department : message_text (message.Department (record {
 unfolding digits
 department = refl
 
+-- a department whose certificates must have two options, for keys in security keys
+pub demanding : message_text (message.Department (record {
+  name = codes "web";
+  kind = User;
+  administrators = codes "ana" ∷ [];
+  rules = codes "alice" ∷ [];
+  options = [];
+  demands = record { name = codes "source-address"; value = codes "10.0.0.0/8" }
+      ∷ record { name = codes "verify-required"; value = [] } ∷ [];
+  extensions = [];
+  key_types = codes "sk-ssh-ed25519@openssh.com" ∷ codes "sk-ecdsa-sha2-nistp256@openssh.com" ∷ [];
+  longest_life = 86400;
+  namespaces = [];
+})) ≡ codes "department web\nkind user\nadmins ana\nprincipals alice\noptions\nmust source-address 10.0.0.0/8\n" ++
+    (codes "must verify-required\nextensions\n" ++
+    (codes "key-types sk-ssh-ed25519@openssh.com,sk-ecdsa-sha2-nistp256@openssh.com\n" ++
+    codes "maxlife 86400\nnamespaces\n"))
+unfolding digits
+demanding = refl
+
 -- an issue for the key of 32 bytes 0x22, with two options
 pub issue : message_text (message.Issue (record {
   department = codes "web";
   key_id = codes "web/alice";
-  key = record { key = replicate 32 34; comment = None };
+  key = record { key_type = Ed25519; key = replicate 32 34 ∷ []; comment = None };
   principals = codes "alice" ∷ [];
   after = 1000;
   before = 2000;

@@ -187,3 +187,18 @@ list_field word test line empty lack =
     same_text _ (λ ts. word ++ listed_text ts) (list_line word) (λ ts. test ts ≡ true) (list_text word)
     (field_passing word texts_in_list listed_text test line empty (λ t ts fits e. listed_found t ts e)
     (λ ts passes. listed_again ts (lack ts passes).0) (λ ts passes. listed_line ts (lack ts passes).1))
+
+-- a line that is read as a list is that of a list that passes the test
+pub list_on : (word : List ℕ) (test : List (List ℕ) → Bool) (l : List ℕ) (ts : List (List ℕ))
+    → option_and_then (passing test) (option_and_then texts_in_list (rest_after word l)) ≡ Some ts
+    → (test ts ≡ true) × (l ≡ list_line word ts)
+list_on word test l ts e =
+    option_and_then_some (passing test) (option_and_then texts_in_list (rest_after word l)) ts e
+    (λ us read passed.
+    let both = passing_some test us ts passed in
+    option_and_then_some texts_in_list (rest_after word l) us read
+    (λ t behind found. (
+      both.0,
+      (after_found word l t behind).0
+          ∙ ap (λ (x : List ℕ). word ++ x) (listed_found t us found ∙ ap listed_text both.1) ∙ list_text word ts,
+    )))

@@ -11,6 +11,13 @@ use Rattle.lines.specs.KeyLines.{is_comment_or_none, is_comment_byte, key_line_h
 use Rattle.lines.specs.Reading.{key_line_at}
 use Rattle.lines.proofs.Base64.{free_at}
 use Rattle.lines.proofs.KeyLineLaws.{found_from, key_line_again}
+use Rattle.lines.specs.SubjectLines.{is_subject_line, subject_blob, subject_line_at, subject_line_text}
+use Rattle.lines.specs.declared.subject_line.SubjectLine.{SubjectLine}
+use Rattle.lines.proofs.SubjectLineLaws.{line_again, line_found}
+use Rattle.lines.specs.Subjects.{key_name}
+use Rattle.lines.specs.declared.subject.KeyType.{KeyType}
+use Rattle.lines.specs.declared.subject.KeyType.TheVariants.{Ed25519, SkEd25519, EcdsaP256, EcdsaP384, EcdsaP521, SkEcdsaP256, Rsa}
+use Rattle.message.specs.Reading.{subject_line_after}
 use Rattle.message.proofs.Readings.{IsField, IsLine}
 use Rattle.message.proofs.Fields.{IsHead, lacks_by, value_after}
 
@@ -64,3 +71,35 @@ key_field head line empty =
 -- a valid public-key line
 abbrev pub some_key : KeyLine
 some_key = record { key = replicate 32 0; comment = None }
+
+-- ---- keys of any type
+
+name_line : (t : KeyType) → IsLine (key_name t)
+name_line Ed25519 = lacks_by 10 (key_name Ed25519) refl
+name_line SkEd25519 = lacks_by 10 (key_name SkEd25519) refl
+name_line EcdsaP256 = lacks_by 10 (key_name EcdsaP256) refl
+name_line EcdsaP384 = lacks_by 10 (key_name EcdsaP384) refl
+name_line EcdsaP521 = lacks_by 10 (key_name EcdsaP521) refl
+name_line SkEcdsaP256 = lacks_by 10 (key_name SkEcdsaP256) refl
+name_line Rsa = lacks_by 10 (key_name Rsa) refl
+
+pub subject_is_line : (k : SubjectLine) → is_subject_line k ≡ true → IsLine (subject_line_text k)
+subject_is_line k is =
+    let word : List ℕ = encode_of standard (subject_blob k.key_type k.key) in
+    All-append (λ x. eqb x 10 ≡ false) (key_name k.key_type) (32 ∷ (word ++ comment_text k.comment))
+    (name_line k.key_type)
+    (All-cons (λ x. eqb x 10 ≡ false) 32 (word ++ comment_text k.comment) refl
+    (All-append (λ x. eqb x 10 ≡ false) word (comment_text k.comment) (base64_line (subject_blob k.key_type k.key))
+    (comment_line k.comment (and_parts _ _ (and_parts _ _ is).1).1)))
+
+pub subject_field : (head : List ℕ) → IsHead head → rest_after head [] ≡ None
+    → IsField (subject_line_after head) (λ k. head ++ subject_line_text k) (λ k. is_subject_line k ≡ true)
+subject_field head line empty =
+    value_after head subject_line_at subject_line_text (λ k. is_subject_line k ≡ true) line empty (record {
+      found = λ t k fits e. line_found t k fits e;
+      again = line_again;
+      is_line = subject_is_line;
+    })
+
+abbrev pub some_subject : SubjectLine
+some_subject = record { key_type = Ed25519; key = replicate 32 0 ∷ []; comment = None }

@@ -8,7 +8,10 @@ pub mod Elements
 pub mod Numbers
 pub mod Keys
 pub mod Signatures
+pub mod PairLines
 pub mod Options
+pub mod Demands
+pub mod DepartmentEnds
 pub mod Departments
 pub mod DepartmentParts
 pub mod IssueEnds

@@ -1,5 +1,5 @@
 -- Option lines: the options that may follow earlier ones, and reading their lines.
-use Rattle.message.proofs.Words.{All, All-append, All-cons, Bool, CriticalOptions, Lacks, List, None, Option, Pair}
+use Rattle.message.proofs.Words.{All, All-append, All-cons, All-nil, Bool, cases_Bool, CriticalOptions, Lacks, List, None, Option, Pair}
 use Rattle.message.proofs.Words.{Some, [], and_from, and_parts, ap, append-nil, arith, bytes_eq, codes, comment_of}
 use Rattle.message.proofs.Words.{comment_of-text, comment_text, cond, cond-false, cond-true, cond_some, eqb, eqb-true}
 use Rattle.message.proofs.Words.{false, inl, inr, is_new_option, lacks_from, length, list_all, list_any, map, none-some}
@@ -21,6 +21,7 @@ use Rattle.message.proofs.Lines.{chosen}
 use Rattle.message.proofs.Readings.{IsField, IsLine}
 use Rattle.message.proofs.Fields.{AllLack, lacks_joined, field_passing}
 use Rattle.message.proofs.Elements.{known_lacks_space, known_line}
+use Rattle.message.proofs.PairLines.{AreNew}
 
 -- ---- the text of an option
 
@@ -113,24 +114,32 @@ networks_line t is =
 command_line : (t : List ℕ) → is_command t ≡ true → IsLine t
 command_line t is = lacks_from _ 10 t refl (and_parts _ _ is).1
 
+-- the value of a valid option has no line feed
+pub value_is_line : (p : Pair) → is_critical_option p ≡ true → IsLine p.value
+value_is_line p is = elim (critical_cases p.name (and_parts _ _ is).0) [
+  | inl command ↦ command_line p.value (value_at (codes "force-command") p command is)
+  | inr rest ↦ elim rest [
+    | inl address ↦ networks_line p.value (value_at (codes "source-address") p address is)
+    | inr verify ↦
+        let none : p.value ≡ [] =
+        nil_from_length p.value (eqb-true (length p.value) 0 (value_at (codes "verify-required") p verify is)) in
+        subst IsLine (sym none) (All-nil (λ b. eqb b 10 ≡ false))
+  ]
+]
+
+-- a name, a space and a value have no line feed
+pub words_are_line : (name value : List ℕ) → IsLine name → IsLine value → IsLine (name ++ 32 ∷ value)
+words_are_line name value named valued =
+    All-append (λ b. eqb b 10 ≡ false) name (32 ∷ value) named (All-cons (λ b. eqb b 10 ≡ false) 32 value refl valued)
+
 -- the text of a valid option has no line feed
 option_is_line : (p : Pair) → is_critical_option p ≡ true → IsLine (option_words p)
 option_is_line p is =
     let name : IsLine p.name = known_line CriticalOptions p.name (and_parts _ _ is).0 in
-    elim (critical_cases p.name (and_parts _ _ is).0) [
-      | inl command ↦ with_value p name (ap is_flag command)
-          (command_line p.value (value_at (codes "force-command") p command is))
-      | inr rest ↦ elim rest [
-        | inl address ↦ with_value p name (ap is_flag address)
-            (networks_line p.value (value_at (codes "source-address") p address is))
-        | inr verify ↦ subst IsLine (sym (flag_text p (ap is_flag verify))) name
-      ]
+    elim (cases_Bool (is_flag p.name)) [
+      | inl flag ↦ subst IsLine (sym (flag_text p flag)) name
+      | inr other ↦ subst IsLine (sym (value_text p other)) (words_are_line p.name p.value name (value_is_line p is))
     ]
-  where
-    with_value : (p : Pair) → IsLine p.name → is_flag p.name ≡ false → IsLine p.value → IsLine (option_words p)
-    with_value p name other value =
-        subst IsLine (sym (value_text p other)) (All-append (λ b. eqb b 10 ≡ false) p.name (32 ∷ p.value) name
-        (All-cons (λ b. eqb b 10 ≡ false) 32 p.value refl value))
 
 -- the line of an option that may follow earlier ones
 pub option_field : (before : List Pair) → IsField (option_after before) option_line (λ p. is_new_option before p ≡ true)
@@ -140,11 +149,6 @@ option_field before =
     (λ p is. option_is_line p (and_parts _ _ is).0)
 
 -- ---- successive options
-
--- each option may follow the earlier ones
-abbrev pub AreNew : List Pair → List Pair → Type 0
-AreNew before [] = Unit {0}
-AreNew before (p ∷ ps) = (is_new_option before p ≡ true) × AreNew (before ++ p ∷ []) ps
 
 -- some option has this name
 abbrev has_name : List Pair → List ℕ → Bool
@@ -187,7 +191,7 @@ together before p (q ∷ ps) none other =
     and_from _ _ (not_from_false _ other) (together before p ps both.1 parts.1)
 
 -- options that may follow one another are valid and have distinct names
-new_found : (before ps : List Pair) → AreNew before ps → (list_all is_critical_option ps ≡ true)
+new_found : (before ps : List Pair) → AreNew is_new_option before ps → (list_all is_critical_option ps ≡ true)
     × ((are_distinct (names ps) ≡ true) × (none_before before ps ≡ true))
 new_found before [] is = (refl, (refl, refl))
 new_found before (p ∷ ps) is =
@@ -197,7 +201,7 @@ new_found before (p ∷ ps) is =
     (and_from _ _ this.0 rest.0, (and_from _ _ (not_from_false _ others.1) rest.1.0, and_from _ _ this.1 others.0))
 
 new_from : (before ps : List Pair) → list_all is_critical_option ps ≡ true → are_distinct (names ps) ≡ true
-    → none_before before ps ≡ true → AreNew before ps
+    → none_before before ps ≡ true → AreNew is_new_option before ps
 new_from before [] lawful distinct none = tt
 new_from before (p ∷ ps) lawful distinct none =
     let first = and_parts _ _ lawful in
@@ -213,9 +217,9 @@ none_first (p ∷ ps) = none_first ps
 
 -- valid options with distinct names may follow one another
 pub options_are_new : (ps : List Pair) → (list_all is_critical_option ps && are_distinct (map (λ p. p.name) ps)) ≡ true
-    → AreNew [] ps
+    → AreNew is_new_option [] ps
 options_are_new ps is = let both = and_parts _ _ is in new_from [] ps both.0 both.1 (none_first ps)
 
-pub new_are_options : (ps : List Pair) → AreNew [] ps → (list_all is_critical_option ps && are_distinct (map (λ p. p.name) ps))
+pub new_are_options : (ps : List Pair) → AreNew is_new_option [] ps → (list_all is_critical_option ps && are_distinct (map (λ p. p.name) ps))
     ≡ true
 new_are_options ps is = let found = new_found [] ps is in and_from _ _ found.0 found.1.0

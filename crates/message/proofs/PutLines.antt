@@ -30,6 +30,13 @@ pub then_line : {start before after l : List ℕ} {ls : List (List ℕ)} → IsP
 then_line {start} {after = after} {l = l} {ls = ls} put line same next =
     subst (λ (x : List ℕ). IsPut start (ls ++ x ∷ []) after) same (then_lines put (l ∷ []) next)
 
+-- two groups of lines, with lines between and after them, in the order in which they were written
+pub in_order : (xs : List (List ℕ)) (l : List ℕ) (ys : List (List ℕ)) (m n : List ℕ)
+    → (((xs ++ l ∷ []) ++ ys) ++ m ∷ []) ++ n ∷ [] ≡ xs ++ l ∷ (ys ++ m ∷ n ∷ [])
+in_order xs l ys m n =
+    append_assoc ((xs ++ l ∷ []) ++ ys) (m ∷ []) (n ∷ []) ∙ append_assoc (xs ++ l ∷ []) ys (m ∷ n ∷ [])
+    ∙ append_assoc xs (l ∷ []) (ys ++ m ∷ n ∷ [])
+
 -- texts, each preceded by a byte: the first by this one, the others by a comma
 abbrev pub each_after : ℕ → List (List ℕ) → List ℕ
 each_after before [] = []

@@ -1,4 +1,5 @@
 pub mod Values
+pub mod Ends
 pub mod Texts
 pub mod Belonging
 mod Kinds

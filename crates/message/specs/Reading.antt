@@ -1,7 +1,7 @@
 -- Reading messages line by line, with the number of the first line that does not fit.
 use Rattle.std.specs.Prelude.{◌≡◌, ℕ, suc, zero, ◌+◌, ◌-◌, List, [], ◌∷◌, ◌++◌, length, take, drop, codes}
 use Rattle.std.specs.Prelude.{Bool, not, ◌&&◌, ◌==◌, nat_lt, if◌then◌else◌, Option, Some, None, Result, Ok, Err}
-use Rattle.std.specs.List.{list_any, slice_split, slice_index_or}
+use Rattle.std.specs.List.{list_all, list_any, slice_split, slice_index_or}
 use Rattle.std.specs.Option.{option_and_then, option_map, is_some}
 use Rattle.std.specs.Result.{result_ok}
 use Rattle.std.specs.Str.{bytes_eq}
@@ -16,10 +16,13 @@ use Rattle.base64.specs.Engines.{standard}
 use Rattle.base64.specs.GeneralPurpose.{decode_of}
 use Rattle.lines.specs.Keys.{signature_of}
 use Rattle.lines.specs.Reading.{comment_of, key_line_at, word_of}
+use Rattle.lines.specs.SubjectLines.{subject_line_at}
 use Rattle.lines.specs.declared.key_line.KeyLine.{KeyLine}
 use Rattle.lines.specs.declared.signature.Signature.{Signature}
+use Rattle.lines.specs.declared.subject_line.SubjectLine.{SubjectLine}
 use Rattle.message.specs.declared.message_fault.MessageFault.{MessageFault}
 use Rattle.message.specs.declared.message_fault.MessageFault.TheVariants as fault
+use Rattle.message.specs.Ends.{Ends}
 use Rattle.message.specs.declared.delivery.Delivery.{Delivery}
 use Rattle.message.specs.declared.department.Department.{Department}
 use Rattle.message.specs.declared.issue.Issue.{Issue}
@@ -35,7 +38,12 @@ use Rattle.message.specs.Values.{
   are_option_names,
   are_extension_names,
   are_namespaces,
+  are_key_types,
+  comes_before,
+  fits_bare_name,
   fits_kind,
+  has_bare_name,
+  is_demand,
   is_longest_life,
   is_end,
   is_critical_option,
@@ -82,6 +90,9 @@ key_id_after head line = option_and_then (passing is_key_id) (rest_after head li
 abbrev pub key_line_after : List ℕ → List ℕ → Option KeyLine
 key_line_after head line = option_and_then (λ text. result_ok (key_line_at text)) (rest_after head line)
 
+abbrev pub subject_line_after : List ℕ → List ℕ → Option SubjectLine
+subject_line_after head line = option_and_then subject_line_at (rest_after head line)
+
 -- a number after these bytes that passes a test
 abbrev pub number_after : (ℕ → Bool) → List ℕ → List ℕ → Option ℕ
 number_after test head line = option_and_then (passing test) (option_and_then number_of (rest_after head line))
@@ -115,13 +126,52 @@ abbrev pub option_after : List Pair → List ℕ → Option Pair
 option_after before line =
     option_and_then (passing (is_new_option before)) (option_and_then option_in (rest_after (codes "option ") line))
 
--- these options from before line n, followed by those in at most k lines from line n on
-unfoldable pub options_from : ℕ → ℕ → List Pair → List (List ℕ) → List Pair
-options_from zero n before ps = before
-options_from (suc k) n before ps = elim (option_after before (line_of n ps)) [
+-- these pairs from before line n, followed by those in at most k lines from line n on, each of which may follow the
+-- earlier ones
+unfoldable pub pairs_from : (List Pair → List ℕ → Option Pair) → ℕ → ℕ → List Pair → List (List ℕ) → List Pair
+pairs_from after zero n before ps = before
+pairs_from after (suc k) n before ps = elim (after before (line_of n ps)) [
   | None ↦ before
-  | Some p ↦ options_from k (suc n) (before ++ p ∷ []) ps
+  | Some p ↦ pairs_from after k (suc n) (before ++ p ∷ []) ps
 ]
+
+-- these options from before line n, followed by those in at most k lines from line n on
+abbrev pub options_from : ℕ → ℕ → List Pair → List (List ℕ) → List Pair
+options_from k n before ps = pairs_from option_after k n before ps
+
+-- what certificates must have: the name of an option alone, or with a space and the value that it must have
+abbrev pub demand_in : List ℕ → Option Pair
+demand_in text = elim (comment_of text) [
+  | None ↦ Some (record { name = word_of text; value = [] })
+  | Some value ↦ if length value == 0 then None else Some (record { name = word_of text; value = value })
+]
+
+-- whether certificates of this kind must have an option beside these, whose names come before its own
+abbrev pub is_new_demand : Kind → List Pair → Pair → Bool
+is_new_demand kind before p = is_demand kind p && list_all (λ q. comes_before q p) before
+
+-- the option in a line that certificates must have, if it may follow the earlier ones
+abbrev pub demand_after : Kind → List Pair → List ℕ → Option Pair
+demand_after kind before line =
+    option_and_then (passing (is_new_demand kind before)) (option_and_then demand_in (rest_after (codes "must ") line))
+
+-- these, followed by those in at most k lines from line n on
+abbrev pub demands_from : Kind → ℕ → ℕ → List Pair → List (List ℕ) → List Pair
+demands_from kind k n before ps = pairs_from (demand_after kind) k n before ps
+
+-- the key types in a line
+abbrev pub key_types_after : List ℕ → Option (List (List ℕ))
+key_types_after line = list_after are_key_types (codes "key-types") line
+
+-- none if the line isn't there
+abbrev pub listed : Option (List (List ℕ)) → List (List ℕ)
+listed None = []
+listed (Some ts) = ts
+
+-- how many lines were read
+abbrev pub lines_read : Option (List (List ℕ)) → ℕ
+lines_read None = 0
+lines_read (Some ts) = 1
 
 abbrev pub digest_after : List ℕ → List ℕ → Option (List ℕ)
 digest_after head line = option_and_then (passing is_digest) (rest_after head line)
@@ -151,6 +201,33 @@ range_after head line = option_and_then (passing is_range) (option_and_then rang
 
 -- ---- messages
 
+-- what is made from a value
+abbrev pub made : {A B : Type 0} → (A → B) → Result A ℕ → Result B ℕ
+made f (Ok x) = Ok (f x)
+made f (Err n) = Err n
+
+-- the longest lifetime and the namespaces of a department, on its last lines, from line m on
+unfoldable pub limits_in : Kind → Bool → ℕ → List (List ℕ) → Result (ℕ × List (List ℕ)) ℕ
+limits_in kind bare m ps = do
+  longest_life ← or_fault m (number_after is_longest_life (codes "maxlife ") (line_of m ps))
+  namespaces ← or_fault (m + 1)
+      (list_after (λ ts. are_namespaces ts && (fits_kind kind ts && fits_bare_name bare ts)) (codes "namespaces")
+      (line_of (m + 1) ps))
+  if ends_after (m + 1) ps
+      then Ok (longest_life, namespaces)
+      else Err (m + 2)
+
+-- what stands in a department's text after its options; `bare`: {name} alone is one of its rules
+unfoldable pub ends_in : Kind → Bool → List (List ℕ) → Result Ends ℕ
+ends_in kind bare ps = do
+  let demands = demands_from kind 3 6 [] ps
+  let n = 6 + length demands
+  extensions ← or_fault n
+      (list_after (λ ts. are_extension_names ts && fits_kind kind ts) (codes "extensions") (line_of n ps))
+  let key_types = key_types_after (line_of (n + 1) ps)
+  made (λ limits. ((demands, extensions), (listed key_types, limits)))
+      (limits_in kind bare (n + 1 + lines_read key_types) ps)
+
 -- a department, from the pieces of its text
 unfoldable pub department_in : List (List ℕ) → Result Department ℕ
 department_in ps = do
@@ -159,30 +236,25 @@ department_in ps = do
   administrators ← or_fault 3 (list_after are_administrators (codes "admins") (line_of 3 ps))
   rules ← or_fault 4 (list_after are_rules (codes "principals") (line_of 4 ps))
   options ← or_fault 5 (list_after (λ ts. are_option_names ts && fits_kind kind ts) (codes "options") (line_of 5 ps))
-  extensions ← or_fault 6
-      (list_after (λ ts. are_extension_names ts && fits_kind kind ts) (codes "extensions") (line_of 6 ps))
-  longest_life ← or_fault 7 (number_after is_longest_life (codes "maxlife ") (line_of 7 ps))
-  namespaces ← or_fault 8
-      (list_after (λ ts. are_namespaces ts && fits_kind kind ts) (codes "namespaces") (line_of 8 ps))
-  if ends_after 8 ps
-      then Ok (record {
-        name = name;
-        kind = kind;
-        administrators = administrators;
-        rules = rules;
-        options = options;
-        extensions = extensions;
-        longest_life = longest_life;
-        namespaces = namespaces;
-      })
-      else Err 9
+  made (λ ends. record {
+    name = name;
+    kind = kind;
+    administrators = administrators;
+    rules = rules;
+    options = options;
+    demands = ends.0.0;
+    extensions = ends.0.1;
+    key_types = ends.1.0;
+    longest_life = ends.1.1.0;
+    namespaces = ends.1.1.1;
+  }) (ends_in kind (has_bare_name rules) ps)
 
 -- an issue, from the pieces of its text
 unfoldable pub issue_in : List (List ℕ) → Result Issue ℕ
 issue_in ps = do
   department ← or_fault 1 (name_after (codes "issue ") (line_of 1 ps))
   key_id ← or_fault 2 (key_id_after (codes "keyid ") (line_of 2 ps))
-  key ← or_fault 3 (key_line_after (codes "key ") (line_of 3 ps))
+  key ← or_fault 3 (subject_line_after (codes "key ") (line_of 3 ps))
   principals ← or_fault 4 (list_after are_principals (codes "principals") (line_of 4 ps))
   after ← or_fault 5 (number_after is_end (codes "after ") (line_of 5 ps))
   before ← or_fault 6 (number_after is_end (codes "before ") (line_of 6 ps))
@@ -231,11 +303,6 @@ one_line_in read ps = do
 -- whether line 1 begins with these bytes
 abbrev pub begins : List ℕ → List (List ℕ) → Bool
 begins head ps = is_some (rest_after head (line_of 1 ps))
-
--- the message made from a value
-abbrev pub made : {A B : Type 0} → (A → B) → Result A ℕ → Result B ℕ
-made f (Ok x) = Ok (f x)
-made f (Err n) = Err n
 
 -- a message of one line, from the pieces of its text
 unfoldable pub one_line_message_in : List (List ℕ) → Result Message ℕ

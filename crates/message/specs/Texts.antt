@@ -1,5 +1,5 @@
 -- The texts of messages: lines, each terminated by a line feed.
-use Rattle.std.specs.Prelude.{ℕ, List, [], ◌∷◌, ◌++◌, map, codes, if◌then◌else◌}
+use Rattle.std.specs.Prelude.{ℕ, List, [], ◌∷◌, ◌++◌, length, map, codes, ◌==◌, if◌then◌else◌, IsTrue}
 use Rattle.std.specs.List.{join_with_byte}
 use Rattle.std.specs.Fmt.{decimal}
 use Rattle.text.specs.declared.pair.Pair.{Pair}
@@ -9,10 +9,13 @@ use Rattle.values.specs.Options.{is_flag}
 use Rattle.base64.specs.Engines.{standard}
 use Rattle.base64.specs.GeneralPurpose.{encode_of}
 use Rattle.lines.specs.KeyLines.{key_line_text}
+use Rattle.lines.specs.SubjectLines.{subject_line_text}
+use Rattle.lines.specs.Subjects.{are_parts}
 use Rattle.lines.specs.Keys.{signature_blob}
 use Rattle.lines.specs.declared.signature.Signature.{Signature}
 use Rattle.message.specs.declared.delivery.Delivery.{Delivery}
 use Rattle.message.specs.declared.department.Department.{Department}
+use Rattle.message.specs.Ends.{Ends, ends_of}
 use Rattle.message.specs.declared.issue.Issue.{Issue}
 use Rattle.message.specs.declared.kinds.Message.{Message}
 use Rattle.message.specs.declared.kinds.Message.TheVariants as message
@@ -46,18 +49,41 @@ option_words p = if is_flag p.name then p.name else line p.name p.value
 abbrev pub option_line : Pair → List ℕ
 option_line p = line (codes "option") (option_words p)
 
+-- the name of an option that certificates must have and, if it must have one value, a space and the value
+abbrev pub demand_words : Pair → List ℕ
+demand_words p = if length p.value == 0 then p.name else line p.name p.value
+
+-- the line of an option that certificates must have
+abbrev pub demand_line : Pair → List ℕ
+demand_line p = line (codes "must") (demand_words p)
+
+-- the line of the permitted key types; none if there are none
+abbrev pub key_types_lines : List (List ℕ) → List (List ℕ)
+key_types_lines [] = []
+key_types_lines (t ∷ ts) = list_line (codes "key-types") (t ∷ ts) ∷ []
+
+-- the lines of a department from its longest lifetime on
+abbrev pub limit_lines : ℕ → List (List ℕ) → List (List ℕ)
+limit_lines longest_life namespaces =
+    line (codes "maxlife") (decimal longest_life) ∷ list_line (codes "namespaces") namespaces ∷ []
+
+-- the lines of a department after its options
+abbrev pub end_lines : Ends → List (List ℕ)
+end_lines e =
+    map demand_line e.0.0
+    ++ list_line (codes "extensions") e.0.1 ∷ (key_types_lines e.1.0 ++ limit_lines e.1.1.0 e.1.1.1)
+
 -- the lines of a department
 abbrev pub department_lines : Department → List (List ℕ)
 department_lines d =
     line (codes "department") d.name ∷ line (codes "kind") (kind_text d.kind)
     ∷ list_line (codes "admins") d.administrators ∷ list_line (codes "principals") d.rules
-    ∷ list_line (codes "options") d.options ∷ list_line (codes "extensions") d.extensions
-    ∷ line (codes "maxlife") (decimal d.longest_life) ∷ list_line (codes "namespaces") d.namespaces ∷ []
+    ∷ list_line (codes "options") d.options ∷ end_lines (ends_of d)
 
 -- the lines of an issue
 abbrev pub issue_lines : Issue → List (List ℕ)
 issue_lines i =
-    line (codes "issue") i.department ∷ line (codes "keyid") i.key_id ∷ line (codes "key") (key_line_text i.key)
+    line (codes "issue") i.department ∷ line (codes "keyid") i.key_id ∷ line (codes "key") (subject_line_text i.key)
     ∷ list_line (codes "principals") i.principals
     ∷ line (codes "after") (decimal i.after) ∷ line (codes "before") (decimal i.before)
     ∷ (map option_line i.options ++ list_line (codes "extensions") i.extensions ∷ [])
@@ -104,3 +130,8 @@ issue_text i = lines_text (issue_lines i)
 -- the text of a message
 abbrev pub message_text : Message → List ℕ
 message_text m = lines_text (message_lines m)
+
+-- a message whose text can be written: the key of an issue is one of its type
+abbrev pub IsWritable : Message → Type 0
+IsWritable (message.Issue i) = IsTrue (are_parts i.key.key_type i.key.key)
+IsWritable m = Unit {0}

@@ -1,20 +1,22 @@
 //! Departments.
 
-ghost use Rattle.std.specs.Prelude.{◌≡◌, IfOk, codes, map};
+ghost use Rattle.std.specs.Prelude.{◌≡◌, IfOk, map};
 ghost use Rattle.text.specs.Results.{or_fault};
-ghost use Rattle.message.specs.Parts.{department_with, namespaces_in, profile_in};
-ghost use Rattle.message.specs.Reading.{Gives, department_in, kind_of_line, line_of, made, number_after};
+ghost use Rattle.message.specs.Ends.{ends_of};
+ghost use Rattle.message.specs.Parts.{body_after, body_in, department_with, profile_in};
+ghost use Rattle.message.specs.Reading.{Gives, department_in, kind_of_line, line_of, made};
 ghost use Rattle.message.specs.declared.kinds.Message.TheVariants as message;
-ghost use Rattle.message.specs.Values.{fits_kind, is_longest_life};
+ghost use Rattle.message.specs.Values.{fits_bare_name, fits_kind, has_bare_name};
 
+use crate::department_ends::{Ends, ends_in};
 use crate::kinds::Message;
-use crate::line::{ends_after, line, number_after};
+use crate::line::line;
 use crate::lists::{ListKind, TextKind, list_in};
 use crate::message_fault::MessageFault;
 use crate::value::text_after;
 use std::alloc::Global;
-use text::{NoMemory, Text, Texts, both};
-use values::{Kind, LONGEST_LIFE};
+use text::{NoMemory, Pairs, Text, Texts, both};
+use values::Kind;
 
 /// A department: an issuance policy. Its profile restricts the certificates that may be issued.
 #[derive(Drop)]
@@ -23,24 +25,41 @@ pub struct Department {
     pub name: Text,
     /// Fixed permanently once the department exists.
     pub kind: Kind,
-    /// 0 to 16 distinct names of callers.
+    /// 0 to 16 distinct names of callers, or words with `{name}`.
     pub administrators: Texts,
     /// 1 to 16 distinct rules.
     pub rules: Texts,
     /// The names of the permitted critical options. None for hosts.
     pub options: Texts,
+    /// The critical options that each certificate must have, 0 to 3 in the order of their names: each with the value
+    /// that it must have or, if that is empty, with any. None for hosts.
+    pub demands: Pairs,
     /// The names of the permitted extensions. None for hosts.
     pub extensions: Texts,
+    /// The names of the permitted key types, 1 to 7 distinct ones; none if only `ssh-ed25519` is permitted.
+    pub key_types: Texts,
     /// The longest lifetime of a certificate in seconds, 1 to 253402300799.
     pub longest_life: u64,
     /// 0 to 8 distinct namespaces of signatures. None for hosts.
     pub namespaces: Texts,
 }
 
-/// The kind, the lists of administrators, rules, options and extensions, the longest lifetime and the namespaces.
-type Profile = (Kind, (((Texts, Texts), (Texts, Texts)), (u64, Texts)));
+/// The administrators, rules and options, and what stands after them.
+type Body = ((Texts, Texts), (Texts, Ends));
+
+/// The kind, and all that is on the lines after it.
+type Profile = (Kind, Body);
 
 impl Department {
+    /// A copy of what stands after the options, in new memory.
+    fn ends(&self, alloc: Global) -> Result<Ends, NoMemory>
+        ensures { IfOk result (λ e. e ≡ ends_of self.now) }
+    {
+        let extras = both(self.demands.copied(alloc), self.extensions.copied(alloc));
+        let limits = both(Ok(self.longest_life), self.namespaces.copied(alloc));
+        both(extras, both(self.key_types.copied(alloc), limits))
+    }
+
     /// A copy, in new memory.
     ///
     /// # Errors
@@ -50,10 +69,8 @@ impl Department {
         ensures { IfOk result (λ d. d ≡ self.now) }
     {
         let people = both(self.administrators.copied(alloc), self.rules.copied(alloc));
-        let names = both(self.options.copied(alloc), self.extensions.copied(alloc));
-        let last = both(Ok(self.longest_life), self.namespaces.copied(alloc));
-        let lists = both(people, names);
-        let profile = both(Ok(self.kind), both(lists, last));
+        let last = both(self.options.copied(alloc), self.ends(alloc));
+        let profile = both(Ok(self.kind), both(people, last));
         match both(self.name.copied(alloc), profile) {
             Ok((name, profile)) => Ok(department_of(name, profile)),
             Err(refused) => Err(refused),
@@ -85,27 +102,50 @@ pub fn fits_kind(kind: Kind, texts: &[Text]) -> bool
     }
 }
 
-/// The longest lifetime on line 7.
-fn longest_life_in(pieces: &[&[u8]]) -> Result<u64, MessageFault>
-    ensures { Gives result
-        (or_fault 7 (number_after is_longest_life (codes "maxlife ") (line_of 7 (map (λ x. x.now) pieces.now)))) }
+/// Whether one of the rules is `{name}` alone.
+pub fn has_bare_name(rules: &Texts) -> bool
+    ensures { result ≡ has_bare_name rules.now }
 {
-    match number_after(line(pieces, 7), b"maxlife ") {
-        Some(seconds) if 1 <= seconds && seconds <= LONGEST_LIFE => Ok(seconds),
-        _ => Err(MessageFault::BadLine(7)),
+    rules.contains(b"{name}".as_slice())
+}
+
+/// Whether a department may have the list of namespaces: an empty one, if `{name}` alone is one of its rules.
+pub fn fits_bare_name(bare: bool, texts: &[Text]) -> bool
+    ensures { result ≡ fits_bare_name bare texts.now }
+{
+    match bare {
+        true => texts.is_empty(),
+        false => true,
     }
 }
 
-/// The namespaces on line 8, the last.
-#[tactic(auto, unfolding(crate::specs::Parts::namespaces_in))]
-fn namespaces_in(alloc: Global, pieces: &[&[u8]], kind: Kind) -> Result<Texts, MessageFault>
-    ensures { Gives result (namespaces_in kind (map (λ x. x.now) pieces.now)) }
+/// The administrators and the rules, with what is in the lines from line 5 on.
+fn body_after(
+    alloc: Global,
+    pieces: &[&[u8]],
+    kind: Kind,
+    people: (Texts, Texts),
+) -> Result<Body, MessageFault>
+    ensures { Gives result (body_after kind people (map (λ x. x.now) pieces.now)) }
 {
-    let namespaces = list_in(alloc, pieces, 8, ListKind::NamespacesOf(kind))?;
-    if !ends_after(pieces, 8) {
-        return Err(MessageFault::BadLine(9));
+    let bare = has_bare_name(&people.1);
+    let last = both(
+        list_in(alloc, pieces, 5, ListKind::OptionsOf(kind)),
+        ends_in(alloc, pieces, kind, bare),
+    );
+    both(Ok(people), last)
+}
+
+/// What is in the lines from line 3 on.
+fn body_in(alloc: Global, pieces: &[&[u8]], kind: Kind) -> Result<Body, MessageFault>
+    ensures { Gives result (body_in kind (map (λ x. x.now) pieces.now)) }
+{
+    let administrators = list_in(alloc, pieces, 3, ListKind::Administrators);
+    let rules = list_in(alloc, pieces, 4, ListKind::Rules);
+    match both(administrators, rules) {
+        Ok(people) => body_after(alloc, pieces, kind, people),
+        Err(fault) => Err(fault),
     }
-    Ok(namespaces)
 }
 
 /// The profile in the lines from line 2 on.
@@ -113,33 +153,24 @@ fn profile_in(alloc: Global, pieces: &[&[u8]]) -> Result<Profile, MessageFault>
     ensures { Gives result (profile_in (map (λ x. x.now) pieces.now)) }
 {
     let kind = kind_in(pieces)?;
-    let people = both(
-        list_in(alloc, pieces, 3, ListKind::Administrators),
-        list_in(alloc, pieces, 4, ListKind::Rules),
-    );
-    let names = both(
-        list_in(alloc, pieces, 5, ListKind::OptionsOf(kind)),
-        list_in(alloc, pieces, 6, ListKind::ExtensionsOf(kind)),
-    );
-    let last = both(longest_life_in(pieces), namespaces_in(alloc, pieces, kind));
-    let lists = both(people, names);
-    let profile = both(lists, last);
-    both(Ok(kind), profile)
+    both(Ok(kind), body_in(alloc, pieces, kind))
 }
 
 /// The department with this name and this profile.
 fn department_of(name: Text, profile: Profile) -> Department
     ensures { result ≡ department_with name profile }
 {
-    let (kind, (((administrators, rules), (options, extensions)), (longest_life, namespaces))) =
-        profile;
+    let (kind, ((administrators, rules), (options, ends))) = profile;
+    let ((demands, extensions), (key_types, (longest_life, namespaces))) = ends;
     Department {
         name,
         kind,
         administrators,
         rules,
         options,
+        demands,
         extensions,
+        key_types,
         longest_life,
         namespaces,
     }

@@ -10,8 +10,8 @@ use crate::line::{ends_after, line};
 use crate::lists::{ListKind, TextKind, list_in};
 use crate::message_fault::MessageFault;
 use crate::option::option_after;
-use crate::value::{end_after, key_line_after, text_after};
-use lines::KeyLine;
+use crate::value::{end_after, subject_line_after, text_after};
+use lines::SubjectLine;
 use std::alloc::Global;
 use text::{NoMemory, Pairs, Text, Texts, both};
 
@@ -23,7 +23,7 @@ pub struct Issue {
     /// A department's name, `/` and 1 to 64 bytes from 0x21 to 0x7e.
     pub key_id: Text,
     /// The subject's public key, with the comment on its line.
-    pub key: KeyLine,
+    pub key: SubjectLine,
     /// 1 to 16 distinct principals.
     pub principals: Texts,
     /// The first second of the validity, since 1970-01-01 00:00:00 UTC.
@@ -37,7 +37,7 @@ pub struct Issue {
 }
 
 /// The department and the key ID, the key and the principals.
-type Subject = ((Text, Text), (KeyLine, Texts));
+type Subject = ((Text, Text), (SubjectLine, Texts));
 
 /// The validity, the options and the extensions.
 type Terms = ((u64, u64), (Pairs, Texts));
@@ -98,7 +98,7 @@ pub(crate) fn issue_in(alloc: Global, pieces: &[&[u8]]) -> Result<Message, Messa
         text_after(alloc, pieces, 2, b"keyid ", TextKind::KeyId),
     );
     let holder = both(
-        key_line_after(alloc, pieces, 3, b"key "),
+        subject_line_after(alloc, pieces, 3, b"key "),
         list_in(alloc, pieces, 4, ListKind::Principals),
     );
     let validity = both(

@@ -10,7 +10,8 @@ use std::alloc::Global;
 use text::{NoMemory, Pair, Pairs, Text};
 use values::{OptionField, is_flag, is_known, is_option_value};
 
-fn copied(alloc: Global, name: &[u8], value: &[u8]) -> Result<Pair, NoMemory>
+/// A name and a value, copied.
+pub(crate) fn pair_from(alloc: Global, name: &[u8], value: &[u8]) -> Result<Pair, NoMemory>
     ensures name { IfOk result (λ p. p.name ≡ name.now) }
     ensures value { IfOk result (λ p. p.value ≡ value.now) }
 {
@@ -30,13 +31,13 @@ fn pair_of(alloc: Global, text: &[u8]) -> Result<Option<Pair>, NoMemory>
             if !is_flag(name) {
                 return Ok(None);
             }
-            Ok(Some(copied(alloc, name, b"")?))
+            Ok(Some(pair_from(alloc, name, b"")?))
         }
         Some(value) => {
             if is_flag(name) {
                 return Ok(None);
             }
-            Ok(Some(copied(alloc, name, value)?))
+            Ok(Some(pair_from(alloc, name, value)?))
         }
     }
 }

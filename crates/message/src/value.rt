@@ -10,6 +10,7 @@ ghost use Rattle.message.specs.Reading.{
   rest_after,
   digest_after,
   key_line_after,
+  subject_line_after,
   line_of,
   number_after,
   passing,
@@ -26,7 +27,10 @@ use crate::lists::{TextKind, is_text};
 use crate::message_fault::MessageFault;
 use crate::serial_range::SerialRange;
 use base64::engine::general_purpose::STANDARD;
-use lines::{KeyLine, LineFault, Signature, read_key_line, read_signature_blob, word_and_rest};
+use lines::{
+    KeyLine, LineFault, Signature, SubjectLine, read_key_line, read_signature_blob,
+    read_subject_line, word_and_rest,
+};
 use std::alloc::Global;
 use text::Text;
 use values::{LATEST_MOMENT, is_serial, read_decimal};
@@ -71,6 +75,25 @@ pub(crate) fn key_line_after(
             | LineFault::BadBlob
             | LineFault::BadComment,
         ) => Err(MessageFault::BadLine(n as u64)),
+    }
+}
+
+/// The public-key line of any type after these bytes on line `n`.
+pub(crate) fn subject_line_after(
+    alloc: Global,
+    pieces: &[&[u8]],
+    n: usize,
+    head: &[u8],
+) -> Result<SubjectLine, MessageFault>
+    requires { 1 ≤ n }
+    ensures { Gives result (or_fault n (subject_line_after head.now (line_of n (map (λ x. x.now) pieces.now)))) }
+{
+    let Some(text) = after(line(pieces, n), head) else {
+        return Err(MessageFault::BadLine(n as u64));
+    };
+    match read_subject_line(alloc, text)? {
+        Some(key) => Ok(key),
+        None => Err(MessageFault::BadLine(n as u64)),
     }
 }
 

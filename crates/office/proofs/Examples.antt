@@ -6,6 +6,7 @@ use Rattle.office.proofs.Words.{with_signature, ◌∷◌, ◌≡◌}
 use Rattle.std.specs.Prelude.{codes}
 use Rattle.values.specs.declared.refusal.Refusal.TheVariants.{NotAllowed, NoDepartment, KindFixed, BadKeyId, NotPermitted, AlreadyEnded, KeyIdRevoked, UnknownSerial, Revoked, NotSigned, SerialsExhausted, CaInUse}
 use Rattle.lines.specs.declared.key_line.KeyLine.{KeyLine}
+use Rattle.lines.specs.declared.subject.KeyType.TheVariants.{Ed25519, SkEd25519}
 use Rattle.message.specs.declared.kinds.Message.TheVariants as message
 use Rattle.office.specs.declared.arrival.Outcome.TheVariants.{Repeated}
 use Rattle.message.specs.Permissions.{meet_rules}
@@ -23,7 +24,9 @@ web = record {
   administrators = codes "ana" ∷ [];
   rules = codes "alice" ∷ codes "*@example.org" ∷ [];
   options = [];
+  demands = [];
   extensions = codes "permit-pty" ∷ [];
+  key_types = [];
   longest_life = 1000;
   namespaces = [];
 }
@@ -35,7 +38,7 @@ abbrev asked : Issue
 asked = record {
   department = codes "web";
   key_id = codes "web/alice";
-  key = record { key = []; comment = None };
+  key = record { key_type = Ed25519; key = []; comment = None };
   principals = codes "alice" ∷ [];
   after = 1000;
   before = 2000;
@@ -70,13 +73,20 @@ other_departments_key_id = refl
 life_too_long : first_holding (refusals begun (codes "ana") (message.Issue (record asked { before = 2001 })) 1000) ≡ Some NotPermitted
 life_too_long = refl
 
+-- an issue for a key of another type
+abbrev asked_for_sk : Issue
+asked_for_sk = record asked { key = record { key_type = SkEd25519; key = []; comment = None } }
+
+other_type : first_holding (refusals begun (codes "ana") (message.Issue asked_for_sk) 1000) ≡ Some NotPermitted
+other_type = refl
+
 the_last_second : first_holding (refusals begun (codes "ana") (message.Issue asked) 1999) ≡ None
 the_last_second = refl
 
 already_ended : first_holding (refusals begun (codes "ana") (message.Issue asked) 2000) ≡ Some AlreadyEnded
 already_ended = refl
 
-suffix_alone_meets_no_rule : meet_rules web (codes "@example.org" ∷ []) ≡ false
+suffix_alone_meets_no_rule : meet_rules web (codes "alice") (codes "@example.org" ∷ []) ≡ false
 suffix_alone_meets_no_rule = refl
 
 serials_run_out : first_holding (refusals (after (after begun (message.Issue asked) 1000 []) (message.Issue asked) 1000 []) (codes "ana") (message.Issue asked) 1000) ≡ Some SerialsExhausted
@@ -134,6 +144,12 @@ renewal_of_none = refl
 
 none_has_administrators : first_holding (refusals two (codes "ana") (message.Renew (record once_more { serial = 3 })) 1600) ≡ Some NotAllowed
 none_has_administrators = refl
+
+renewal_of_another_type : first_holding (refusals (with_signature (after begun (message.Issue asked_for_sk) 1000 []) 1 signature) (codes "ana") (message.Renew once_more) 1600) ≡ Some NotPermitted
+renewal_of_another_type = refl
+
+type_is_kept : option_map (λ c. c.fields.key_type) (certificate_of (after (after begun (message.Issue asked_for_sk) 1000 []) (message.Renew once_more) 1600 []) 2) ≡ Some SkEd25519
+type_is_kept = refl
 
 renewed_validity : option_map (λ c. c.fields.before) (certificate_of (after one_signed (message.Renew once_more) 1600 []) 3) ≡ Some 2500
 renewed_validity = refl

@@ -3,6 +3,7 @@ use Rattle.office.proofs.Words.{AllByRecursion, Certificate, Department, Host, I
 use Rattle.office.proofs.Words.{[], and_parts, ap, arith, bytes_eq, bytes_eq-Decides, certificate_for, false, flags}
 use Rattle.office.proofs.Words.{inl, inr, is_name, is_serial, leb, length, list_any, ltb, map, or_cases, or_parts, refl}
 use Rattle.office.proofs.Words.{renewed_certificate, subst, true, ℕ, ◌&&◌, ◌++◌, ◌∙◌, ◌∷◌, ◌≡◌}
+use Rattle.std.specs.Prelude.{◌||◌}
 use Rattle.std.specs.List.{list_all}
 use Rattle.std.proofs.lemmas.Bool.{and_from, or_from, not-true, le-leb, lt-ltb, eqb-true}
 use Rattle.std.proofs.lemmas.List.Folds.{list_all-map, list_any-append}
@@ -15,14 +16,15 @@ use Rattle.values.specs.declared.kind.Kind.{Kind}
 use Rattle.values.specs.declared.option_field.OptionField.{OptionField}
 use Rattle.values.specs.declared.option_field.OptionField.TheVariants.{CriticalOptions, Extensions}
 use Rattle.cert.specs.Options.{is_option, are_for_kind}
-use Rattle.lines.proofs.KeyLineLaws.{key_size}
+use Rattle.lines.specs.Subjects.{are_parts}
 use Rattle.cert.proofs.Listing.{is_options-listing}
 use Rattle.cert.specs.OptionFaults.{first_fault, options_fault}
 use Rattle.message.specs.Values.{fits_kind, is_department, is_issue, are_principals, is_end}
-use Rattle.message.specs.Values.{are_administrators, are_rules, are_option_names, are_extension_names}
+use Rattle.message.specs.Values.{are_administrators, are_demands, are_rules, are_option_names, are_extension_names}
+use Rattle.message.specs.Values.{is_demand}
 use Rattle.office.specs.Views.{HasSerial, IsIssuable, IsRenewable}
 use Rattle.office.specs.Permissions.{is_permitted}
-use Rattle.message.specs.Permissions.{is_listed}
+use Rattle.message.specs.Permissions.{is_life_permitted, is_listed, is_option_permitted}
 use Rattle.office.proofs.Growth.{opening_order}
 use Rattle.office.specs.Certificates.{IsCertificate}
 
@@ -91,6 +93,17 @@ for_kind Host [] [] fits listed = refl
 for_kind Host [] (p ∷ ps) fits listed = absurd cc
 for_kind Host (k ∷ known) ps fits listed = absurd (omega (arith, eqb-true (length (k ∷ known)) 0 fits))
 
+options_for_kind : (kind : Kind) (known : List (List ℕ)) (demands ps : List Pair) → fits_kind kind known ≡ true
+    → list_all (is_demand kind) demands ≡ true
+    → list_all (λ o. is_listed known o.name || list_any (λ demand. bytes_eq demand.name o.name) demands) ps ≡ true
+    → are_for_kind kind ps ≡ true
+options_for_kind User known demands ps fits demanded permitted = refl
+options_for_kind Host [] [] [] fits demanded permitted = refl
+options_for_kind Host [] [] (p ∷ ps) fits demanded permitted = absurd cc
+options_for_kind Host [] (q ∷ qs) ps fits demanded permitted = absurd cc
+options_for_kind Host (k ∷ known) demands ps fits demanded permitted =
+    absurd (omega (arith, eqb-true (length (k ∷ known)) 0 fits))
+
 flags_listed : (known names : List (List ℕ)) → list_all (λ e. is_listed known e) names ≡ true
     → list_all (λ o. is_listed known o.name) (flags names) ≡ true
 flags_listed known names e = list_all-map (λ o. is_listed known o.name) (λ n. record { name = n; value = [] }) names ∙ e
@@ -102,14 +115,15 @@ record IsLawful (d : Department) (i : Issue) : Type 0 where
   options_fit : fits_kind d.kind d.options ≡ true
   extensions_fit : fits_kind d.kind d.extensions ≡ true
   key_id : is_key_id i.key_id ≡ true
-  key : length i.key.key ≡ 32
+  key : are_parts i.key.key_type i.key.key ≡ true
   principals : are_principals i.principals ≡ true
   before : leb i.before 253402300799 ≡ true
   options : list_all (is_option CriticalOptions) i.options ≡ true
   options_apart : are_distinct (map (λ p. p.name) i.options) ≡ true
   extensions : list_all (is_known Extensions) i.extensions ≡ true
   extensions_apart : are_distinct i.extensions ≡ true
-  options_listed : list_all (λ o. is_listed d.options o.name) i.options ≡ true
+  demands : list_all (is_demand d.kind) d.demands ≡ true
+  options_permitted : list_all (is_option_permitted d) i.options ≡ true
   extensions_listed : list_all (λ e. is_listed d.extensions e) i.extensions ≡ true
   life : ltb i.after i.before ≡ true
 
@@ -119,7 +133,8 @@ lawful_parts d i department issue permitted =
     let d2 = and_parts (are_administrators d.administrators) _ d1.1 in
     let d3 = and_parts (are_rules d.rules) _ d2.1 in
     let d4 = and_parts (are_option_names d.options && fits_kind d.kind d.options) _ d3.1 in
-    let d5 = and_parts (are_extension_names d.extensions && fits_kind d.kind d.extensions) _ d4.1 in
+    let demands = and_parts (are_demands d.kind d.demands) _ d4.1 in
+    let d5 = and_parts (are_extension_names d.extensions && fits_kind d.kind d.extensions) _ demands.1 in
     let i1 = and_parts _ _ issue in
     let i2 = and_parts _ _ i1.1 in
     let i3 = and_parts _ _ i2.1 in
@@ -133,20 +148,22 @@ lawful_parts d i department issue permitted =
     let p1 = and_parts _ _ permitted in
     let p2 = and_parts _ _ p1.1 in
     let p3 = and_parts _ _ p2.1 in
+    let p4 = and_parts (is_life_permitted d i.after i.before) _ p3.1 in
     record {
       options_fit = (and_parts (are_option_names d.options) _ d4.0).1;
       extensions_fit = (and_parts (are_extension_names d.extensions) _ d5.0).1;
       key_id = i2.0;
-      key = key_size i.key i3.0;
+      key = (and_parts (are_parts i.key.key_type i.key.key) _ i3.0).0;
       principals = i4.0;
       before = i6.0;
       options = options.0;
       options_apart = options.1;
       extensions = extensions.0;
       extensions_apart = extensions.1;
-      options_listed = p2.0;
+      demands = (and_parts _ _ (and_parts _ _ demands.0).1).0;
+      options_permitted = (and_parts _ _ p2.0).0;
       extensions_listed = p3.0;
-      life = (and_parts _ _ p3.1).0;
+      life = (and_parts _ _ p4.0).0;
     }
 
 is_lawful : (v : View) (d : Department) (i : Issue) → IsIssuable v d i → IsLawful d i
@@ -156,7 +173,9 @@ is_lawful v d i is = lawful_parts d i is.department is.issue is.permitted
 pub issuable_options : (v : View) (d : Department) (i : Issue) → IsIssuable v d i → options_fault CriticalOptions d.kind i.options ≡ None
 issuable_options v d i is =
     let p = is_lawful v d i is in
-    no_fault CriticalOptions d.kind i.options (for_kind d.kind d.options i.options p.options_fit p.options_listed) p.options p.options_apart
+    no_fault CriticalOptions d.kind i.options
+    (options_for_kind d.kind d.options d.demands i.options p.options_fit p.demands p.options_permitted) p.options
+    p.options_apart
 
 -- its extensions have no fault
 pub issuable_extensions : (v : View) (d : Department) (i : Issue) → IsIssuable v d i → options_fault Extensions d.kind (flags i.extensions) ≡ None

@@ -36,6 +36,7 @@ kind_or_user None = User
 -- the fields of a certificate issued as requested
 abbrev pub fields_for : Issue → (serial : ℕ) → Kind → (ca nonce : List ℕ) → CertFields
 fields_for i serial kind ca nonce = record {
+  key_type = i.key.key_type;
   nonce = nonce;
   key = i.key.key;
   serial = serial;

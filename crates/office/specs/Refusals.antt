@@ -33,7 +33,7 @@ use Rattle.message.specs.declared.kinds.Message.{Message}
 use Rattle.message.specs.declared.kinds.Message.TheVariants as message
 use Rattle.message.specs.Permissions.{has_other_kind, is_missing}
 use Rattle.office.specs.declared.certificate.Certificate.{Certificate}
-use Rattle.office.specs.Permissions.{may_administer, is_permitted_by, is_renewal_permitted_by}
+use Rattle.office.specs.Permissions.{may_administer, may_ask, may_ask_about, is_permitted_to, is_renewal_permitted_to}
 use Rattle.office.specs.State.{State, next_serial, certificate_of, department_named, department_of_serial, is_ca}
 use Rattle.office.specs.State.{is_key_id_revoked, is_key_id_of_revoked, is_revoked}
 
@@ -54,10 +54,10 @@ department_refusals s caller d =
 
 abbrev pub issue_refusals : State → List ℕ → Issue → ℕ → List (Refusal × Bool)
 issue_refusals s caller i moment =
-    (NotAllowed, not (may_administer s.opening caller (department_named s i.department)))
+    (NotAllowed, not (may_ask s.opening caller (department_named s i.department) i.key_id))
     ∷ (NoDepartment, is_missing (department_named s i.department))
     ∷ (BadKeyId, not (bytes_eq i.department (department_of i.key_id)))
-    ∷ (NotPermitted, not (is_permitted_by (department_named s i.department) i))
+    ∷ (NotPermitted, not (is_permitted_to s.opening caller (department_named s i.department) i))
     ∷ (AlreadyEnded, nat_le i.before moment)
     ∷ (KeyIdRevoked, is_key_id_revoked s i.key_id)
     ∷ (SerialsExhausted, nat_lt s.opening.last (next_serial s))
@@ -65,11 +65,13 @@ issue_refusals s caller i moment =
 
 -- for a serial that wasn't issued, the conditions before `UnknownSerial` depend on the caller alone
 abbrev pub renewal_refusals : State → List ℕ → Renewal → ℕ → List (Refusal × Bool)
-renewal_refusals s caller r moment =
-    (NotAllowed, not (may_administer s.opening caller (department_of_serial s r.serial)))
+renewal_refusals s caller r moment = (
+  NotAllowed,
+  not (may_ask_about s.opening caller (department_of_serial s r.serial) (certificate_of s r.serial)),
+)
     ∷ (
       NotPermitted,
-      is_one_that (λ c. not (is_renewal_permitted_by (department_of_serial s r.serial) c r))
+      is_one_that (λ c. not (is_renewal_permitted_to s.opening caller (department_of_serial s r.serial) c r))
           (certificate_of s r.serial),
     )
     ∷ (AlreadyEnded, is_one_that (λ c. nat_le r.before moment) (certificate_of s r.serial))
@@ -91,7 +93,7 @@ delivery_refusals s caller d =
 
 abbrev pub serial_refusals : State → List ℕ → ℕ → List (Refusal × Bool)
 serial_refusals s caller serial =
-    (NotAllowed, not (may_administer s.opening caller (department_of_serial s serial)))
+    (NotAllowed, not (may_ask_about s.opening caller (department_of_serial s serial) (certificate_of s serial)))
     ∷ (UnknownSerial, is_none (certificate_of s serial))
     ∷ []
 

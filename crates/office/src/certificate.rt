@@ -25,14 +25,16 @@ pub(crate) fn copied_fields(alloc: Global, fields: &CertFields) -> Result<CertFi
     ensures { IfOk result (λ copy. copy ≡ fields.now) }
 {
     let names = both(fields.key_id.copied(alloc), fields.principals.copied(alloc));
+    let subject = both(names, fields.key.copied(alloc));
     let options = both(
         fields.options.copied(alloc),
         fields.extensions.copied(alloc),
     );
-    match both(names, options) {
-        Ok(((key_id, principals), (options, extensions))) => Ok(CertFields {
+    match both(subject, options) {
+        Ok((((key_id, principals), key), (options, extensions))) => Ok(CertFields {
+            key_type: fields.key_type,
             nonce: fields.nonce,
-            key: fields.key,
+            key,
             serial: fields.serial,
             kind: fields.kind,
             key_id,

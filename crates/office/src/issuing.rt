@@ -108,10 +108,12 @@ pub(crate) fn issued(
     ensures change { IfOk result (λ d. IsLawfulChange d.change) }
 {
     let (key_id, principals) = both_names(alloc, issue)?;
+    let key = issue.key.key.copied(alloc)?;
     let (options, extensions) = both_options(alloc, department.kind, issue)?;
     let fields = CertFields {
+        key_type: issue.key.key_type,
         nonce: *nonce,
-        key: issue.key.key,
+        key,
         serial: view.next,
         kind: department.kind,
         key_id,

@@ -7,7 +7,7 @@ ghost use Rattle.office.specs.Permissions.{is_permitted};
 ghost use Rattle.office.specs.Refusals.{department_refusals, first_holding, issue_refusals};
 ghost use Rattle.office.specs.Decided.{Agrees};
 
-use crate::permission::{is_permitted, may_administer};
+use crate::permission::{is_permitted_to, may_ask};
 use crate::view::View;
 use message::{Department, Issue, has_other_kind};
 use values::{Refusal, department_of};
@@ -47,7 +47,12 @@ pub(crate) fn refusal_of_issue(
         (λ d. IsTrue (is_permitted d issue.now)) }
     ensures there { result ≡ None → IsSome view.now.department }
 {
-    if !may_administer(view.opening, caller, view.department) {
+    if !may_ask(
+        view.opening,
+        caller,
+        view.department,
+        issue.key_id.as_slice(),
+    ) {
         return Some(Refusal::NotAllowed);
     }
     let Some(department) = view.department else {
@@ -56,7 +61,7 @@ pub(crate) fn refusal_of_issue(
     if !issue.department.is(department_of(issue.key_id.as_slice())) {
         return Some(Refusal::BadKeyId);
     }
-    if !is_permitted(department, issue) {
+    if !is_permitted_to(view.opening, caller, department, issue) {
         return Some(Refusal::NotPermitted);
     }
     if issue.before <= moment {

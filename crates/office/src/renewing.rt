@@ -12,7 +12,7 @@ ghost use Rattle.office.specs.Decided.{Agrees, Decided, HasRoom, IsLawfulChange,
 use crate::certificate::{Certificate, copied_fields};
 use crate::decision::certified;
 use crate::issuing::newest_key;
-use crate::permission::{is_renewal_permitted, may_administer};
+use crate::permission::{is_renewal_permitted_to, may_ask_about};
 use crate::view::{Decision, Stop, View};
 use cert::CertFields;
 use message::Renewal;
@@ -27,7 +27,7 @@ fn refusal_of_renewal(view: &View, caller: &[u8], renewal: &Renewal, moment: u64
     ensures order { result ≡ None → renewal.now.after < renewal.now.before }
     ensures there { result ≡ None → IsSome view.now.certificate }
 {
-    if !may_administer(view.opening, caller, view.department) {
+    if !may_ask_about(view.opening, caller, view.department, view.certificate) {
         return Some(Refusal::NotAllowed);
     }
     let Some(certificate) = view.certificate else {
@@ -36,7 +36,7 @@ fn refusal_of_renewal(view: &View, caller: &[u8], renewal: &Renewal, moment: u64
     let Some(department) = view.department else {
         return Some(Refusal::NotPermitted);
     };
-    if !is_renewal_permitted(department, certificate, renewal) {
+    if !is_renewal_permitted_to(view.opening, caller, department, certificate, renewal) {
         return Some(Refusal::NotPermitted);
     }
     if renewal.before <= moment {

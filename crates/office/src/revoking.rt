@@ -13,7 +13,7 @@ ghost use Rattle.office.specs.Decided.{Agrees, Decided, HasRoom, IsLawfulChange,
 ghost use Rattle.office.specs.declared.view.Change.TheVariants as change;
 
 use crate::decision::{published, unpublished};
-use crate::permission::may_administer;
+use crate::permission::{may_administer, may_ask_about};
 use crate::replies::to_revocation;
 use crate::view::{Change, Decision, Stop, View};
 use message::SerialRange;
@@ -27,7 +27,9 @@ fn refusal_of_serial(view: &View, caller: &[u8], serial: u64) -> Option<Refusal>
     ensures there { result ≡ None → IsSome (option_copied view.now.certificate) }
 {
     match view.certificate {
-        _ if !may_administer(view.opening, caller, view.department) => Some(Refusal::NotAllowed),
+        _ if !may_ask_about(view.opening, caller, view.department, view.certificate) => {
+            Some(Refusal::NotAllowed)
+        }
         Some(_) => None,
         None => Some(Refusal::UnknownSerial),
     }

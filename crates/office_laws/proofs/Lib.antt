@@ -1,6 +1,7 @@
 pub mod Words
 pub mod Brought
 pub mod Named
+pub mod Own
 pub mod Shape
 pub mod Signers
 pub mod Lists

@@ -1,4 +1,5 @@
 pub mod Named
+pub mod Own
 pub mod Signers
 pub mod Lists
 pub mod Bodies

@@ -4,7 +4,7 @@ use Rattle.store.proofs.Words.{IsAccepted, IsLawful, Kept, List, Message, None, 
 use Rattle.store.proofs.Words.{after, ap, arith, bytes_eq, bytes_eq-Decides, ca_from_now, ca_rows, cert_row}
 use Rattle.store.proofs.Words.{certificate_of, department_named, department_row, eq_by_cmp, false, first_holding}
 use Rattle.store.proofs.Words.{has_any, has_key, inl, inr, is_eq-slice_cmp, is_message, is_one_that}
-use Rattle.store.proofs.Words.{is_renewal_permitted_by, issued, judged, judged_is_first, kept_at, key_blob}
+use Rattle.store.proofs.Words.{issued, judged, judged_is_first, kept_at, key_blob}
 use Rattle.store.proofs.Words.{key_of_again, key_size, length, length-append, length-signed_at, list_any, map}
 use Rattle.store.proofs.Words.{message_with_text, nat_cmp, newest_key, none_holds, not, option_map, or_parts, refl}
 use Rattle.store.proofs.Words.{refusals, renewed, renewed_certificate, request_row, slice_cmp, state_at, subst, suc}
@@ -17,6 +17,7 @@ use Rattle.message.specs.declared.kinds.Message.TheVariants as message
 use Rattle.office.specs.State.{is_ca, department_of_serial}
 use Rattle.office.specs.Machine.{next_serial}
 use Rattle.message.specs.Permissions.{is_missing}
+use Rattle.office.specs.Permissions.{is_renewal_permitted_to}
 use Rattle.store.proofs.Ascending.{IsEntry}
 use Rattle.store.proofs.Accepted.{ok_from_is_ok_and}
 use Rattle.store.proofs.Lawful.{of_either}
@@ -132,7 +133,8 @@ module _ (s : State) (lawful : IsLawful s) (caller : List ℕ) (moment : ℕ) (n
       )
 
   renewed_own : (r : Renewal) (o : Option Certificate) → certificate_of s r.serial ≡ o
-      → is_one_that (λ c. not (is_renewal_permitted_by (department_of_serial s r.serial) c r)) o ≡ false
+      → is_one_that (λ c. not (is_renewal_permitted_to s.opening caller (department_of_serial s r.serial) c r)) o
+      ≡ false
       → s.certificates ++ cert ∷ []
       ≡ (with_one_more s
       (option_map (λ c. renewed_certificate c r (next_serial s) (newest_key s.opening s.cas) nonce) o)).certificates
@@ -140,8 +142,8 @@ module _ (s : State) (lawful : IsLawful s) (caller : List ℕ) (moment : ℕ) (n
   renewed_own r None e permitted same = absurd (no_longer _ _ cert refl same)
   renewed_own r (Some old) e permitted same =
       let named : department_of_serial s r.serial ≡ department_named s old.department = rw e refl in
-      let some = is_there (λ o. not (is_renewal_permitted_by o old r)) refl (department_named s old.department)
-      (subst (λ o. not (is_renewal_permitted_by o old r) ≡ false) named permitted) in
+      let some = is_there (λ o. not (is_renewal_permitted_to s.opening caller o old r)) refl (department_named s old.department)
+      (subst (λ o. not (is_renewal_permitted_to s.opening caller o old r) ≡ false) named permitted) in
       own (renewed_certificate old r (next_serial s) (newest_key s.opening s.cas) nonce) some.0 same refl some.1
 
   pub own_department : (m : Message) → first_holding (refusals s caller m moment) ≡ None

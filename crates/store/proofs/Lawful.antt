@@ -21,9 +21,10 @@ use Rattle.office.specs.Machine.{State, certificate_of, department_named, next_s
 use Rattle.office.specs.Machine.{department_of_serial}
 use Rattle.office.specs.Machine.{has_any, opened}
 use Rattle.office.specs.Views.{HasSerial}
-use Rattle.office.specs.Permissions.{is_permitted_by}
-use Rattle.message.specs.Permissions.{are_listed, is_life_permitted}
+use Rattle.office.specs.Permissions.{is_permitted_by, is_permitted_to, is_renewal_permitted_to, may_have}
+use Rattle.message.specs.Permissions.{are_listed, are_options_permitted, is_life_permitted}
 use Rattle.message.specs.Permissions.{meet_rules}
+use Rattle.values.specs.Names.{name_of}
 use Rattle.office.proofs.Issuable.{issuable_certificate, renewable_certificate}
 use Rattle.office.specs.History.{state}
 use Rattle.store.proofs.Ascending.{IsEntry, entries_put, names_put, texts_put}
@@ -118,10 +119,10 @@ made_by_issue s i ca nonce None left department issue permitted ca_size nonce_si
 renewal_order : (d : Option Department) (c : Certificate) (r : Renewal) → is_renewal_permitted_by d c r ≡ true
     → nat_lt r.after r.before ≡ true
 renewal_order (Some d) c r e =
-    let life : is_life_permitted d r.after r.before ≡ true =
-    (and_parts (are_listed d.extensions c.fields.extensions) _
-    (and_parts (are_listed d.options c.fields.options) _ (and_parts (meet_rules d c.fields.principals) _ e).1).1).1 in
-    (and_parts _ _ life).0
+    let rest = and_parts (are_listed d.extensions c.fields.extensions) _
+    (and_parts (are_options_permitted d c.fields.options) _
+    (and_parts (meet_rules d (name_of c.fields.key_id) c.fields.principals) _ e).1).1 in
+    (and_parts _ _ (and_parts (is_life_permitted d r.after r.before) _ rest.1).0).0
 renewal_order None c r e = absurd cc
 
 with_one_lawful : (s : State) (c : Certificate) → IsLawful s → IsCertificate c → c.signature ≡ None
@@ -133,14 +134,17 @@ with_one_lawful s c lawful is unsigned serial =
           (is, subst (λ o. IfSome o (λ (x : Signature). length x.bytes ≡ 64)) (sym unsigned) tt),
     )
 
-renewed_lawful : (s : State) (r : Renewal) (nonce : List ℕ) (o : Option Certificate) (d : Option Department)
-    → IsLawful s → HasSerial (counters s) → is_renewal r ≡ true → length nonce ≡ 32 → IfSome o IsIssued
-    → is_one_that (λ c. not (is_renewal_permitted_by d c r)) o ≡ false → certificate_of s r.serial ≡ o
+renewed_lawful : (s : State) (caller : List ℕ) (r : Renewal) (nonce : List ℕ) (o : Option Certificate)
+    (d : Option Department) → IsLawful s → HasSerial (counters s) → is_renewal r ≡ true → length nonce ≡ 32
+    → IfSome o IsIssued → is_one_that (λ c. not (is_renewal_permitted_to s.opening caller d c r)) o ≡ false
+    → certificate_of s r.serial ≡ o
     → IsLawful (with_one_more s (renewed s r nonce))
-renewed_lawful s r nonce None d lawful left renewal size is permitted e = rw e lawful
-renewed_lawful s r nonce (Some c) d lawful left renewal size is permitted e =
+renewed_lawful s caller r nonce None d lawful left renewal size is permitted e = rw e lawful
+renewed_lawful s caller r nonce (Some c) d lawful left renewal size is permitted e =
     let order : nat_lt r.after r.before ≡ true =
-    renewal_order d c r (not_false (is_renewal_permitted_by d c r) permitted) in
+    renewal_order d c r (and_parts (is_renewal_permitted_by d c r)
+    (may_have s.opening caller d c.fields.key_id c.fields.principals)
+    (not_false (is_renewal_permitted_to s.opening caller d c r) permitted)).0 in
     let ca = newest_key s.opening s.cas in
     let made : IsCertificate (renewed_certificate c r (next_serial s) ca nonce) =
     renewable_certificate (counters s) c r ca nonce
@@ -184,11 +188,14 @@ keeps_lawful s caller (message.Issue i) moment nonce is allowed size lawful =
     let made : IsCertificate (issued s i nonce) =
     made_by_issue s i (newest_key s.opening s.cas) nonce (department_named s i.department)
     (has_serial s lawful tests.1.1.1.1.1.1.0) (named_lawful s i.department lawful) is
-    (not_false (is_permitted_by (department_named s i.department) i) tests.1.1.1.0) (newest_lawful s lawful) size in
+    (and_parts (is_permitted_by (department_named s i.department) i)
+    (may_have s.opening caller (department_named s i.department) i.key_id i.principals)
+    (not_false (is_permitted_to s.opening caller (department_named s i.department) i) tests.1.1.1.0)).0
+    (newest_lawful s lawful) size in
     with_one_lawful s (issued s i nonce) lawful made refl refl
 keeps_lawful s caller (message.Renew r) moment nonce is allowed size lawful =
     let tests = none_holds (refusals s caller (message.Renew r) moment) allowed in
-    renewed_lawful s r nonce (certificate_of s r.serial) (department_of_serial s r.serial) lawful
+    renewed_lawful s caller r nonce (certificate_of s r.serial) (department_of_serial s r.serial) lawful
     (has_serial s lawful tests.1.1.1.1.1.1.1.0) is size (issued_lawful s r.serial lawful) tests.1.0 refl
 keeps_lawful s caller (message.Deliver d) moment nonce is allowed size lawful =
     let place = d.serial - s.opening.first in

@@ -7,7 +7,8 @@ use Rattle.store.proofs.Words.{map, nat_cmp, nat_list_cmp_total, nat_list_eq_equ
 use Rattle.store.proofs.Words.{slice_cmp, subst, sym, true, ℕ, ◌&&◌, ◌<◌, ◌^◌, ◌∙◌, ◌∷◌, ◌≡◌}
 use Rattle.sqlite_trees.proofs.ListLemmas.{all-map, filter_all}
 use Rattle.message.specs.Values.{are_administrators}
-use Rattle.message.specs.Values.{are_rules, fits_kind, is_longest_life}
+use Rattle.message.specs.Values.{are_demands, are_key_types_or_none}
+use Rattle.message.specs.Values.{are_rules, fits_bare_name, fits_kind, has_bare_name, is_longest_life}
 use Rattle.store.proofs.Spans.{moved}
 use Rattle.store.proofs.DepartmentRows.{department_rows}
 
@@ -66,10 +67,11 @@ put_named d (e ∷ es) all up = by_case (put_named d es all.1 up.1) (slice_cmp n
 
 -- ---- the longest lifetime
 
-sixth : (a b c e f l r : Bool) → (a && (b && (c && (e && (f && (l && r)))))) ≡ true → l ≡ true
-sixth a b c e f l r is =
+eighth : (a b c e m f t l r : Bool) → (a && (b && (c && (e && (m && (f && (t && (l && r)))))))) ≡ true → l ≡ true
+eighth a b c e m f t l r is =
     let third = and_parts c _ (and_parts b _ (and_parts a _ is).1).1 in
-    (and_parts l r (and_parts f _ (and_parts e _ third.1).1).1).0
+    let sixth = and_parts f _ (and_parts m _ (and_parts e _ third.1).1).1 in
+    (and_parts l r (and_parts t _ sixth.1).1).0
 
 low : (n : ℕ) → is_longest_life n ≡ true → n < 2 ^ 63
 low n is = grind (arith, nat_tests)
@@ -77,7 +79,9 @@ low n is = grind (arith, nat_tests)
 -- it is a number that a column can hold
 pub life_fits : (d : Department) → is_department d ≡ true → d.longest_life < 2 ^ 63
 life_fits d is =
-    low d.longest_life (sixth (is_name d.name) (are_administrators d.administrators) (are_rules d.rules)
-    (are_option_names d.options && fits_kind d.kind d.options)
-    (are_extension_names d.extensions && fits_kind d.kind d.extensions) (is_longest_life d.longest_life)
-    (are_namespaces d.namespaces && fits_kind d.kind d.namespaces) is)
+    low d.longest_life (eighth (is_name d.name) (are_administrators d.administrators) (are_rules d.rules)
+    (are_option_names d.options && fits_kind d.kind d.options) (are_demands d.kind d.demands)
+    (are_extension_names d.extensions && fits_kind d.kind d.extensions) (are_key_types_or_none d.key_types)
+    (is_longest_life d.longest_life)
+    (are_namespaces d.namespaces
+    && (fits_kind d.kind d.namespaces && fits_bare_name (has_bare_name d.rules) d.namespaces)) is)

@@ -1,11 +1,13 @@
 -- The rows of an office: those of its state and of its stored requests.
 use Rattle.std.specs.Prelude.{ℕ, suc, List, [], ◌∷◌, length, map}
+use Rattle.std.specs.List.{join_with_byte}
 use Rattle.std.specs.Option.{option_map}
 use Rattle.lines.specs.Keys.{key_blob}
 use Rattle.lines.specs.Signers.{list_text}
 use Rattle.krl.specs.declared.run.Run.{Run}
 use Rattle.krl.specs.Sets.{runs_in}
 use Rattle.message.specs.declared.department.Department.{Department}
+use Rattle.message.specs.Texts.{demand_line, key_types_lines}
 use Rattle.office.specs.declared.opening.Opening.{Opening}
 use Rattle.office.specs.declared.ca.Ca.{Ca}
 use Rattle.office.specs.declared.certificate.Certificate.{Certificate}
@@ -37,14 +39,16 @@ office_row s = record {
   date = s.date;
 }
 
+-- the options are followed by the lines of those that certificates must have, the extensions by the line of key types,
+-- each after a line feed
 abbrev pub department_row : Department → DepartmentRow
 department_row d = record {
   name = d.name;
   kind = kind_number d.kind;
   admins = list_text d.administrators;
   rules = list_text d.rules;
-  options = list_text d.options;
-  extensions = list_text d.extensions;
+  options = join_with_byte 10 (list_text d.options ∷ map demand_line d.demands);
+  extensions = join_with_byte 10 (list_text d.extensions ∷ key_types_lines d.key_types);
   max_life = d.longest_life;
   namespaces = list_text d.namespaces;
 }

@@ -1,4 +1,5 @@
-//! Bytes that aren't an unsigned certificate (body), and pairs that aren't options.
+//! Bytes that aren't an unsigned certificate (body), bodies for keys of all types, and pairs that aren't options.
 
 mod faults;
+mod keys;
 mod options;

@@ -2,6 +2,7 @@ pub mod DecimalLemmas
 pub mod Lacking
 pub mod NetworkLemmas
 pub mod NameLemmas
+pub mod OwnNames
 pub mod SerialLemmas
 pub mod KindLemmas
 pub mod NetworkLaws

@@ -1,6 +1,6 @@
 -- Rules and key IDs, in terms of their texts.
 use Rattle.std.proofs.Common.{false, ◌≡◌, ◌<◌, ◌-◌, inl, inr, ℕ, List, [], ◌∷◌, ◌++◌, length}
-use Rattle.std.proofs.Common.{take, drop, true, ◌&&◌, not, ◌==◌, nat_lt, arith, ap, sym}
+use Rattle.std.proofs.Common.{take, drop, true, ◌&&◌, ◌||◌, not, ◌==◌, nat_lt, arith, ap, sym}
 use Rattle.std.proofs.Common.{◌∙◌, refl, subst, length-append, length-take, take-append-drop}
 use Rattle.std.specs.List.{list_all, prefix_len}
 use Rattle.std.specs.Str.{bytes_eq}
@@ -10,7 +10,7 @@ use Rattle.std.proofs.lemmas.Slice.Eq.{bytes_eq-Decides}
 use Rattle.std.proofs.Math.Seq.{drop-append_seam}
 use Rattle.values.proofs.Lacking.{Lacks, lacks_from, before_first-append}
 use Rattle.values.specs.Laws.{Meets, MeetsSuffix, IsKeyId}
-use Rattle.values.specs.Names.{has_size, is_name, is_name_byte, meets, meets_suffix, ends_longer}
+use Rattle.values.specs.Names.{has_size, is_name, is_name_byte, meets_suffix, ends_longer}
 use Rattle.values.specs.Names.{department_of, is_key_id, is_key_id_end, is_key_id_byte}
 
 ends_longer_found : (t suffix : List ℕ) → ends_longer t suffix ≡ true → MeetsSuffix t (42 ∷ suffix)
@@ -49,17 +49,20 @@ meets_suffix_from principal rule m =
     ∙ ap (λ t. ends_longer t m.suffix) m.spelled
     ∙ ends_longer_from m.front m.suffix m.longer
 
--- a principal meets a rule exactly when it is the rule, or is longer than the rule's suffix and ends with it
-pub meets_found : (principal rule : List ℕ) → meets principal rule ≡ true → Meets principal rule
-meets_found principal rule h = elim (or_cases (bytes_eq principal rule) (meets_suffix principal rule) h) [
+-- a principal meets a rule without {name} exactly when it is the rule, or is longer than the rule's suffix and ends
+-- with it
+pub plain_found : (principal rule : List ℕ) → (bytes_eq principal rule || meets_suffix principal rule) ≡ true
+    → Meets principal rule
+plain_found principal rule h = elim (or_cases (bytes_eq principal rule) (meets_suffix principal rule) h) [
   | inl same ↦ inl ((bytes_eq-Decides principal rule).0 same)
   | inr ends ↦ inr (meets_suffix_found principal rule ends)
 ]
 
-pub meets_from : (principal rule : List ℕ) → Meets principal rule → meets principal rule ≡ true
-meets_from principal rule (inl same) =
+pub plain_from : (principal rule : List ℕ) → Meets principal rule
+    → (bytes_eq principal rule || meets_suffix principal rule) ≡ true
+plain_from principal rule (inl same) =
     or_left (bytes_eq principal rule) (meets_suffix principal rule) ((bytes_eq-Decides principal rule).1 same)
-meets_from principal rule (inr m) =
+plain_from principal rule (inr m) =
     or_right (bytes_eq principal rule) (meets_suffix principal rule) (meets_suffix_from principal rule m)
 
 -- the rest after the department in a key ID

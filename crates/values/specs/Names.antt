@@ -1,6 +1,8 @@
 -- Names, principals, rules, key IDs and namespaces.
-use Rattle.std.specs.Prelude.{ℕ, ◌-◌, List, [], ◌∷◌, length, drop, Bool, false, ◌&&◌, ◌||◌, not, ◌==◌, nat_le, nat_lt}
+use Rattle.std.specs.Prelude.{ℕ, ◌+◌, ◌-◌, List, [], ◌∷◌, ◌++◌, length, take, drop, codes, Bool, true, false, ◌&&◌}
+use Rattle.std.specs.Prelude.{◌||◌, not, ◌==◌, nat_le, nat_lt, if◌then◌else◌, Option, Some, None, is_some}
 use Rattle.std.specs.List.{list_all, take_while}
+use Rattle.std.specs.Option.{option_map_or}
 use Rattle.std.specs.Str.{bytes_eq}
 
 -- `low` to `high` bytes
@@ -32,9 +34,26 @@ abbrev pub is_suffix_rule : List ℕ → Bool
 is_suffix_rule [] = false
 is_suffix_rule (b ∷ suffix) = b == 42 && (has_size 1 63 suffix && list_all is_principal_byte suffix)
 
--- a principal, or * and a suffix
+-- nothing, or . or @ and 1 to 62 more bytes
+abbrev pub is_name_end : List ℕ → Bool
+is_name_end [] = true
+is_name_end (b ∷ rest) = (b == 46 || b == 64) && (has_size 1 62 rest && list_all is_principal_byte rest)
+
+-- what follows the front, if the text begins with it
+abbrev pub after_front : (front t : List ℕ) → Option (List ℕ)
+after_front front t = if bytes_eq (take (length front) t) front then Some (drop (length front) t) else None
+
+-- what follows {name}, if the text begins with it
+abbrev pub after_name : List ℕ → Option (List ℕ)
+after_name t = after_front (codes "{name}") t
+
+-- {name}, alone or with a suffix
+abbrev pub is_name_rule : List ℕ → Bool
+is_name_rule t = option_map_or is_name_end (after_name t) false
+
+-- a principal, * and a suffix, or {name}, alone or with a suffix
 abbrev pub is_rule : List ℕ → Bool
-is_rule t = is_principal t || is_suffix_rule t
+is_rule t = is_principal t || (is_suffix_rule t || is_name_rule t)
 
 -- the text ends with the suffix and is longer than it
 abbrev pub ends_longer : List ℕ → List ℕ → Bool
@@ -45,9 +64,19 @@ abbrev pub meets_suffix : List ℕ → List ℕ → Bool
 meets_suffix principal [] = false
 meets_suffix principal (b ∷ suffix) = b == 42 && ends_longer principal suffix
 
--- the principal meets the rule
-abbrev pub meets : List ℕ → List ℕ → Bool
-meets principal rule = bytes_eq principal rule || meets_suffix principal rule
+-- the principal is the name and what follows {name} in the rule. If nothing follows, it isn't root
+abbrev pub meets_name : (name principal end : List ℕ) → Bool
+meets_name name principal end =
+    bytes_eq principal (name ++ end) && not (length end == 0 && bytes_eq principal (codes "root"))
+
+-- the principal, of a certificate whose key ID has this name, meets the rule
+abbrev pub meets : (name principal rule : List ℕ) → Bool
+meets name principal rule =
+    option_map_or (meets_name name principal) (after_name rule) (bytes_eq principal rule || meets_suffix principal rule)
+
+-- the rule begins with {name}
+abbrev pub is_for_names : List ℕ → Bool
+is_for_names rule = is_some (after_name rule)
 
 -- a printable byte other than a space
 abbrev pub is_key_id_byte : ℕ → Bool
@@ -56,6 +85,10 @@ is_key_id_byte b = nat_le 33 b && nat_le b 126
 -- the part before the first /, or the whole text if there is none
 abbrev pub department_of : List ℕ → List ℕ
 department_of key_id = take_while (λ b. not (b == 47)) key_id
+
+-- the name in a key ID: what follows its first /, up to the next / or the end
+abbrev pub name_of : List ℕ → List ℕ
+name_of key_id = take_while (λ b. not (b == 47)) (drop (length (department_of key_id) + 1) key_id)
 
 -- / and 1 to 64 printable bytes
 abbrev pub is_key_id_end : List ℕ → Bool
@@ -69,3 +102,21 @@ is_key_id t = is_name (department_of t) && is_key_id_end (drop (length (departme
 -- a namespace of signatures: 1 to 32 bytes of a principal's alphabet
 abbrev pub is_namespace : List ℕ → Bool
 is_namespace t = has_size 1 32 t && list_all is_principal_byte t
+
+-- what {name} follows, if the text ends with it
+abbrev pub before_name : List ℕ → Option (List ℕ)
+before_name t =
+    if bytes_eq (drop (length t - 6) t) (codes "{name}") then Some (take (length t - 6) t) else None
+
+-- 0 to 31 bytes of a name's alphabet
+abbrev pub is_prefix : List ℕ → Bool
+is_prefix t = has_size 0 31 t && list_all is_name_byte t
+
+-- an administrator: the name of a caller, or {name}, alone or after a prefix
+abbrev pub is_administrator : List ℕ → Bool
+is_administrator t = is_name t || option_map_or is_prefix (before_name t) false
+
+-- the administrator is {name} after a prefix, and the caller is that prefix and the name
+abbrev pub is_meant : (name caller administrator : List ℕ) → Bool
+is_meant name caller administrator =
+    option_map_or (λ prefix. bytes_eq caller (prefix ++ name)) (before_name administrator) false

@@ -1,7 +1,8 @@
 -- IPv4 networks in CIDR notation (RFC 4632 section 3.1), as in the source-address option (PROTOCOL.certkeys).
 use Rattle.std.specs.Prelude.{◌≡◌, ℕ, ◌+◌, ◌-◌, ◌*◌, ◌^◌, ◌%◌, ◌<◌, ◌≤◌, List, ◌++◌, length, fold, codes}
 use Rattle.std.specs.Prelude.{decimal, Bool, false, ◌&&◌, ◌==◌, nat_le, Option, Some, None, if◌then◌else◌}
-use Rattle.std.specs.List.{list_all, slice_split, before_first, after_first}
+use Rattle.std.specs.Option.{option_and_then, option_map}
+use Rattle.std.specs.List.{list_all, list_any, slice_split, before_first, after_first}
 use Rattle.std.specs.Net.Text.{dotted_text}
 use Rattle.std.specs.Str.Parse.{digits_value}
 use Rattle.values.specs.Decimals.{is_number_below, number_of}
@@ -33,6 +34,31 @@ is_network t = is_block (address_of (before_first (λ b. b == 47) t)) (number_of
 abbrev pub are_networks : List ℕ → Bool
 are_networks t =
     let networks = slice_split (λ b. b == 44) t in nat_le (length networks) 8 && list_all is_network networks
+
+-- the address and the size in a text
+abbrev pub block_at : List ℕ → Option (ℕ × ℕ)
+block_at t =
+    option_and_then (λ address. option_map (λ size. (address, size)) (number_of (after_first (λ b. b == 47) t)))
+    (address_of (before_first (λ b. b == 47) t))
+
+-- the address with its first `size` bits, and the others zero
+abbrev pub first_bits : (address size : ℕ) → ℕ
+first_bits address size = address - address % 2 ^ (32 - size)
+
+-- an address and a size, and whether all of its addresses are among those of another
+abbrev pub is_within : Option (ℕ × ℕ) → Option (ℕ × ℕ) → Bool
+is_within None outer = false
+is_within (Some inner) None = false
+is_within (Some inner) (Some outer) = nat_le outer.1 inner.1 && first_bits inner.0 outer.1 == outer.0
+
+-- whether the first network lies in the second
+abbrev pub lies_in : List ℕ → List ℕ → Bool
+lies_in inner outer = is_within (block_at inner) (block_at outer)
+
+-- whether each of the networks, joined by commas, lies in one of the others
+abbrev pub lie_in : List ℕ → List ℕ → Bool
+lie_in inner outer =
+    list_all (λ network. list_any (lies_in network) (slice_split (λ b. b == 44) outer)) (slice_split (λ b. b == 44) inner)
 
 -- a network as numbers
 pub record Network : Type 0 where

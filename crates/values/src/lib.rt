@@ -5,6 +5,7 @@
 //! A refusal's number, name and status are in one table here, and nowhere else.
 #![tactic(auto)]
 
+mod administrator;
 mod decimal;
 mod kind;
 mod laws;
@@ -18,21 +19,23 @@ mod refusal;
 mod rule;
 mod serial;
 
+pub use administrator::{is_administrator, is_meant};
 pub use decimal::{put_decimal, read_decimal};
 pub use kind::Kind;
 pub use laws::{
-    distinct_texts_differ_at_each_place, key_ids_begin_with_departments,
-    networks_are_spelled_one_way, rules_are_met_by_suffixes,
+    callers_are_meant_by_names, distinct_texts_differ_at_each_place,
+    key_ids_begin_with_departments, key_ids_have_names, networks_are_spelled_one_way,
+    rules_are_met_by_names, rules_are_met_by_suffixes,
 };
 pub use limits::{
     LAST_SERIAL, LATEST_MOMENT, LONGEST_LIFE, MOST_ADMINISTRATORS, MOST_NAMESPACES,
     MOST_PRINCIPALS, MOST_RULES,
 };
 pub use lists::{are_distinct, is_member};
-pub use names::{department_of, is_key_id, is_name, is_namespace, is_principal};
-pub use network::{are_networks, is_network};
+pub use names::{department_of, is_key_id, is_name, is_namespace, is_principal, name_of};
+pub use network::{are_networks, is_network, lie_in};
 pub use option_field::{OptionField, is_flag, is_known};
 pub use option_value::is_option_value;
 pub use refusal::Refusal;
-pub use rule::{is_rule, meets};
+pub use rule::{after_name, is_for_names, is_rule, meets};
 pub use serial::{are_serials, is_serial};

@@ -14,6 +14,7 @@ ghost use Rattle.values.specs.Names.{
   is_namespace,
   is_principal,
   is_principal_byte,
+  name_of,
 };
 
 /// Whether there are `low` to `high` bytes.
@@ -47,7 +48,8 @@ fn is_key_id_byte(byte: u8) -> bool
     byte.is_ascii_graphic()
 }
 
-fn has_name_bytes(text: &[u8]) -> bool
+/// Whether each byte is in the alphabet of names.
+pub(crate) fn has_name_bytes(text: &[u8]) -> bool
     ensures { result ≡ list_all is_name_byte text.now }
 {
     text.iter().all(|b| is_name_byte(*b))
@@ -101,6 +103,18 @@ pub fn department_of(key_id: &[u8]) -> &[u8]
     match first_slash(key_id) {
         Some(end) => &key_id[..end],
         None => key_id,
+    }
+}
+
+/// The name in a key ID: what follows its first `/`, up to the next `/` or the end. It may be empty.
+pub fn name_of(key_id: &[u8]) -> &[u8]
+    ensures { result.now ≡ name_of key_id.now }
+{
+    let department = department_of(key_id);
+    if department.len() < key_id.len() {
+        department_of(&key_id[department.len() + 1..])
+    } else {
+        &key_id[key_id.len()..]
     }
 }
 

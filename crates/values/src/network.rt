@@ -1,8 +1,18 @@
 //! Networks, as in the source-address option.
 
 ghost use Rattle.std.specs.Prelude.{◌≡◌, ◌==◌, length};
-ghost use Rattle.std.specs.List.{list_all, slice_split};
-ghost use Rattle.values.specs.Networks.{address_of, are_networks, is_block, is_network};
+ghost use Rattle.std.specs.List.{list_all, list_any, slice_split};
+ghost use Rattle.values.specs.Networks.{
+  address_of,
+  are_networks,
+  block_at,
+  first_bits,
+  is_block,
+  is_network,
+  is_within,
+  lie_in,
+  lies_in,
+};
 
 use crate::decimal::read_decimal;
 use crate::names::first_slash;
@@ -58,4 +68,61 @@ pub fn are_networks(text: &[u8]) -> bool
     ensures { result ≡ are_networks text.now }
 {
     piece_count(text) <= MOST_NETWORKS && all_networks(text)
+}
+
+/// The address and the size in a text.
+fn block_at(text: &[u8]) -> Option<(u32, u64)>
+    ensures { result ≡ block_at text.now }
+{
+    let slash = first_slash(text)?;
+    let address = address_of(&text[..slash])?;
+    let size = read_decimal(&text[slash + 1..])?;
+    Some((address, size))
+}
+
+/// The address with its first `size` bits, and the others zero.
+fn first_bits(address: u32, size: u64) -> u64
+    ensures { result ≡ first_bits address size }
+{
+    let address = address as u64;
+    if size <= 32 {
+        address - address % 2u64.pow(32 - size as u32)
+    } else {
+        address
+    }
+}
+
+fn is_within(inner: Option<(u32, u64)>, outer: Option<(u32, u64)>) -> bool
+    ensures { result ≡ is_within inner outer }
+{
+    match (inner, outer) {
+        (Some((inner, inner_size)), Some((outer, outer_size))) => {
+            outer_size <= inner_size && first_bits(inner, outer_size) == outer as u64
+        }
+        _ => false,
+    }
+}
+
+/// Whether the first network lies in the second.
+fn lies_in(inner: &[u8], outer: &[u8]) -> bool
+    ensures { result ≡ lies_in inner.now outer.now }
+{
+    is_within(block_at(inner), block_at(outer))
+}
+
+fn lies_in_one(inner: &[u8], outer: &[u8]) -> bool
+    ensures { result ≡ list_any (lies_in inner.now) (slice_split (λ b. b == 44) outer.now) }
+{
+    outer
+        .split(|b| *b == b',')
+        .any(|network| lies_in(inner, network))
+}
+
+/// Whether each of the networks, joined by commas, lies in one of the others.
+pub fn lie_in(inner: &[u8], outer: &[u8]) -> bool
+    ensures { result ≡ lie_in inner.now outer.now }
+{
+    inner
+        .split(|b| *b == b',')
+        .all(|network| lies_in_one(network, outer))
 }

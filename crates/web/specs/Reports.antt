@@ -2,6 +2,8 @@
 use Rattle.std.specs.Prelude.{ℕ, suc, List, [], ◌∷◌, ◌++◌, length, drop, map, Bool, true, false, ◌&&◌, nat_lt, codes}
 use Rattle.std.specs.Prelude.{decimal, if◌then◌else◌}
 use Rattle.std.specs.List.{flat_map}
+use Rattle.std.specs.Option.{option_map_or}
+use Rattle.values.specs.Names.{after_name}
 use Rattle.values.specs.declared.kind.Kind.{Kind}
 use Rattle.values.specs.declared.kind.Kind.TheVariants.{User, Host}
 use Rattle.lines.specs.Digests.{fingerprint_text}
@@ -57,8 +59,12 @@ is_of_users Host = false
 abbrev pub is_signing : Department → Bool
 is_signing d = is_of_users d.kind && nat_lt 0 (length d.namespaces)
 
+-- the pattern (ssh_config(5), PATTERNS) of the principals that meet a rule: for {name} and a suffix, * and the suffix
+abbrev pub pattern_of : List ℕ → List ℕ
+pattern_of rule = option_map_or (λ end. 42 ∷ end) (after_name rule) rule
+
 abbrev pub signer_row : Department → Ca → SignerRow
-signer_row d ca = record { rules = d.rules; namespaces = d.namespaces; ca = ca.key }
+signer_row d ca = record { rules = map pattern_of d.rules; namespaces = d.namespaces; ca = ca.key }
 
 -- a row for each CA by number, if the department signs
 abbrev pub signer_rows_of : List Ca → Department → List SignerRow

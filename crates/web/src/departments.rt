@@ -1,6 +1,6 @@
 //! The texts of the departments.
 
-ghost use Rattle.std.specs.Prelude.{◌≡◌, ◌++◌, IfOk, OnOk, IfErr};
+ghost use Rattle.std.specs.Prelude.{◌≡◌, IfOk, OnOk, IfErr};
 ghost use Rattle.http_requests.specs.declared.resource.Resource.TheVariants as resource;
 ghost use Rattle.http_requests.specs.declared.response.MediaType.TheVariants.{PlainText};
 ghost use Rattle.http_requests.specs.Responses.{response_text};
@@ -8,31 +8,21 @@ ghost use Rattle.office.specs.History.{state};
 ghost use Rattle.office.specs.Faults.{HasRegisterCause};
 ghost use Rattle.office.specs.Registers.{AnswersBy, FailsAsARegister, Preserves};
 ghost use Rattle.web.specs.Forms.{MayShow};
-ghost use Rattle.web.specs.Reports.{department_report, department_reports, departments_report};
+ghost use Rattle.web.specs.Reports.{department_reports, departments_report};
 
 use crate::room::around;
 use http_requests::MediaType;
-use message::{Department, Message, write_message};
+use message::{Department, put_department};
 use office::{Registry, StoreFault};
 use std::alloc::Global;
 use text::NoMemory;
-
-/// Appends the text of a department.
-fn put_department(out: &mut Vec<u8>, alloc: Global, department: &Department) -> Result<(), NoMemory>
-    ensures { OnOk result (out.new.items ≡ out.old.items ++ department_report department.now) }
-{
-    let message = Message::Department(department.copied(alloc)?);
-    let text = write_message(alloc, &message)?;
-    out.extend_from_slice(&text)?;
-    Ok(())
-}
 
 fn department_reports(alloc: Global, departments: &[Department]) -> Result<Vec<u8>, NoMemory>
     ensures { IfOk result (λ v. v.items ≡ department_reports departments.now) }
 {
     let mut out = Vec::new(alloc);
     for department in departments {
-        put_department(&mut out, alloc, department)?;
+        put_department(&mut out, department)?;
     }
     Ok(out)
 }

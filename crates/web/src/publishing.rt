@@ -1,6 +1,6 @@
 //! Published data: the key revocation list, the allowed signers and the CAs.
 
-ghost use Rattle.std.specs.Prelude.{◌≡◌, ◌++◌, length, IsTrue, IfOk, OnOk, IfErr};
+ghost use Rattle.std.specs.Prelude.{◌≡◌, ◌++◌, length, map, IsTrue, IfOk, OnOk, IfErr};
 ghost use Rattle.krl.specs.Published.{fits, published_text};
 ghost use Rattle.http_requests.specs.declared.resource.Resource.TheVariants as resource;
 ghost use Rattle.http_requests.specs.declared.response.MediaType.TheVariants.{PlainText, Bytes};
@@ -14,8 +14,8 @@ ghost use Rattle.lines.specs.Signers.{signers_text};
 ghost use Rattle.web.specs.Answers.{ListFits};
 ghost use Rattle.web.specs.Causes.{FailsAfter, IsOfAList};
 ghost use Rattle.web.specs.Forms.{MayShow};
-ghost use Rattle.web.specs.Reports.{ca_line, ca_lines, ca_report, is_signing, signer_row, signer_rows, signer_rows_of};
-ghost use Rattle.web.specs.Reports.{signers_report};
+ghost use Rattle.web.specs.Reports.{ca_line, ca_lines, ca_report, is_signing, pattern_of, signer_row, signer_rows};
+ghost use Rattle.web.specs.Reports.{signer_rows_of, signers_report};
 
 use crate::pieces::{put_number, put_pieces};
 use crate::room::{around, room};
@@ -25,8 +25,8 @@ use lines::{KeyLine, SignerRow, fingerprint, write_signers};
 use message::Department;
 use office::{Ca, MOST_CAS, Registry, Revoked, StoreFault};
 use std::alloc::Global;
-use text::NoMemory;
-use values::{Kind, put_decimal};
+use text::{NoMemory, Text, Texts};
+use values::{Kind, after_name, put_decimal};
 use wire::VecSink;
 
 /// The response with a list, written from front to back into the room for it. A section whose length doesn't fit in 32
@@ -79,11 +79,34 @@ fn is_signing(department: &Department) -> bool
     }
 }
 
+/// The pattern of the principals that meet a rule.
+fn pattern_of(alloc: Global, rule: &[u8]) -> Result<Text, NoMemory>
+    ensures { IfOk result (λ t. t ≡ pattern_of rule.now) }
+{
+    let Some(end) = after_name(rule) else {
+        return Text::from_slice(alloc, rule);
+    };
+    let mut pattern = Vec::new(alloc);
+    pattern.push(b'*')?;
+    pattern.extend_from_slice(end)?;
+    Ok(Text::from_vec(pattern))
+}
+
+fn patterns_of(alloc: Global, rules: &[Text]) -> Result<Texts, NoMemory>
+    ensures { IfOk result (λ ts. ts ≡ map pattern_of rules.now) }
+{
+    let mut patterns = Texts::new(alloc);
+    for rule in rules {
+        patterns.push(pattern_of(alloc, rule.as_slice())?)?;
+    }
+    Ok(patterns)
+}
+
 fn signer_row(alloc: Global, department: &Department, ca: &Ca) -> Result<SignerRow, NoMemory>
     ensures { IfOk result (λ row. row ≡ signer_row department.now ca.now) }
 {
     Ok(SignerRow {
-        rules: department.rules.copied(alloc)?,
+        rules: patterns_of(alloc, department.rules.as_slice())?,
         namespaces: department.namespaces.copied(alloc)?,
         ca: ca.key,
     })

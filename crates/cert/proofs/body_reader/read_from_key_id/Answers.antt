@@ -34,5 +34,5 @@ returns-in_err-ca c =
 
 pub returns : goal.returns
 returns c =
-    in_four _ _ _ _ _ ∙ goes_on _ _ _ c.in_ok-key_id.ensures ∙ goes_on _ _ _ c.in_ok-after.ensures
+    in_four _ _ _ _ _ _ ∙ goes_on _ _ _ c.in_ok-key_id.ensures ∙ goes_on _ _ _ c.in_ok-after.ensures
     ∙ goes_on _ _ _ c.in_ok-options.ensures ∙ goes_on _ _ _ c.in_ok-ca.ensures

@@ -6,7 +6,6 @@ abbrev pub invariant-loop-rest : goal.invariant-loop-rest
 invariant-loop-rest l = record {
   counted : l.number + length l.rest ≡ length l.pieces + 1;
   started : 1 ≤ l.number;
-  few : l.left ≤ 7;
   left : policy_from l.left l.number l.departments.items (map (λ x. x.now) l.rest)
       ≡ policy_from 0 1 [] (map (λ x. x.now) l.pieces);
 }

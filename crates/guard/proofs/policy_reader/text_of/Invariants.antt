@@ -4,4 +4,4 @@ use Rattle.guard.proofs.policy_reader.text_of.Given as goal
 
 abbrev pub invariant-loop-line : goal.invariant-loop-line
 invariant-loop-line l =
-    l.text.items ++ text_of (8 - l._line) (map (λ x. x.now) l.rest) ≡ text_of 8 (map (λ x. x.now) l.pieces)
+    l.text.items ++ text_of (l.size - l._line) (map (λ x. x.now) l.rest) ≡ text_of l.size (map (λ x. x.now) l.pieces)

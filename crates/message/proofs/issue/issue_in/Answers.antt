@@ -6,7 +6,7 @@ use Rattle.message.proofs.issue.issue_in.Goals as goal
 pub returns-in-Ok : goal.returns-in-Ok
 returns-in-Ok c =
     let names = both_give _ _ _ _ _ c.both-names.ensures.is c.text_after.ensures c.text_after-2.ensures in
-    let holder = both_give _ _ _ _ _ c.both-holder.ensures.is c.key_line_after.ensures c.list_in.ensures in
+    let holder = both_give _ _ _ _ _ c.both-holder.ensures.is c.subject_line_after.ensures c.list_in.ensures in
     let validity = both_give _ _ _ _ _ c.both-validity.ensures.is c.end_after.ensures c.end_after-2.ensures in
     let subject = both_give _ _ _ _ _ c.both-subject.ensures.is names holder in
     let terms = both_give _ _ _ _ _ c.both-terms.ensures.is validity c.extras_in.ensures in
@@ -15,7 +15,7 @@ returns-in-Ok c =
 pub returns-in-Err : goal.returns-in-Err
 returns-in-Err c =
     let names = both_give _ _ _ _ _ c.both-names.ensures.is c.text_after.ensures c.text_after-2.ensures in
-    let holder = both_give _ _ _ _ _ c.both-holder.ensures.is c.key_line_after.ensures c.list_in.ensures in
+    let holder = both_give _ _ _ _ _ c.both-holder.ensures.is c.subject_line_after.ensures c.list_in.ensures in
     let validity = both_give _ _ _ _ _ c.both-validity.ensures.is c.end_after.ensures c.end_after-2.ensures in
     let subject = both_give _ _ _ _ _ c.both-subject.ensures.is names holder in
     let terms = both_give _ _ _ _ _ c.both-terms.ensures.is validity c.extras_in.ensures in

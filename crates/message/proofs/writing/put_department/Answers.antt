@@ -1,6 +1,8 @@
-use Rattle.message.proofs.Words.{List, ap, codes, decimal, kind_text, line, list_line, refl, ℕ, ◌++◌}
+use Rattle.message.proofs.Words.{List, ap, codes, kind_text, line, list_line, refl, ℕ, ◌++◌}
 use Rattle.std.proofs.lemmas.Result.{on_ok_weaker}
-use Rattle.message.proofs.PutLines.{none_put, then_line}
+use Rattle.message.specs.Ends.{ends_of}
+use Rattle.message.specs.Texts.{end_lines}
+use Rattle.message.proofs.PutLines.{none_put, then_line, then_lines}
 use Rattle.message.proofs.writing.put_department.Goals as goal
 
 pub returns : goal.returns
@@ -16,8 +18,4 @@ returns c =
     then_line administrators _ (ap (list_line (codes "principals")) c.as_slice-3.ensures) c.in_ok-put_list-2.ensures in
     let options =
     then_line rules _ (ap (list_line (codes "options")) c.as_slice-4.ensures) c.in_ok-put_list-3.ensures in
-    let extensions =
-    then_line options _ (ap (list_line (codes "extensions")) c.as_slice-5.ensures) c.in_ok-put_list-4.ensures in
-    let life = then_line extensions (line (codes "maxlife") (decimal d.longest_life)) refl c.in_ok-put_number.ensures in
-    let same_namespaces = ap (list_line (codes "namespaces")) c.as_slice-6.ensures in
-    on_ok_weaker c.put_list-5.result (λ put. (then_line life _ same_namespaces put).is) c.put_list-5.ensures
+    on_ok_weaker c.put_ends.result (λ put. (then_lines options (end_lines (ends_of d)) put).is) c.put_ends.ensures

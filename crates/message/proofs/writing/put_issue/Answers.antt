@@ -1,5 +1,6 @@
-use Rattle.message.proofs.Words.{List, Pair, ap, codes, decimal, key_line_text, line, lines_text, list_line, map}
+use Rattle.message.proofs.Words.{List, Pair, ap, codes, decimal, line, lines_text, list_line, map}
 use Rattle.message.proofs.Words.{option_line, refl, ℕ, ◌++◌, ◌∙◌}
+use Rattle.lines.specs.SubjectLines.{subject_line_text}
 use Rattle.std.proofs.lemmas.Result.{on_ok_weaker}
 use Rattle.message.proofs.PutLines.{none_put, then_line, then_lines}
 use Rattle.message.proofs.writing.put_issue.Goals as goal
@@ -13,7 +14,7 @@ returns c =
     let department = then_line none (line (codes "issue") i.department) of c.in_ok-put_line.ensures in
     let named = ap (λ (t : List ℕ). codes "keyid " ++ t) c.as_slice-2.ensures in
     let key_id = then_line department (line (codes "keyid") i.key_id) named c.in_ok-put_line-2.ensures in
-    let key = then_line key_id (line (codes "key") (key_line_text i.key)) refl c.in_ok-put_key.ensures in
+    let key = then_line key_id (line (codes "key") (subject_line_text i.key)) refl c.in_ok-put_subject.ensures in
     let principals =
     then_line key _ (ap (list_line (codes "principals")) c.as_slice-3.ensures) c.in_ok-put_list.ensures in
     let after = then_line principals (line (codes "after") (decimal i.after)) refl c.in_ok-put_number.ensures in

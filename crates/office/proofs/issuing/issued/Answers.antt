@@ -19,7 +19,7 @@ certified-requires-clause-lawful c =
     let options : c.in_ok-options.options ≡ listing i.options = λ j. (c.in_ok-options.ensures j).0 in
     let extensions : c.in_ok-options.extensions ≡ listing (flags i.extensions) =
     λ j. (c.in_ok-options.ensures j).1 in
-    rw (key_id, principals, options, extensions)
+    rw (key_id, principals, c.in_ok-key.ensures, options, extensions)
     (issuable_certificate c.args.view.now c.args.department.now i c.newest_key.result c.args.nonce.now c.requires
     (search rules) (search rules))
 
@@ -31,4 +31,4 @@ returns-clause-made c =
     let options : c.in_ok-options.options ≡ listing i.options = λ j. (c.in_ok-options.ensures j).0 in
     let extensions : c.in_ok-options.extensions ≡ listing (flags i.extensions) =
     λ j. (c.in_ok-options.ensures j).1 in
-    rw (key_id, principals, options, extensions, c.newest_key.ensures) at c.certified.ensures.made
+    rw (key_id, principals, c.in_ok-key.ensures, options, extensions, c.newest_key.ensures) at c.certified.ensures.made

@@ -1,6 +1,6 @@
 use Rattle.message.proofs.Words.{drop, list_line, ◌++◌, ◌≡◌}
 use Rattle.message.proofs.PutLines.{each_after}
-use Rattle.message.proofs.writing.put_list.Given as goal
+use Rattle.message.proofs.writing.put_listed.Given as goal
 
 abbrev pub invariant-loop-text : goal.invariant-loop-text
 invariant-loop-text l =

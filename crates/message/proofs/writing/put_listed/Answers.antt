@@ -1,6 +1,6 @@
 use Rattle.message.proofs.Words.{List, ap, append_assoc, sym, ℕ, ◌++◌, ◌∙◌}
 use Rattle.message.proofs.PutLines.{each_after, list_put, text_put}
-use Rattle.message.proofs.writing.put_list.Goals as goal
+use Rattle.message.proofs.writing.put_listed.Goals as goal
 
 pub loop-text-init : goal.loop-text-init
 loop-text-init c =
