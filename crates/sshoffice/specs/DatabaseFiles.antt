@@ -19,7 +19,7 @@ use Rattle.files.specs.declared.open_fault.OpenFault.{OpenFault}
 use Rattle.restart.specs.Ending.{EndsRuns}
 use Rattle.files.specs.Ending.{AreEnded}
 use Rattle.files.specs.Opening.{FailsToOpen, HasNoChecksums}
-use Rattle.restart.specs.Runs.{IsBlankIfNone, TellsWhatIsHeld}
+use Rattle.restart.specs.Runs.{IsBlankIfNone, TellsFormer, TellsWhatIsHeld}
 use Rattle.sshoffice.specs.declared.database_files.DatabaseFiles.{DatabaseFiles}
 use Rattle.sshoffice.specs.declared.database_files.DatabaseFiles.TheVariants.{Connected, Failed, Left, Unopened}
 
@@ -30,13 +30,14 @@ AreLeftAs Way other = ⊥
 
 module _ {D : Type 0} {g : Ghosts D} where
   -- The connection is new. If its disk has returned what was written, it has the database that the files held. So it
-  -- represents each history whose office they held, and is blank if they held none. Nor does a file that is made have
-  -- checksums in its pages.
+  -- represents each history whose office they held, also in schema 1, and is blank if they held none. Nor does a file
+  -- that is made have checksums in its pages.
   pub record OpensFiles (image : Image) (conn : Held (FileStore D g)) : Type 0 where
     pub new : IsNew conn
     pub opened : HasCleanDisk (file_state conn) → IsOpened conn
     pub found : HasCleanDisk (file_state conn) → FindsIn image (file_state conn)
     pub told : HasCleanDisk (file_state conn) → TellsWhatIsHeld image (file_state conn)
+    pub former : HasCleanDisk (file_state conn) → TellsFormer image (file_state conn)
     pub blank : HasCleanDisk (file_state conn) → IsBlankIfNone image (file_state conn)
     pub plain : HasCleanDisk (file_state conn) → HasNoChecksums image conn
 

@@ -1,6 +1,6 @@
 //! The world of the program: the system's files, clock and sockets, and databases in files.
 //!
-//! Each call goes to the system or to a crate. Nothing is proved about the system's answers.
+//! Each call goes to the crate `system` or to another. Nothing is proved about the system's answers.
 
 ghost use Rattle.std.specs.Prelude.{◌≡◌, ◌≤◌, IfErr, IfOk, IsTrue, map, string_bytes};
 ghost use Rattle.sqlite_wal.specs.Files.{image_at};
@@ -16,19 +16,19 @@ ghost use Rattle.sshoffice.specs.DatabaseFiles.{AreCleanOf, AreGivenBack, AreLef
 ghost use Rattle.sshoffice.specs.DatabaseFiles.{OpensFiles, OpensOnce};
 
 use crate::database_files::DatabaseFiles;
-use crate::file_making::make_file;
 use files::{EndFault, OpenFault};
 use office_jobs::{MemoryOffice, Output, World, do_words};
-use restart::{end_at, open_at};
+use restart::{end_at, what_is_found_is_told};
 use server::{Listener, Loopback, SelftestFault, selftest};
 use sqlite::{Connection, Error, ErrorCode, FileFrom, FileStore, Start};
 use sqlite_disk::Disk;
 use std::alloc::{Alloc, Global};
 use std::cell::OnceCell;
-use std::fs;
+use std::fs::File;
 use std::io::{ErrorKind, Read};
 use std::mem::replace;
 use std::net::{SocketAddr, SocketAddrV4, TcpListener};
+use system::{Network, Opener, System};
 use wire::Sink;
 
 /// A connection to the files at a path.
@@ -39,7 +39,7 @@ type FilesAt<S> = DatabaseFiles<S, FileFrom<S>>;
 
 /// Opens the database at a path, or makes one without tables. `start` represents the contents of its files.
 fn open_files<S: Start>(
-    rt: &HostRuntime,
+    opener: &Opener,
     path: &str,
     start: S,
 ) -> Result<FileConnection<S>, OpenFault<FileFrom<S>>>
@@ -47,22 +47,25 @@ fn open_files<S: Start>(
     ensures named { IfErr result (λ fault. IsTrue (is_open_error fault.error)) }
     ensures fails { OpensOrFails (image_at S.Start) result }
 {
-    match open_at(rt, path, start) {
-        Ok(conn) => Ok(conn),
+    match opener.open(path, start) {
+        Ok(conn) => {
+            what_is_found_is_told(&conn);
+            Ok(conn)
+        }
         Err(fault) => Err(fault),
     }
 }
 
 /// Opens the database at a path, if its files weren't opened before.
 fn open_once<S: Start>(
-    rt: &HostRuntime,
+    opener: &Opener,
     files: &mut FilesAt<S>,
     path: &str,
 ) -> Result<FileConnection<S>, Error>
     ensures { OpensOnce (image_at S.Start) files.old result files.new }
 {
     match replace(files, DatabaseFiles::Connected) {
-        DatabaseFiles::Unopened(start) => match open_files(rt, path, start) {
+        DatabaseFiles::Unopened(start) => match open_files(opener, path, start) {
             Ok(opened) => Ok(opened),
             Err(fault) => {
                 let error = fault.error();
@@ -77,15 +80,12 @@ fn open_once<S: Start>(
     }
 }
 
-/// Whether SQLite takes this for something other than a path and refuses to open it. Then no file is made.
-fn is_no_path(path: &str) -> bool {
-    path == ":memory:" || path.starts_with("file:")
-}
-
 /// The system, in which at most one database is opened, and only once.
 #[derive(Drop)]
 pub struct Host<'a, S: Start> {
-    rt: &'a HostRuntime,
+    system: &'a System,
+    opener: &'a Opener,
+    network: &'a Network,
     // The database's files.
     files: FilesAt<S>,
     // The cell for the listener, which outlives its connections.
@@ -94,11 +94,19 @@ pub struct Host<'a, S: Start> {
 
 impl<'a, S: Start> Host<'a, S> {
     /// The system, before any call. `start` represents the contents of the database's files.
-    pub fn new(rt: &'a HostRuntime, start: S, listener: &'a OnceCell<TcpListener>) -> Host<'a, S>
+    pub fn new(
+        system: &'a System,
+        opener: &'a Opener,
+        network: &'a Network,
+        start: S,
+        listener: &'a OnceCell<TcpListener>,
+    ) -> Host<'a, S>
         ensures { result.files ≡ Unopened start }
     {
         Host {
-            rt,
+            system,
+            opener,
+            network,
             files: DatabaseFiles::Unopened(start),
             listener,
         }
@@ -117,16 +125,16 @@ impl<S: Start> Alloc for Host<'_, S> {
     type A = Global;
 
     fn alloc(&self) -> Global {
-        self.rt.alloc()
+        self.system.alloc()
     }
 }
 
 impl<'a, S: Start> World for Host<'a, S> {
-    type File = fs::File;
+    type File = File;
 
     type Conn = FileConnection<S>;
 
-    type Incoming = Loopback<'a, HostRuntime>;
+    type Incoming = Loopback<'a, Network>;
 
     // The files of the database change only when it is opened and closed.
     ghost reads = { λ before _ _ after. after ≡ before };
@@ -149,23 +157,20 @@ impl<'a, S: Start> World for Host<'a, S> {
 
     ghost leaves = { λ host conn image. AreLeftAs (λ files. MayBecome conn files image) host.files };
 
-    fn open_file(&mut self, path: &str) -> Result<fs::File, ErrorKind> {
-        fs::open(self.rt, path).map_err(|error| error.kind())
+    fn open_file(&mut self, path: &str) -> Result<File, ErrorKind> {
+        self.system.open(path).map_err(|error| error.kind())
     }
 
     fn has_database(&mut self, path: &str) -> Result<bool, ErrorKind> {
-        fs::exists(self.rt, path).map_err(|error| error.kind())
+        self.opener.finds(path).map_err(|error| error.kind())
     }
 
     fn make_database(&mut self, path: &str) -> Result<(), ErrorKind> {
-        if is_no_path(path) {
-            return Ok(());
-        }
-        make_file(self.rt, path).map_err(|error| error.kind())
+        self.opener.make(path).map_err(|error| error.kind())
     }
 
     fn open_database(&mut self, path: &str) -> Result<FileConnection<S>, Error> {
-        open_once(self.rt, &mut self.files, path)
+        open_once(self.opener, &mut self.files, path)
     }
 
     fn close_database(&mut self, conn: FileConnection<S>) -> Result<(), EndFault> {
@@ -174,29 +179,28 @@ impl<'a, S: Start> World for Host<'a, S> {
         ended
     }
 
-    fn listen(
-        &mut self,
-        address: SocketAddrV4,
-    ) -> Result<(Loopback<'a, HostRuntime>, u16), ErrorKind> {
-        listen_in(self.rt, self.listener, address)
+    fn listen(&mut self, address: SocketAddrV4) -> Result<(Loopback<'a, Network>, u16), ErrorKind> {
+        listen_in(self.network, self.listener, address)
     }
 
     fn test_office(&mut self, office: &mut MemoryOffice) -> Result<(), SelftestFault> {
-        selftest(self.rt, office)
+        selftest(&(self.network, self.system.alloc()), office)
     }
 }
 
 // Listens at an address. The listener is kept in the cell.
 fn listen_in<'a>(
-    rt: &'a HostRuntime,
+    network: &'a Network,
     cell: &'a OnceCell<TcpListener>,
     address: SocketAddrV4,
-) -> Result<(Loopback<'a, HostRuntime>, u16), ErrorKind> {
-    let listener = TcpListener::bind(rt, SocketAddr::V4(address)).map_err(|error| error.kind())?;
+) -> Result<(Loopback<'a, Network>, u16), ErrorKind> {
+    let listener = TcpListener::bind(network, SocketAddr::V4(address)).map_err(
+        |error| error.kind(),
+    )?;
     let at = listener.local_addr().map_err(|error| error.kind())?;
     let _ = cell.set(listener);
     match cell.get() {
-        Some(listener) => Ok((Loopback::new(listener, rt), at.port())),
+        Some(listener) => Ok((Loopback::new(listener, network), at.port())),
         None => Err(ErrorKind::OutOfMemory),
     }
 }
@@ -205,7 +209,9 @@ fn listen_in<'a>(
 /// of the job's database. `start` represents their contents. Only this function does a job over a file's connection:
 /// such a call takes half a minute to prove.
 pub fn run<S: Start, O: Output, E: Sink>(
-    rt: &HostRuntime,
+    system: &System,
+    opener: &Opener,
+    network: &Network,
     start: S,
     words: &[String],
     out: O,
@@ -218,7 +224,7 @@ pub fn run<S: Start, O: Output, E: Sink>(
     // no call of `err` has failed, it has taken the lines of all faults, and nothing else. `Write` is a fault only if a
     // call of `out` failed.
     ensures runs { RunsWordsOver over_files ⟦<Host<'static, S> as World>⟧
-        ⟦<fs::File as Read>⟧.remaining ⟦<Loopback<'static, HostRuntime> as Listener>⟧.book
+        ⟦<File as Read>⟧.remaining ⟦<Loopback<'static, Network> as Listener>⟧.book
         (λ host. host.files ≡ Unopened start) (λ host. host.files ≡ result.2) (map string_bytes words.now)
         (O.taken out) (O.taken result.1)
         (Takes (E.failed err.old) (E.failed err.new) (E.taken err.old) (E.taken err.new))
@@ -231,7 +237,7 @@ pub fn run<S: Start, O: Output, E: Sink>(
     ensures bad { result.0 ≡ 2 → AreBad (map string_bytes words.now) }
 {
     let listener = OnceCell::new();
-    let mut host = Host::new(rt, start, &listener);
+    let mut host = Host::new(system, opener, network, start, &listener);
     let (status, out) = do_words(&mut host, words, out, err);
     (status, out, host.into_files())
 }

@@ -6,7 +6,6 @@
 #![tactic(auto)]
 
 mod database_files;
-mod file_making;
 mod host;
 
 use crate::host::run;
@@ -14,25 +13,23 @@ use office_jobs::{Console, do_no_words};
 use sqlite::Unknown;
 use std::io::BufWriter;
 use std::process::ExitCode;
-use std::rt::Env;
-use std::{env, io};
+use system::{Network, Opener, System};
 use wire::FromWrite;
 
-fn words_of<R: Env + AllocGlobal>(rt: &R) -> io::Result<Vec<String>> {
-    let words = env::args(rt)?.collect(rt.alloc())?;
-    Ok(words)
-}
-
-fn status_by(rt: &HostRuntime) -> u8 {
-    let mut err = FromWrite::new(rt.stderr());
-    let out = BufWriter::new(rt.alloc(), rt.stdout());
-    match (words_of(rt), out) {
-        (Ok(words), Ok(out)) => run(rt, Unknown, words.as_slice(), Console::new(out), &mut err).0,
+fn status_by(system: &System, opener: &Opener, network: &Network) -> u8 {
+    let mut err = FromWrite::new(system.errors());
+    let out = BufWriter::new(system.alloc(), system.output());
+    match (system.words(), out) {
+        (Ok(words), Ok(out)) => {
+            let (words, out) = (words.as_slice(), Console::new(out));
+            run(system, opener, network, Unknown, words, out, &mut err).0
+        }
         (Err(fault), _) => do_no_words(fault.kind(), &mut err),
         (_, Err(fault)) => do_no_words(fault.kind(), &mut err),
     }
 }
 
 fn main(rt: HostRuntime) -> ExitCode {
-    ExitCode::from(status_by(&rt))
+    let status = status_by(&System::new(rt), &Opener::new(rt), &Network::new(rt));
+    ExitCode::from(status)
 }

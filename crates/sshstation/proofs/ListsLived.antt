@@ -49,7 +49,7 @@ use Rattle.sshstation.specs.DatabaseFiles.{AreLeftAs, AreGivenBack, AreUnopened,
 use Rattle.sshstation.specs.Doing.{DoesList, DoesWords}
 use Rattle.sshstation.specs.GuardFiles.{IsOfFiles, IsOfSearch, IsWhole}
 use Rattle.sshstation.specs.ListFiles.{EndsList, FindsList, MakesList}
-use Rattle.sshstation.specs.Listing.{AreListed, IsListed, IsListedBy, Prints}
+use Rattle.sshstation.specs.Listing.{AreListed, Idles, IsListed, IsListedBy, IsSilent, Prints, PrintsNone}
 use Rattle.sshstation.specs.UnopenedLists.{FindsNone, MakesLeaving, MakesNone, OpensLeaving}
 use Rattle.sshstation.proofs.Unopened.{no_files_told, unopened_told}
 use Rattle.sshstation.proofs.UnopenedLists.{IsOrBegins, or_begins, same_standing}
@@ -108,7 +108,7 @@ module _ (S Dk : Type 0) (g : Ghosts Dk) (image : Image) (value : S) where
 
   -- what became of the files after a job that printed this
   abbrev Told : Said → Files → Type 0
-  Told said files = AreGivenBack g image value (IsListed g image said) files
+  Told said files = AreGivenBack g image value (Idles image (IsSilent said)) (IsListed g image said) files
 
   -- ---- what the files hold
 
@@ -235,6 +235,19 @@ module _ (S Dk : Type 0) (g : Ghosts Dk) (image : Image) (value : S) where
   stood (Some s) q held holds files same has =
       reached s s q None held holds files (inl refl) (none_told held holds same) has
 
+  -- nobody had the files
+  stood_none : (before : Standing) (files : Image) → Holds files before → Reaches before Said.none files
+  stood_none None files has = ([], None, refl, (refl, inl refl), has)
+  stood_none (Some s) files has = ([], Some s, refl, (s, refl, refl), has)
+
+  idles : (Silent : Type 0) → Silent → Idles image Silent
+  idles Silent silent = (
+    silent,
+    runs_on image Said.none (λ left. left ≡ image)
+        (λ files same before holds.
+        ∣ stood_none before files (subst (λ (i : Image). Holds i before) (sym same) holds) ∣₁),
+  )
+
   -- the files hold what they held
   again_lived : (q : Question) (held holds : Option (List ℕ)) → holds ≡ held → (e : StationFault) (o : Files)
       → AreLeftAs o (λ left. (left.0 ≡ Ok tt) × FindsNone g image e left.1) → Told (Said.judging q held holds) o
@@ -249,14 +262,15 @@ module _ (S Dk : Type 0) (g : Ghosts Dk) (image : Image) (value : S) where
   unopened_lived : (q : Question) (held holds : Option (List ℕ)) → holds ≡ held → (e : StationFault) (old new : Files)
       → AreUnopened value old → OpensLeaving {g = g} image (Err e) old new → Told (Said.judging q held holds) new
   unopened_lived q held holds same e old new unopened (inl is) =
-      no_files_told g image value (IsListed g image (Said.judging q held holds)) IsOfSearch e old new unopened is
+      no_files_told g image value (Idles image (holds ≡ held)) (IsListed g image (Said.judging q held holds))
+      (idles (holds ≡ held) same) IsOfSearch e old new unopened is
   unopened_lived q held holds same e old new unopened (inr again) =
       again_lived q held holds same e new again
 
   unmade : (before : Standing) (files : Image) → IsOrBegins files before → Reaches before Said.none files
-  unmade None files (inl has) = ([], None, refl, (refl, inl refl), has)
+  unmade None files (inl has) = stood_none None files has
   unmade None files (inr new) = ([], Some opened, refl, (refl, inr refl), new.1)
-  unmade (Some s) files (inl has) = ([], Some s, refl, (s, refl, refl), has)
+  unmade (Some s) files (inl has) = stood_none (Some s) files has
   unmade (Some s) files (inr new) = let no = new.0 in absurd cc
 
   -- the files hold what they held, or the new list guard in place of none
@@ -272,7 +286,8 @@ module _ (S Dk : Type 0) (g : Ghosts Dk) (image : Image) (value : S) where
   unmade_lived : (e : StationFault) (old new : Files) → AreUnopened value old
       → MakesLeaving {g = g} image (Err e) old new → Told Said.none new
   unmade_lived e old new unopened (inl is) =
-      no_files_told g image value (IsListed g image Said.none) IsOfFiles e old new unopened is
+      no_files_told g image value (Idles image (Unit {0})) (IsListed g image Said.none) (idles (Unit {0}) tt) IsOfFiles e
+      old new unopened is
   unmade_lived e old new unopened (inr again) = begun_lived e new again
 
   -- ---- jobs
@@ -298,12 +313,14 @@ module _ (S Dk : Type 0) (g : Ghosts Dk) (image : Image) (value : S) where
       pub is_clean : (it : Store) → keeper.is_honest it → HasCleanDisk (file_state it.conn)
 
     module _ (over : IsOver) (db db' : L) (unopened : AreUnopened value (files_of db)) where
-      -- what became of the files, if they were opened and this holds of how they are left
-      abbrev ToldBy : (Ended → Type 0) → Files → Type 0
-      ToldBy Is files = AreGivenBack g image value Is files
+      -- what became of the files, if they were opened and this holds of how they are left, or nobody had them
+      abbrev ToldBy : (Silent : Type 0) → (Ended → Type 0) → Files → Type 0
+      ToldBy Silent Is files = AreGivenBack g image value (Idles image Silent) Is files
 
-      untouched : (Is : Ended → Type 0) → db' ≡ db → ToldBy Is (files_of db')
-      untouched Is same = unopened_told g image value Is (files_of db') (ap files_of same ∙ unopened)
+      untouched : (Silent : Type 0) (Is : Ended → Type 0) → Silent → db' ≡ db → ToldBy Silent Is (files_of db')
+      untouched Silent Is silent same =
+          unopened_told g image value (Idles image Silent) Is (idles Silent silent) (files_of db')
+          (ap files_of same ∙ unopened)
 
       -- nothing was done after the opening
       at_once : (said : Said) {o : Files} → files_of db' ≡ o → Told said o → Told said (files_of db')
@@ -377,17 +394,30 @@ module _ (S Dk : Type 0) (g : Ghosts Dk) (image : Image) (value : S) where
           abbrev By : StationJob → (held holds : Option (List ℕ)) → Ended → Type 0
           By job held holds = IsListedBy world around remaining g image job held holds
 
+          -- what became of the files by this job
+          abbrev ToldOf : StationJob → (held holds : Option (List ℕ)) → Files → Type 0
+          ToldOf job held holds o = ToldBy (PrintsNone job held holds) (By job held holds) o
+
+          silent_of : (job : StationJob) (held holds : Option (List ℕ)) (said : Said)
+              → Prints world around remaining job held holds said → IsSilent said → PrintsNone job held holds
+          silent_of (job.List words) held holds said prints silent = subst IsSilent prints.2 silent
+          silent_of other held holds said prints silent = tt
+
           prints_listed : (o : Files) (job : StationJob) (held holds : Option (List ℕ)) (said : Said)
-              → Prints world around remaining job held holds said → Told said o → ToldBy (By job held holds) o
-          prints_listed (now.Unopened still) job held holds said prints is = is
+              → Prints world around remaining job held holds said → Told said o → ToldOf job held holds o
+          prints_listed (now.Unopened still) job held holds said prints is =
+              (is.0, (silent_of job held holds said prints is.1.0, is.1.1))
           prints_listed now.Connected job held holds said prints is = is
-          prints_listed (now.Failed fault) job held holds said prints is = is
+          prints_listed (now.Failed fault) job held holds said prints is = (
+            is.0,
+            λ none. let idle = is.1 none in (silent_of job held holds said prints idle.0, idle.1),
+          )
           prints_listed (now.Left left) job held holds said prints is = (said, prints, is)
 
           module _ {D G : Type 0} (guard : register.Ghosts G) (file : file.Ghosts D G) (before after : D) where
             job_listed : (job : StationJob) (held holds : Option (List ℕ)) (result : Result (Unit {0}) StationFault)
                 → DoesList world around remaining guard file before after keeper lists_file db db' job held
-                holds result → ToldBy (By job held holds) (files_of db')
+                holds result → ToldOf job held holds (files_of db')
             job_listed (job.Lists path) held holds result is =
                 prints_listed (files_of db') (job.Lists path) held holds Said.none refl
                 (made_listed (string_bytes path) is.made is.is_made)
@@ -399,23 +429,24 @@ module _ (S Dk : Type 0) (g : Ghosts Dk) (image : Image) (value : S) where
                     → Follows
                     (λ q. RunsIn lists_file db db' (string_bytes words.db) (States world around keeper q held holds)
                     (holds ≡ held)) ((db' ≡ db) × (holds ≡ held)) asked result
-                    → ToldBy (By (job.List words) held holds) (files_of db')
+                    → ToldOf (job.List words) held holds (files_of db')
                 by_asked (Ok q) read ran =
                     prints_listed (files_of db') (job.List words) held holds (Said.judging q held holds)
                     (q, read, refl) (ran_listed (string_bytes words.db) q held holds result ran)
-                by_asked (Err e) read ran = untouched (By (job.List words) held holds) ran.1.0
+                by_asked (Err e) read ran =
+                    untouched (holds ≡ held) (By (job.List words) held holds) ran.1.1 ran.1.0
             job_listed (job.Init path ca first last) held holds result is =
-                untouched (By (job.Init path ca first last) held holds) is
+                untouched (Unit {0}) (By (job.Init path ca first last) held holds) tt is
             job_listed (job.Judge words) held holds result is =
-                untouched (By (job.Judge words) held holds) is
+                untouched (Unit {0}) (By (job.Judge words) held holds) tt is
             job_listed (job.Bodies path) held holds result is =
-                untouched (By (job.Bodies path) held holds) is
+                untouched (Unit {0}) (By (job.Bodies path) held holds) tt is
             job_listed (job.Body path serial) held holds result is =
-                untouched (By (job.Body path serial) held holds) is
+                untouched (Unit {0}) (By (job.Body path serial) held holds) tt is
             job_listed (job.Policy path) held holds result is =
-                untouched (By (job.Policy path) held holds) is
+                untouched (Unit {0}) (By (job.Policy path) held holds) tt is
             job_listed (job.Retire path last) held holds result is =
-                untouched (By (job.Retire path last) held holds) is
+                untouched (Unit {0}) (By (job.Retire path last) held holds) tt is
 
             -- the words' job was a run
             pub words_listed : (words : List (List ℕ)) (input held holds : Option (List ℕ)) (Taken : List ℕ → Type 0)
@@ -425,7 +456,7 @@ module _ (S Dk : Type 0) (g : Ghosts Dk) (image : Image) (value : S) where
             words_listed words input held holds Taken answered files same (inl is) = inl (
               is.0,
               is.2,
-              subst (λ (o : Files). ToldBy (By is.0 held holds) o) (sym same)
+              subst (λ (o : Files). ToldOf is.0 held holds o) (sym same)
                   (job_listed is.0 held holds is.1 is.4),
             )
             words_listed words input held holds Taken answered files same (inr is) =

@@ -47,7 +47,7 @@ use Rattle.sshstation.specs.DatabaseFiles.{AreLeftAs, AreGivenBack, AreUnopened,
 use Rattle.sshstation.specs.Doing.{BeginsAt, DoesJob, DoesWords, InitsAt}
 use Rattle.sshstation.specs.GuardFiles.{AreSettled, EndsGuard, FindsGuard, HaveGuard, HaveOne, IsOfFiles, IsOfSearch}
 use Rattle.sshstation.specs.GuardFiles.{MakesGuard}
-use Rattle.sshstation.specs.Living.{AreLived, IsLived, MayTake, said_by}
+use Rattle.sshstation.specs.Living.{AreLived, Idles, IsLived, MayTake, said_by}
 use Rattle.sshstation.specs.Unopened.{FindsNone, MakesLeaving, MakesNone, OpensLeaving}
 use Rattle.sshstation.proofs.Kept.{ended_honest}
 use Rattle.sshstation.proofs.Unopened.{IsOrBegins, no_files_told, or_begins, same_standing, unopened_told}
@@ -101,7 +101,7 @@ module _ (S Dk : Type 0) (g : Ghosts Dk) (image : Image) (value : S) where
 
   -- what became of the files after a job with steps of this sort
   abbrev Told : (Taken : Step → Type 0) → Said → Files → Type 0
-  Told Taken said files = AreGivenBack g image value (IsLived g image Taken said) files
+  Told Taken said files = AreGivenBack g image value (Idles image said) (IsLived g image Taken said) files
 
   -- ---- what may be left of the files is left by a run
 
@@ -233,6 +233,14 @@ module _ (S Dk : Type 0) (g : Ghosts Dk) (image : Image) (value : S) where
     record { found = holds; left = left; backs = backs },
   )
 
+  -- nobody had the files
+  idles : (said : Said) → ((p : Standing) → Backs p said) → Idles image said
+  idles said backs =
+      runs_on image (λ _. ⊥) said (λ left. left ≡ image)
+      (λ files same before holds.
+      let left = subst (λ (i : Image). Holds i before) (sym same) holds in
+      ∣ stood (λ _. ⊥) before said files holds (backs before) left ∣₁)
+
   -- the files hold what they held
   again_lived : (Taken : Step → Type 0) (said : Said) → ((p : Standing) → Backs p said) → (e : StationFault) (o : Files)
       → AreLeftAs o (λ left. (left.0 ≡ Ok tt) × FindsNone g image e left.1) → Told Taken said o
@@ -247,7 +255,8 @@ module _ (S Dk : Type 0) (g : Ghosts Dk) (image : Image) (value : S) where
   unopened_lived : (Taken : Step → Type 0) (said : Said) → ((p : Standing) → Backs p said) → (e : StationFault)
       (old new : Files) → AreUnopened value old → OpensLeaving {g = g} image (Err e) old new → Told Taken said new
   unopened_lived Taken said backs e old new unopened (inl is) =
-      no_files_told g image value (IsLived g image Taken said) IsOfSearch e old new unopened is
+      no_files_told g image value (Idles image said) (IsLived g image Taken said) (idles said backs) IsOfSearch e old new
+      unopened is
   unopened_lived Taken said backs e old new unopened (inr is) = again_lived Taken said backs e new is
 
   unmade_comes : (Taken : Step → Type 0) (scope : Scope) → Taken (Step.making scope) → (files : Image)
@@ -272,7 +281,8 @@ module _ (S Dk : Type 0) (g : Ghosts Dk) (image : Image) (value : S) where
       (old new : Files) → AreUnopened value old → MakesLeaving {g = g} image scope (Err e) old new
       → Told Taken Said.none new
   unmade_lived Taken scope taken e old new unopened (inl is) =
-      no_files_told g image value (IsLived g image Taken Said.none) IsOfFiles e old new unopened is
+      no_files_told g image value (Idles image Said.none) (IsLived g image Taken Said.none) (idles Said.none silent_none)
+      IsOfFiles e old new unopened is
   unmade_lived Taken scope taken e old new unopened (inr is) = begun_lived Taken scope taken e new is
 
   -- ---- jobs
@@ -361,9 +371,11 @@ module _ (S Dk : Type 0) (g : Ghosts Dk) (image : Image) (value : S) where
               (unmade_lived Taken scope taken e (files_of db) (files_of is.made) unopened
               (over.makes db is.made path scope (Err e) makes).1)
 
-      same_db : (Taken : Step → Type 0) (said : Said) → db' ≡ db → Told Taken said (files_of db')
-      same_db Taken said same =
-          unopened_told g image value (IsLived g image Taken said) (files_of db') (ap files_of same ∙ unopened)
+      same_db : (Taken : Step → Type 0) (said : Said) → ((p : Standing) → Backs p said) → db' ≡ db
+          → Told Taken said (files_of db')
+      same_db Taken said backs same =
+          unopened_told g image value (Idles image said) (IsLived g image Taken said) (idles said backs) (files_of db')
+          (ap files_of same ∙ unopened)
 
       module _ {E F : Type 0} (world : surroundings.Ghosts E F) (around : E) (remaining : F → Option (List ℕ)) where
         -- the key in the file
@@ -385,7 +397,7 @@ module _ (S Dk : Type 0) (g : Ghosts Dk) (image : Image) (value : S) where
                 result → Told Taken Said.none (files_of db')
             by_scope (Ok scope) begins made =
                 made_in_lived Taken path scope (taken scope begins) made.made made.is_made
-            by_scope (Err e) begins made = same_db Taken Said.none made.1.0
+            by_scope (Err e) begins made = same_db Taken Said.none silent_none made.1.0
 
         -- a job that only reads
         reads : (Taken : Step → Type 0) → Covers OfNone Taken
@@ -427,7 +439,8 @@ module _ (S Dk : Type 0) (g : Ghosts Dk) (image : Image) (value : S) where
                 (λ s L r guard did. given_last (MayBe (job.Judge j))
                 (AsksGiven world around remaining (is_input bodies) (string_bytes j.policy) j.ahead) (λ path q asked. (path, asked))
                 (is_input bodies) s L bodies input held holds r did.0) ran
-            by_policy (Err e) ran = same_db (MayBe (job.Judge j)) (Said.judging held holds) ran.1.0
+            by_policy (Err e) ran =
+                same_db (MayBe (job.Judge j)) (Said.judging held holds) (silent held holds ran.1.1) ran.1.0
         job_lived (job.Bodies path) input held holds result is =
             ran_lived OfNone (MayBe (job.Bodies path)) (reads (MayBe (job.Bodies path)))
             (λ s L r. PrintsRows s L held holds r) (string_bytes path)
@@ -438,7 +451,8 @@ module _ (S Dk : Type 0) (g : Ghosts Dk) (image : Image) (value : S) where
             (λ s L r. PrintsBody s serial held holds r × L s r) (string_bytes path)
             (holds ≡ held) result Said.none (λ _. silent_none)
             (λ s L r guard did. same_lasts (MayBe (job.Body path serial)) s L r did.1) is
-        job_lived (job.Policy path) input held holds result is = same_db (MayBe (job.Policy path)) Said.none is.1
+        job_lived (job.Policy path) input held holds result is =
+            same_db (MayBe (job.Policy path)) Said.none silent_none is.1
         job_lived (job.Retire path last) input held holds result is =
             ran_lived (OfRetiring last) (MayBe (job.Retire path last))
             (record { asks = λ q may. absurd may; retires = λ lower may. may })
@@ -446,8 +460,10 @@ module _ (S Dk : Type 0) (g : Ghosts Dk) (image : Image) (value : S) where
             (λ _. silent_none)
             (λ s L r guard did. retires_to_last (MayBe (job.Retire path last)) last refl s L r
             (did (last_below s.scope guard.scope))) is.is_lowered
-        job_lived (job.Lists path) input held holds result is = same_db (MayBe (job.Lists path)) Said.none is
-        job_lived (job.List words) input held holds result is = same_db (MayBe (job.List words)) Said.none is
+        job_lived (job.Lists path) input held holds result is =
+            same_db (MayBe (job.Lists path)) Said.none silent_none is
+        job_lived (job.List words) input held holds result is =
+            same_db (MayBe (job.List words)) Said.none silent_none is
 
         -- the job that the words name was a run
         pub words_lived : {L K : Type 0} (keeper : lister.Ghosts K) (file_of : lists.Ghosts L K) (l l' : L)

@@ -56,19 +56,22 @@ module _ {D S : Type 0} (g : Ghosts D) (image : Image) where
       subst (λ (f : DatabaseFiles S D). FailsToConnect g image e f (now.Failed fault)) (sym same)
       (fault, refl, failure)
 
-module _ {D S : Type 0} (g : Ghosts D) (image : Image) (value : S) (Is : Ended D → Type 0) where
+module _ {D S : Type 0} (g : Ghosts D) (image : Image) (value : S) (Idles : Type 0) (Is : Ended D → Type 0)
+    (idles : Idles) where
   -- files that are still unopened
-  pub unopened_told : (files : DatabaseFiles S D) → AreUnopened value files → AreGivenBack g image value Is files
-  unopened_told files same = subst (λ (f : DatabaseFiles S D). AreGivenBack g image value Is f) (sym same) refl
+  pub unopened_told : (files : DatabaseFiles S D) → AreUnopened value files
+      → AreGivenBack g image value Idles Is files
+  unopened_told files same =
+      subst (λ (f : DatabaseFiles S D). AreGivenBack g image value Idles Is f) (sym same) (refl, idles)
 
   -- they are, or an open of them has failed
   pub no_files_told : (Fault : StationFault → Type 0) (e : StationFault) (old new : DatabaseFiles S D)
-      → AreUnopened value old → OpensNoFiles g image Fault e old new → AreGivenBack g image value Is new
+      → AreUnopened value old → OpensNoFiles g image Fault e old new → AreGivenBack g image value Idles Is new
   no_files_told Fault e old new unopened (inl is) = unopened_told new (is.1 ∙ unopened)
   no_files_told Fault e old new unopened (inr fails) =
       let is : FailsToConnect g image e (now.Unopened value) new =
       subst (λ (f : DatabaseFiles S D). FailsToConnect g image e f new) unopened fails in
-      subst (λ (f : DatabaseFiles S D). AreGivenBack g image value Is f) (sym is.1) is.2.1
+      subst (λ (f : DatabaseFiles S D). AreGivenBack g image value Idles Is f) (sym is.1) (is.2.1, λ none. idles)
 
 -- ---- any database
 

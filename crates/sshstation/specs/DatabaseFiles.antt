@@ -1,5 +1,5 @@
 -- The files of a database: they weren't opened, or what became of them.
-use Rattle.std.specs.Prelude.{◌≡◌, Result}
+use Rattle.std.specs.Prelude.{◌≡◌, None, Result}
 use Rattle.sqlite_disk.specs.declared.Disk.{Ghosts}
 use Rattle.sqlite_disk.specs.declared.Files.{Files}
 use Rattle.sqlite_wal.specs.Recovery.{Image}
@@ -24,9 +24,11 @@ module _ {D S : Type 0} where
 
   -- What became of files that held `image`: exactly one of these. They weren't opened, and the value that represents
   -- what they hold is still there. Or an open has failed, and left them as its fault says. Or they were opened, are
-  -- closed or abandoned, and are left like this.
-  abbrev pub AreGivenBack : Ghosts D → Image → (value : S) → (Is : Ended D → Type 0) → DatabaseFiles S D → Type 0
-  AreGivenBack g image value Is (Unopened still) = still ≡ value
-  AreGivenBack g image value Is Connected = ⊥
-  AreGivenBack g image value Is (Failed fault) = FailsToOpen g image fault
-  AreGivenBack g image value Is (Left ended) = Is ended
+  -- closed or abandoned, and are left like this. `Idles` holds if they never were in the job's hands: it didn't try to
+  -- open them, or the open didn't get them.
+  abbrev pub AreGivenBack : Ghosts D → Image → (value : S) → (Idles : Type 0) → (Is : Ended D → Type 0)
+      → DatabaseFiles S D → Type 0
+  AreGivenBack g image value Idles Is (Unopened still) = (still ≡ value) × Idles
+  AreGivenBack g image value Idles Is Connected = ⊥
+  AreGivenBack g image value Idles Is (Failed fault) = FailsToOpen g image fault × (fault.files ≡ None → Idles)
+  AreGivenBack g image value Idles Is (Left ended) = Is ended

@@ -38,6 +38,10 @@ abbrev pub IsLived : {D : Type 0} (g : Ghosts D) → Image → (May : Step → T
 IsLived g image May said left =
     AreClean g left.1.log left.1.db → IsWhole left.0 → RunsOn image May said (outcomes g left.1.log left.1.db)
 
+-- The job never had the files. If they are left as they were, it was a run in their lifetime, without a step.
+abbrev pub Idles : Image → Said → Type 0
+Idles image said = RunsOn image (λ _. ⊥) said (λ left. left ≡ image)
+
 module _ {E F : Type 0} (world : surroundings.Ghosts E F) (around : E) (remaining : F → Option (List ℕ)) where
   -- The steps that a job may take: a guard is made with the key in a file; it is asked about the content of a file, or
   -- about bytes from the input, by the policy in its file at that time; or it is retired to a last serial.
@@ -50,13 +54,14 @@ module _ {E F : Type 0} (world : surroundings.Ghosts E F) (around : E) (remainin
   MayTake (Retire path last) (Step.retiring lower) = lower ≡ last
   MayTake job step = ⊥
 
-  -- The words name a job, which was such a run if it opened the files of a guard. Or they name none, and the files are
-  -- unopened.
+  -- The words name a job, which was such a run if it opened the files of a guard, or if it never had them and left them
+  -- as they were. Or they name none, and the files are unopened.
   abbrev pub AreLived : {D S : Type 0} (g : Ghosts D) → Image → (value : S) → (words : List (List ℕ))
       → (held holds : Option (List ℕ)) → DatabaseFiles S D → Type 0
   AreLived g image value words held holds files =
       ((job : StationJob) × Names words job
-      × AreGivenBack g image value (IsLived g image (MayTake job) (said_by job held holds)) files)
+      × AreGivenBack g image value (Idles image (said_by job held holds))
+      (IsLived g image (MayTake job) (said_by job held holds)) files)
       ⊎ ((fault : WordsFault) × IsFaultOf words fault × AreUnopened value files)
 
 -- The effect of the words in a world. The files of a guard, `files_of` its database, held `image` and were unopened

@@ -15,19 +15,14 @@ ghost use Rattle.sshstation.specs.Unopened.{OpensLeaving, OpensOrLeaves, Settles
 use crate::database_files::{DatabaseFiles, FilesAt};
 use files::{EndFault, OpenFault};
 use guard::Scope;
-use guard_sql::{GuardStore, OpeningFault, end_path, open_at};
+use guard_sql::{GuardStore, OpeningFault, end_path, what_is_found_is_had};
 use sqlite::{Connection, Error, ErrorCode, FileFrom, FileStore, Files, Start};
 use sqlite_disk::Disk;
 use station_jobs::{GuardFile, StationFault};
 use std::alloc::Global;
-use std::fs;
-use std::fs::{OpenOptions, Permissions};
 use std::io::{self, ErrorKind};
 use std::mem::replace;
-use std::os::unix::fs::{OpenOptionsExt, PermissionsExt};
-
-/// The mode of a file that only its owner may read and write.
-const OWNER_ALONE: u32 = 0o600;
+use system::Opener;
 
 /// A connection to the files at a path.
 pub(crate) type FileConnection<S> = Connection<FileStore<FileFrom<S>>>;
@@ -74,15 +69,18 @@ fn unopened_fault(fault: OpeningFault) -> StationFault
 
 /// Opens the database at a path, or makes one without tables. `start` represents what its files hold.
 fn open_database<S: Start>(
-    rt: &HostRuntime,
+    opener: &Opener,
     path: &str,
     start: S,
 ) -> Result<FileConnection<S>, OpenFault<FileFrom<S>>>
     ensures ok { IfOk result (OpensFiles (image_at S.Start)) }
     ensures fails { OpensOrFails (image_at S.Start) result }
 {
-    match open_at(rt, path, start) {
-        Ok(found) => Ok(found),
+    match opener.open(path, start) {
+        Ok(found) => {
+            what_is_found_is_had(&found);
+            Ok(found)
+        }
         Err(fault) => Err(fault),
     }
 }
@@ -98,34 +96,11 @@ pub(crate) fn of_ending(ended: Result<(), EndFault>) -> Result<(), StationFault>
     }
 }
 
-/// Whether SQLite takes this as something other than a path, so that opening it is refused. Then no file is made.
-fn is_no_path(path: &str) -> bool {
-    path == ":memory:" || path.starts_with("file:")
-}
-
-/// Makes an empty file that only its owner may read and write, if nothing has this name. An existing file is unchanged.
-fn make_file(rt: &HostRuntime, path: &str) -> io::Result<()> {
-    if is_no_path(path) {
-        return Ok(());
-    }
-    match OpenOptions::new()
-        .write(true)
-        .create_new(true)
-        .mode(OWNER_ALONE)
-        .open(rt, path)
-    {
-        // The umask may have removed permissions that the owner needs.
-        Ok(file) => file.set_permissions(Permissions::from_mode(OWNER_ALONE)),
-        Err(error) if error.kind() == ErrorKind::AlreadyExists => Ok(()),
-        Err(error) => Err(error),
-    }
-}
-
 /// Makes the file of a guard, if it doesn't exist.
-pub(crate) fn made(rt: &HostRuntime, path: &str) -> Result<(), StationFault>
+pub(crate) fn made(opener: &Opener, path: &str) -> Result<(), StationFault>
     ensures { IfErr result IsOfFiles }
 {
-    match make_file(rt, path) {
+    match opener.make(path) {
         Ok(()) => Ok(()),
         Err(error) => Err(unfound_fault(&error)),
     }
@@ -133,10 +108,10 @@ pub(crate) fn made(rt: &HostRuntime, path: &str) -> Result<(), StationFault>
 
 /// Looks for the file of a guard.
 #[tactic(auto, using(crate::proofs::Kept::files_searched))]
-pub(crate) fn looked_for(rt: &HostRuntime, path: &str) -> Result<(), StationFault>
+pub(crate) fn looked_for(opener: &Opener, path: &str) -> Result<(), StationFault>
     ensures { IfErr result IsOfSearch }
 {
-    match fs::exists(rt, path) {
+    match opener.finds(path) {
         Ok(true) => Ok(()),
         Ok(false) => Err(StationFault::NotAGuard),
         Err(error) => Err(unfound_fault(&error)),
@@ -146,17 +121,17 @@ pub(crate) fn looked_for(rt: &HostRuntime, path: &str) -> Result<(), StationFaul
 /// The guard in the files of a database, which are opened once.
 #[derive(Drop)]
 pub(crate) struct GuardDatabase<'a, S: Start> {
-    rt: &'a HostRuntime,
+    opener: &'a Opener,
     files: FilesAt<S>,
 }
 
 impl<'a, S: Start> GuardDatabase<'a, S> {
     /// The guard in files that hold what `start` represents, before they are opened.
-    pub(crate) fn new(rt: &'a HostRuntime, start: S) -> GuardDatabase<'a, S>
+    pub(crate) fn new(opener: &'a Opener, start: S) -> GuardDatabase<'a, S>
         ensures { AreUnopened start result.files }
     {
         GuardDatabase {
-            rt,
+            opener,
             files: DatabaseFiles::Unopened(start),
         }
     }
@@ -167,7 +142,7 @@ impl<'a, S: Start> GuardDatabase<'a, S> {
         ensures none { ConnectsOrNot (image_at S.Start) result self.old.files self.new.files }
     {
         match replace(&mut self.files, DatabaseFiles::Connected) {
-            DatabaseFiles::Unopened(start) => match open_database(self.rt, path, start) {
+            DatabaseFiles::Unopened(start) => match open_database(self.opener, path, start) {
                 Ok(conn) => Ok(conn),
                 Err(fault) => {
                     let told = database_fault(fault.error());
@@ -264,7 +239,7 @@ impl<S: Start> GuardFile for GuardDatabase<'_, S> {
         path: &str,
         scope: &Scope,
     ) -> Result<FileGuard<S>, StationFault> {
-        match made(self.rt, path) {
+        match made(self.opener, path) {
             Ok(()) => match self.connect(path) {
                 Ok(conn) => match make_over(alloc, conn, scope.ca, scope.first, scope.last) {
                     Ok(guard) => Ok(guard),
@@ -280,7 +255,7 @@ impl<S: Start> GuardFile for GuardDatabase<'_, S> {
     }
 
     fn open(&mut self, alloc: Global, path: &str) -> Result<FileGuard<S>, StationFault> {
-        match looked_for(self.rt, path) {
+        match looked_for(self.opener, path) {
             Ok(()) => match self.connect(path) {
                 Ok(conn) => match open_over(alloc, conn) {
                     Ok(opened) => Ok(opened),

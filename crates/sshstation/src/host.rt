@@ -19,17 +19,19 @@ use list_jobs::ListFile;
 use list_sql::ListStore;
 use sqlite::{FileFrom, FileStore, Start};
 use station_jobs::{GuardFile, StationFault, Surroundings, file_fault};
-use std::fs;
+use std::alloc::Global;
+use std::fs::File;
 use std::io::{BufRead, Read, Write};
 use std::time::{Clock, SystemTime, UNIX_EPOCH};
+use system::{Opener, System};
 use values::LATEST_MOMENT;
 use wire::Sink;
 
 /// The system. Nothing is stated about its files and its clock.
 #[derive(Drop)]
 pub(crate) struct Host<'a> {
-    /// The program's runtime.
-    pub rt: &'a HostRuntime,
+    /// What the program reads.
+    pub system: &'a System,
 }
 
 /// The time in seconds since 1970-01-01 00:00:00 UTC, or `None` if the clock fails or is past the latest time.
@@ -50,17 +52,17 @@ fn moment_of<C: Clock>(clock: &C) -> Option<u64>
 }
 
 impl Surroundings for Host<'_> {
-    type File = fs::File;
+    type File = File;
 
-    fn open(&self, path: &str) -> Result<fs::File, StationFault> {
-        match fs::open(self.rt, path) {
+    fn open(&self, path: &str) -> Result<File, StationFault> {
+        match self.system.open(path) {
             Ok(file) => Ok(file),
             Err(error) => Err(file_fault(&error)),
         }
     }
 
     fn moment(&self) -> Option<u64> {
-        moment_of(self.rt)
+        moment_of(self.system)
     }
 }
 
@@ -76,7 +78,8 @@ pub(crate) fn run<
     O: Write,
     E: Sink,
 >(
-    rt: &HostRuntime,
+    alloc: Global,
+    opener: &Opener,
     around: &P,
     start: S,
     lists: T,
@@ -102,18 +105,9 @@ pub(crate) fn run<
         (map string_bytes words.now) (I.remaining input.old) (O.contents out.old) (O.contents out.new)
         (Takes (E.failed err.old) (E.failed err.new) (E.taken err.old) (E.taken err.new)) result.0 }
 {
-    let mut db = GuardDatabase::new(rt, start);
-    let mut lists = ListDatabase::new(rt, lists);
-    let status = do_words(
-        rt.alloc(),
-        around,
-        &mut db,
-        &mut lists,
-        words,
-        input,
-        out,
-        err,
-    );
+    let mut db = GuardDatabase::new(opener, start);
+    let mut lists = ListDatabase::new(opener, lists);
+    let status = do_words(alloc, around, &mut db, &mut lists, words, input, out, err);
     let guard_files = db.into_files();
     let list_files = lists.into_files();
     (status, guard_files, list_files)

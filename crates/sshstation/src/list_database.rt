@@ -14,11 +14,12 @@ use crate::guard_database::{
 };
 use files::OpenFault;
 use list_jobs::ListFile;
-use list_sql::{ListStore, OpeningFault, end_path, open_at};
+use list_sql::{ListStore, OpeningFault, end_path, what_is_found_is_had};
 use sqlite::{FileFrom, FileStore, Files, Start};
 use station_jobs::StationFault;
 use std::alloc::Global;
 use std::mem::replace;
+use system::Opener;
 
 /// A guard of lists in the files at a path.
 type FileLists<S> = ListStore<FileStore<FileFrom<S>>>;
@@ -42,15 +43,18 @@ fn unopened_fault(fault: OpeningFault) -> StationFault
 
 /// Opens the database at a path, or makes one without tables. `start` represents what its files hold.
 fn open_lists<S: Start>(
-    rt: &HostRuntime,
+    opener: &Opener,
     path: &str,
     start: S,
 ) -> Result<FileConnection<S>, OpenFault<FileFrom<S>>>
     ensures ok { IfOk result (OpensLists (image_at S.Start)) }
     ensures fails { OpensOrFails (image_at S.Start) result }
 {
-    match open_at(rt, path, start) {
-        Ok(found) => Ok(found),
+    match opener.open(path, start) {
+        Ok(found) => {
+            what_is_found_is_had(&found);
+            Ok(found)
+        }
         Err(fault) => Err(fault),
     }
 }
@@ -58,17 +62,17 @@ fn open_lists<S: Start>(
 /// The guard of lists in the files of a database, which are opened once.
 #[derive(Drop)]
 pub(crate) struct ListDatabase<'a, S: Start> {
-    rt: &'a HostRuntime,
+    opener: &'a Opener,
     files: FilesAt<S>,
 }
 
 impl<'a, S: Start> ListDatabase<'a, S> {
     /// The guard of lists in files that hold what `start` represents, before they are opened.
-    pub(crate) fn new(rt: &'a HostRuntime, start: S) -> ListDatabase<'a, S>
+    pub(crate) fn new(opener: &'a Opener, start: S) -> ListDatabase<'a, S>
         ensures { AreUnopened start result.files }
     {
         ListDatabase {
-            rt,
+            opener,
             files: DatabaseFiles::Unopened(start),
         }
     }
@@ -79,7 +83,7 @@ impl<'a, S: Start> ListDatabase<'a, S> {
         ensures none { ConnectsOrNot (image_at S.Start) result self.old.files self.new.files }
     {
         match replace(&mut self.files, DatabaseFiles::Connected) {
-            DatabaseFiles::Unopened(start) => match open_lists(self.rt, path, start) {
+            DatabaseFiles::Unopened(start) => match open_lists(self.opener, path, start) {
                 Ok(conn) => Ok(conn),
                 Err(fault) => {
                     let told = database_fault(fault.error());
@@ -145,7 +149,7 @@ impl<S: Start> ListFile for ListDatabase<'_, S> {
     ghost closes = { λ _ guard done db. AreLeftAs db.files (EndsList guard done) };
 
     fn make(&mut self, alloc: Global, path: &str) -> Result<FileLists<S>, StationFault> {
-        match made(self.rt, path) {
+        match made(self.opener, path) {
             Ok(()) => match self.connect(path) {
                 Ok(conn) => match make_over(alloc, conn) {
                     Ok(guard) => Ok(guard),
@@ -161,7 +165,7 @@ impl<S: Start> ListFile for ListDatabase<'_, S> {
     }
 
     fn open(&mut self, alloc: Global, path: &str) -> Result<FileLists<S>, StationFault> {
-        match looked_for(self.rt, path) {
+        match looked_for(self.opener, path) {
             Ok(()) => match self.connect(path) {
                 Ok(conn) => match open_over(alloc, conn) {
                     Ok(opened) => Ok(opened),

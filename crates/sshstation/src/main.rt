@@ -16,25 +16,20 @@ mod list_database;
 
 use sqlite::Unknown;
 use std::process::ExitCode;
-use std::rt::Env;
-use std::{env, io};
+use system::{Opener, System};
 use wire::FromWrite;
 
-fn words_of<R: Env + AllocGlobal>(rt: &R) -> io::Result<Vec<String>> {
-    let words = env::args(rt)?.collect(rt.alloc())?;
-    Ok(words)
-}
-
-fn status_by(rt: &HostRuntime) -> u8 {
-    let mut err = FromWrite::new(rt.stderr());
-    let mut out = rt.stdout();
-    match words_of(rt) {
+fn status_by(system: &System, opener: &Opener) -> u8 {
+    let mut err = FromWrite::new(system.errors());
+    let mut out = system.output();
+    match system.words() {
         Ok(words) => {
-            let around = host::Host { rt };
+            let alloc = system.alloc();
+            let around = host::Host { system };
             let words = words.as_slice();
-            let mut input = rt.reader();
+            let mut input = system.input();
             host::run(
-                rt, &around, Unknown, Unknown, words, &mut input, &mut out, &mut err,
+                alloc, opener, &around, Unknown, Unknown, words, &mut input, &mut out, &mut err,
             )
             .0
         }
@@ -43,5 +38,5 @@ fn status_by(rt: &HostRuntime) -> u8 {
 }
 
 fn main(rt: HostRuntime) -> ExitCode {
-    ExitCode::from(status_by(&rt))
+    ExitCode::from(status_by(&System::new(rt), &Opener::new(rt)))
 }

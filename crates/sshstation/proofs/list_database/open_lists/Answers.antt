@@ -1,3 +1,6 @@
+use Rattle.sqlite_wal.specs.Files.{image_at}
+use Rattle.sqlite.specs.Files.{file_state}
+use Rattle.list_sql.proofs.Opened.{blank_if_none, has_what_is_held}
 use Rattle.sshstation.proofs.list_database.open_lists.Goals as goal
 
 pub returns-in-Ok-clause-ok : goal.returns-in-Ok-clause-ok
@@ -5,6 +8,11 @@ returns-in-Ok-clause-ok g c = record {
   new = c.in-Ok.ensures.new;
   opened = c.in-Ok.ensures.opened;
   found = c.in-Ok.ensures.found;
-  held = c.in-Ok.ensures.held;
-  blank = c.in-Ok.ensures.blank;
+  held = λ clean.
+      let opened = c.in-Ok.ensures.opened clean in
+      has_what_is_held (image_at g.S.Start) (file_state c.in-Ok.found) opened.0 opened.1
+      (c.in-Ok.ensures.found clean) c.what_is_found_is_had.ensures;
+  blank = λ clean.
+      let opened = c.in-Ok.ensures.opened clean in
+      blank_if_none (image_at g.S.Start) (file_state c.in-Ok.found) opened.0 opened.1 (c.in-Ok.ensures.found clean);
 }
