@@ -1,0 +1,1 @@
+"""What the programs of several machines have in common. Each thing is here once, and none of it knows a program."""

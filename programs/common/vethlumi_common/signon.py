@@ -1,0 +1,19 @@
+"""What the client and the registrar agree on about a login."""
+import base64
+import hashlib
+
+
+def url64(data):
+    """Unpadded base64url (RFC 7515, section 2)."""
+    return base64.urlsafe_b64encode(data).rstrip(b"=").decode()
+
+
+def nonce_of(blob):
+    """The nonce that binds a login to a public key: whoever steals the token can't use it for a key of their own."""
+    return url64(hashlib.sha256(blob).digest())
+
+
+def tag_of(issuer, subject):
+    """Who somebody is at an issuer, whatever the name: 80 bits of a hash, in base32. A name may be given to somebody
+    else later, and an account never."""
+    return base64.b32encode(hashlib.sha256(f"{issuer}\n{subject}".encode()).digest()[:10]).decode().lower()
