@@ -1,22 +1,8 @@
-"""The addresses of a name, and which of them this machine has a way to."""
+"""To which of the addresses of a name this machine has a way."""
 import contextlib
-import functools
-import re
 import socket
 
-from .running import output_of
-
-# The addresses of an address: nobody is asked.
-numeric = functools.partial(socket.getaddrinfo, type=socket.SOCK_STREAM, flags=socket.AI_NUMERICHOST)
-
-
-def addresses(host, port, seconds):
-    """The addresses of a name, in the form of socket.getaddrinfo, found by a program that can be killed. glibc waits
-    without end for a name server that takes a connection and sends nothing, and until then Python handles no signal."""
-    with contextlib.suppress(socket.gaierror):
-        return numeric(host, port)
-    found = output_of(["getent", "ahosts", "--", host], timeout=seconds).decode(errors="replace")
-    return [it for address in re.findall(r"^(\S+) +STREAM", found, re.MULTILINE) for it in numeric(address, port)]
+from vethlumi_common.addresses import numeric
 
 
 def has_route(address):

@@ -12,12 +12,14 @@ import threading
 import time
 import urllib.parse
 
-from .addresses import addresses, fronts_at, numeric
+from vethlumi_common.addresses import addresses, numeric
+
+from .addresses import fronts_at
 from .faults import Fault
 from .files import check_secret, state_of
 from .journal import printable
-from .limits import (FOR_A_WHILE, LONGEST_BODY, LONGEST_CONNECTING, LONGEST_LIST, LONGEST_PENDING, LONGEST_PUBLISHING,
-                     LONGEST_REPLY, LONGEST_REQUEST, MOST_FRONTS, PIECE)
+from .limits import (LONGEST_BODY, LONGEST_CONNECTING, LONGEST_EVIDENCE, LONGEST_LIST, LONGEST_PENDING,
+                     LONGEST_PUBLISHING, LONGEST_REPLY, LONGEST_REQUEST, MOST_FRONTS, PIECE)
 from .wire import SIGNATURE_BLOB
 
 PENDING = re.compile(rb"[1-9][0-9]{0,18} [0-9a-f]{64}\n")
@@ -168,18 +170,19 @@ class Connection:
             raise OSError("half an answer")
         return text
 
-
-    def tag(self, path, seconds=LONGEST_REQUEST):
+    def tag(self, path):
         """What tells a file of the front from what it was before: its ETag, or None if it doesn't give one."""
-        limit, answer = Limit(seconds), None
+        answer = None
         try:
-            answer, _ = self.answer("HEAD", self.office.request("HEAD", path, None), 0, limit)
-        except (OSError, http.client.HTTPException, ValueError):
-            pass
+            answer, _ = self.answer("HEAD", self.office.request("HEAD", path, None), 0, Limit(LONGEST_REQUEST))
+        except (OSError, Fault):
+            raise
+        except Exception as fault:
+            raise OSError(str(fault)) from None
         finally:
             if not answer:
                 self.close()
-        return answer.getheader("etag") if answer and answer.status == 200 else None
+        return answer.getheader("etag") if answer.status == 200 else None
 
 
 class Office:
@@ -203,8 +206,6 @@ class Office:
         # next connection begins, and the kinds of addresses with a way to them.
         self.found, self.has_several, self.turn, self.routed = [], True, 0, set()
         self.lock, self.seen, self.context = threading.Lock(), None, None
-        # The moment before which the front isn't asked how many messages were accepted: it may not know.
-        self.knows_at = 0
         # That of the thread which looks up names: a program that asks for them is ended with it.
         self.own = Connection(self, looks_up=True)
 
@@ -265,21 +266,26 @@ class Office:
                 raise OSError("what came isn't a list of pending certificates")
         return list(rows), is_whole
 
-    def messages(self):
-        """What changes with each message that the front has seen accepted, or None if nobody says. It is a hint alone.
-        A front of several knows of its own messages alone."""
-        if not self.is_tls or self.has_several or time.monotonic() < self.knows_at:
-            return None
-        found = self.own.tag("/v1/messages")
-        if not found:
-            self.knows_at = time.monotonic() + FOR_A_WHILE
-        return found
-
     def body(self, serial, connection):
         return connection.ask(f"/v1/certs/{serial}/body", LONGEST_BODY)
 
-    def list(self):
-        return self.own.ask("/v1/krl", LONGEST_LIST, seconds=LONGEST_PUBLISHING)
+    def evidence(self, digest, connection):
+        """What the registrar has put at a front for the key of this digest, or None. Of several fronts, one has it."""
+        others = [place[0] for *_, place in self.found] if self.has_several else []
+        for address in [None, *others[:MOST_FRONTS]]:
+            it = Connection(self, only=address) if address else connection
+            try:
+                return it.ask(f"/evidence/{digest}", LONGEST_EVIDENCE)
+            except OSError as fault:
+                if not str(fault).startswith("404"):
+                    raise
+            finally:
+                if address:
+                    it.close()
+        return None
+
+    def list(self, connection):
+        return connection.ask("/v1/krl", LONGEST_LIST, seconds=LONGEST_PUBLISHING)
 
     def publish(self, file):
         """Gives the bytes of a file to the front at each address, in the place of the one that it has. Returns whether

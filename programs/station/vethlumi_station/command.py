@@ -3,24 +3,42 @@
 station [OPTION..] --db FILE --policy FILE --key PEM OFFICE
 station [OPTION..] --db FILE --policy FILE --agent KEY.pub OFFICE
 station [OPTION..] --db FILE --policy FILE --pkcs11 MODULE --id ID --pin-file FILE OFFICE
+station witness [--db FILE [--forget KID] | --check FILE]
 
-OFFICE is the URL of the front (the reverse proxy), for example https://office.example.org:8443, or of the office
-itself, http://127.0.0.1:8022. By http it only asks an office on this machine.
+OFFICE is the URL of the front (the reverse proxy), or of an office on this machine.
 
   --db FILE        the guard's database, created by `sshstation init`
-  --policy FILE    what may be signed: departments. A change takes effect at the next certificate
+  --policy FILE    what may be signed: departments
   --ahead SECONDS  how far in the future a validity may begin [default: 3600]
-
-The CA's private key is one of these:
-
-  --key PEM        a file in PKCS #8, without a passphrase
-  --agent KEY.pub  a key in the ssh-agent at SSH_AUTH_SOCK, given by its public-key line
-  --pkcs11 MODULE  a key in a token, for example with the module /usr/lib/softhsm/libsofthsm2.so; this needs the package
-                   python3-pykcs11
+  --key PEM        the CA's private key, in PKCS #8, without a passphrase
+  --agent KEY.pub  or a key in the ssh-agent, given by its public-key line
+  --pkcs11 MODULE  or a key in a token, with this module
   --id ID          the key's ID in the token, in hexadecimal
   --pin-file FILE  a file whose first line is the token's PIN
   --token LABEL    the token's label, if the module has several tokens
   --slot N         the number of the token's slot, in place of a label
+  --lists FILE     also publish the KRL: the database of the guard of lists
+  --list-ca FILE   with --lists: all CAs that the office has had
+  --publish-every SECONDS
+                   how often to publish [default: 60]
+  --witness FILE   let a witness look at each login: its settings
+  --other-ca FILE  CAs for which other stations sign; may be repeated
+  --cert PEM       the station's key and certificate in one file
+  --cacert FILE    the authority that issued the front's certificate
+  --caller NAME    its name at an office without a front [default: station]
+  --events         also print the audit trail: one line of JSON for each event
+  --copy FILE      make FILE, a copy of the guard's database, if it is missing
+  --once           look for pending certificates once, and exit
+  --interval N     how often to look, in seconds [default: 0.05]
+
+Exit status: 0 if it was stopped by SIGTERM; 1, with the reason on standard error; 2 for invalid arguments; 3 if a token
+refuses the PIN.
+
+Notes:
+
+The URL of a front is for example https://office.example.org:8443, that of an office http://127.0.0.1:8022. By http the
+station only asks an office on this machine. A change of the policy takes effect at the next certificate. A token needs
+the package python3-pykcs11, and a module such as /usr/lib/softhsm/libsofthsm2.so. An agent is the one at SSH_AUTH_SOCK.
 
 The station signs, and verifies each signature, in its own process, except that a token's module runs in a second one,
 which is ended if it hangs. What was approved, signed and verified is one piece of memory: no file holds it. If a token
@@ -28,28 +46,36 @@ refuses the PIN, the station ends with status 3 and doesn't try the PIN again, s
 
 A file with a private key or a PIN is refused if its mode lets others use it. If it is root's and the station runs as
 another user, its group may read it. The station looks at the start, and at a private key again before each use. The
-files of --db and --lists with their logs, --policy, --other-ca, --list-ca and --cacert are refused, at the start, each
-second and before something new is signed, if their group or others can write them, or if they belong to another user
-than root and the station's own.
+files of --db and --lists with their logs, --policy, --other-ca, --list-ca, --witness and --cacert are refused, at the
+start, each second and before something new is signed, if their group or others can write them, or if they belong to
+another user than root and the station's own.
 
-With these, the station also publishes the office's KRL:
+The database of --lists is created by `sshstation lists --init`. A file of --list-ca has the public-key lines of CAs,
+including the station's own; the option may be repeated. The files are read again each time.
 
-  --lists FILE     the database of the guard of lists, created by `sshstation lists --init`
-  --list-ca FILE   the public-key lines of all CAs that the office has had, including the station's own; may be
-                   repeated. The files are read again each time
-  --publish-every SECONDS
-                   how often to publish [default: 60]
+A file of --other-ca has public-key lines, too. Certificates for these CAs are skipped silently. The files are read
+again each second, and before something new is signed. Without --cacert, all authorities that this system trusts count.
+--copy makes its file whenever it isn't there, because the guard keeps its own locked. Remove FILE for a new one, which
+comes once nothing is being judged. --events prints a line for each certificate that is signed, approved without a
+signature or refused, and for each list that is published or refused. --interval only counts unless the front, at each
+address of its name, says when to look for pending certificates. Then the station looks every N seconds, but 50 times a
+second in the minute after one has come.
 
-Other options:
+With --witness, a witness looks at each certificate before the guard does. FILE has settings in TOML: identity
+providers, and the departments whose people log in there. Each department for users is witnessed unless its table says
+`witness = false`. In one that is, a certificate is signed only if a token, which the registrar has left at the front
+for exactly this key, gives it: key ID, principals, options, extensions, and both ends of its validity. The token has to
+be signed by a key of the provider, which the station asks by one https URL, if necessary by a proxy, or reads from a
+file. If there is no token yet, the station asks for it each second, and after a minute it reports NoEvidence. What the
+witness refuses is reported as NotWitnessed, with the reason. docs/FORMATS.md has the settings. It needs the packages
+python3-jwt and python3-requests.
 
-  --other-ca FILE  the public-key lines of CAs for which other stations sign; may be repeated. Certificates for these
-                   are skipped silently. The files are read again each second, and before something new is signed
-  --cert PEM       the station's key and certificate in one file, for the front
-  --cacert FILE    the authority that issued the front's certificate. Without it, all that this system trusts count
-  --caller NAME    the station's name at an office without a front [default: station]
-  --once           look for pending certificates once, and exit
-  --interval N     if no front says when to look for pending certificates: look every N seconds, but 50 times a second
-                   in the minute after one has come [default: 0.05]
+The provider's keys are kept beside the file of --db, each with its first and last sight. A key counts for tokens that
+were issued until an hour after its last sight.
+
+  station witness --db FILE               prints these keys
+  station witness --db FILE --forget KID  drops those of this ID for good, even if the provider shows them again
+  station witness --check FILE            reads settings, and prints each department and its provider
 
 For each pending certificate, the station fetches the unsigned certificate, checks its digest and its serial, asks the
 guard (`sshstation judge`, which has to be on the PATH), signs, verifies the signature, delivers it, and prints `signed
@@ -61,14 +87,14 @@ sign again after a pause that grows to a minute, and at once if the policy or a 
 always after all new ones. Of more than 64 MiB of pending certificates it takes the first. After a list that is long, or
 an office that doesn't answer, it looks less often: at least once a second.
 
-At the start, and then every --publish-every seconds, the station fetches the office's KRL, of at most 32 MiB. If
-`ssh-keygen -Q -l` can read it, within five seconds of a processor and 400 MiB of memory, the station asks the guard of
-lists
-(`sshstation list`) whether it revokes everything that the last approved one does. If so, the station signs a statement
-of the KRL's digest, version and time, in the form of `ssh-keygen -Y sign -n krl@vethlumi`, and sends the front one
-file, by PUT of /published: the statement, the signature and the KRL. It prints `published VERSION` if it is new. If a
-KRL isn't published, the reason is printed on standard error, and the station tries again every ten seconds. A KRL whose
-version is too high for the number of its revocations is refused as VersionJumps.
+At the start, and then every --publish-every seconds, the station fetches the office's KRL, of at most 32 MiB. It goes
+on signing certificates meanwhile. If `ssh-keygen -Q -l` can read the KRL, within five seconds of a processor and 400
+MiB of memory, the station asks the guard of lists (`sshstation list`) whether it revokes everything that the last
+approved one does. If so, the station signs a statement of the KRL's digest, version and time, in the form of
+`ssh-keygen -Y sign -n krl@vethlumi`, and sends the front one file, by PUT of /published: the statement, the signature
+and the KRL. It prints `published VERSION` if it is new. If a KRL isn't published, the reason is printed on standard
+error, and the station tries again every ten seconds. A KRL whose version is too high for the number of its revocations
+is refused as VersionJumps.
 
 If the front's name has several addresses, the file is sent to each of them, at most eight, and together they get a
 minute. Each that doesn't take it is named on standard error, with the reason, and all of them get the file again after
@@ -78,8 +104,8 @@ A station that is told to end, by SIGTERM, SIGINT, SIGHUP or SIGQUIT, lets its g
 their files: the guard gets a minute, and that of lists two. What else it has begun is killed. A second signal changes
 nothing.
 
-Exit status: 0 if it was stopped by SIGTERM, 129, 130 or 131 if by SIGHUP, SIGINT or SIGQUIT; 1, with the reason on
-standard error, if the guard has exited, for example with `BadPolicy N`, if a file of CAs can't be read, if a file with
+Exit status in full: 0 if it was stopped by SIGTERM, 129, 130 or 131 if by SIGHUP, SIGINT or SIGQUIT; 1, with the reason
+on standard error, if the guard has exited, for example with `BadPolicy N`, if a file of CAs can't be read, if a file with
 a private key can't be read, if a file is refused for its mode or its owner, or if the output can't be written; 2 for
 invalid arguments; 3 if a token refuses the PIN. With --once: 0 if no certificate is pending except for other stations,
 and the KRL was published at each address; 1 if one is still pending, the KRL wasn't, or the office doesn't answer.
@@ -92,12 +118,15 @@ import shutil
 import signal
 import sys
 
+from vethlumi_common.helps import on_a_screen
+
 from .ending import ENDINGS, end_once
 from .faults import Fault
 from .files import check_readable, check_secret
 from .journal import print_line
 from .rounds import Station
 from .token import OF_TOKEN, ask_token
+from .witnessing import of_witness
 
 # By http, an office on another machine could be anybody on the way to it.
 LOCAL = re.compile(r"http://(localhost|127(\.[0-9]{1,3}){3}|\[::1\])(:[0-9]{1,5})?(/\S*)?", re.ASCII)
@@ -108,20 +137,22 @@ def words():
     usage = "station --db FILE --policy FILE --key PEM OFFICE (station --help explains all)"
     parser = argparse.ArgumentParser(prog="station", usage=usage, add_help=False, allow_abbrev=False)
     parser.add_argument("-h", "--help", action="store_true")
-    for name in ("db", "policy", "key", "agent", "pkcs11", "id", "pin-file", "token", "cert", "cacert", "lists"):
+    for name in ("db", "policy", "key", "agent", "pkcs11", "id", "pin-file", "token", "cert", "cacert", "lists",
+                 "copy", "witness"):
         parser.add_argument(f"--{name}")
     parser.add_argument("--slot", type=int)
     for name in ("other-ca", "list-ca"):
         parser.add_argument(f"--{name}", action="append", default=[])
     parser.add_argument("--publish-every", type=int, default=60)
     parser.add_argument("--caller", default="station")
-    parser.add_argument("--once", action="store_true")
+    for name in ("once", "events"):
+        parser.add_argument(f"--{name}", action="store_true")
     parser.add_argument("--interval", type=float, default=0.05)
     parser.add_argument("--ahead", type=int, default=3600)
     parser.add_argument("office", nargs="?")
     given = parser.parse_args()
     if given.help:
-        print(__doc__, end="")
+        print(on_a_screen(__doc__, "station"), end="")
         sys.exit()
     check(parser, given)
     return given
@@ -149,6 +180,8 @@ def check(parser, given):
         parser.error("--interval is 0.01 to 86400, and --ahead at least 0")
     if bool(given.lists) != bool(given.list_ca):
         parser.error("--lists needs --list-ca, and --list-ca needs --lists")
+    if given.copy and os.path.realpath(given.copy) in map(os.path.realpath, filter(None, (given.db, given.lists))):
+        parser.error("--copy is another file than --db and --lists")
     if given.publish_every < 1:
         parser.error("--publish-every is at least 1")
 
@@ -164,6 +197,8 @@ def main():
         with contextlib.suppress(EOFError, BrokenPipeError):
             ask_token()
         return
+    if sys.argv[1:2] == ["witness"]:
+        sys.exit(of_witness(sys.argv[2:], on_a_screen(__doc__, "station")))
     given = words()
     for it in ENDINGS:
         # What whoever began the station has it ignore, as nohup does, it ignores.

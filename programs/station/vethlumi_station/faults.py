@@ -12,7 +12,11 @@ class WrongPin(Fault):
 
 
 class Refused(Exception):
-    """Why the guard refuses a body or a list."""
+    """Why the guard refuses a body or a list, or the witness a body."""
+
+
+class NoEvidence(Exception):
+    """What shows that a body is a login's hasn't come."""
 
 
 class OtherCa(Exception):

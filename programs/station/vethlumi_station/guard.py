@@ -3,19 +3,22 @@ import contextlib
 import subprocess
 import sys
 
-from .ending import at_most, held_off
+from vethlumi_common.deadlines import at_most
+from vethlumi_common.ssh import BadFormat
+from vethlumi_common.subjects import at_serial
+
+from .ending import held_off
 from .faults import Fault
+from .files import unusable, unusable_database
 from .journal import print_line
-from .limits import LONGEST_ENDING, LONGEST_JUDGED, LONGEST_JUDGING
+from .limits import LONGEST_ENDING, LONGEST_JUDGED, LONGEST_JUDGING, OF_A_FAULT
 
 
 def serial_of(body):
-    """The serial in a body, or None if it ends before that. The certificate's type, a nonce and a key come first, each
-    with its length."""
-    at = 0
-    for _ in range(3):
-        at += 4 + int.from_bytes(body[at:at + 4], "big")
-    return int.from_bytes(body[at:at + 8], "big") if at + 8 <= len(body) else None
+    """The serial in a body, or None if it ends before that."""
+    with contextlib.suppress(BadFormat):
+        return at_serial(body).number(8)
+    return None
 
 
 def refused_for_its_length(body):
@@ -24,10 +27,12 @@ def refused_for_its_length(body):
 
 
 class Guard:
-    """The guard, which judges bodies in their order. What it reports of its own end goes to standard error. While it is
-    begun, and while it ends, what tells the station to end is held off."""
+    """The guard, which judges bodies in their order. What it reports of its own end goes to standard error, and then
+    what the station sees of its files. While it is begun, and while it ends, what tells the station to end is held
+    off."""
 
     def __init__(self, given):
+        self.given, self.is_explained = given, False
         words = ["sshstation", "judge", "--db", given.db, "--policy", given.policy, "--ahead", str(given.ahead), "-"]
         self.process = subprocess.Popen(words, stdin=subprocess.PIPE, stdout=subprocess.PIPE)
 
@@ -65,10 +70,18 @@ class Guard:
     def stay(self):
         """Raises a fault if the guard has ended."""
         if self.process.poll() is not None:
-            raise Fault(f"the guard has ended with status {self.process.returncode}")
+            raise Fault(f"the guard has ended with status {self.end()}")
 
     def end(self):
         """Has the guard end, which then closes its file and copies the log, and returns its status."""
+        status = self.ended()
+        if status == OF_A_FAULT and not self.is_explained:
+            self.is_explained = True
+            for why in filter(None, (unusable(self.given.policy, False), unusable_database(self.given.db))):
+                print_line(f"station: {why}", sys.stderr)
+        return status
+
+    def ended(self):
         with held_off():
             with contextlib.suppress(BrokenPipeError):
                 self.process.stdin.close()

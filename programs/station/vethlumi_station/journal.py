@@ -1,6 +1,4 @@
 """What a station says, and how often."""
-import base64
-import hashlib
 import os
 import re
 import sys
@@ -9,8 +7,8 @@ import time
 from .faults import Fault
 from .limits import LONGEST_SERIALS, MOST_REMEMBERED, SAID_AT_ONCE, SAID_A_SECOND
 
-# What is another text each time, in what a program or Python says.
-CHANGING = re.compile(r" object at 0x[0-9a-f]+")
+# What is another text each time, in what a program or Python says, and what a terminal may not show.
+CHANGING, UNPRINTABLE = re.compile(r" object at 0x[0-9a-f]+"), re.compile(r"[^ -~]")
 # How much of a text is looked through for that: the time grows with the square of the length, and an office may send
 # megabytes.
 MOST_OF_A_TEXT = 1000
@@ -19,7 +17,7 @@ MOST_OF_A_TEXT = 1000
 def printable(text):
     """At most 200 letters of a text, all of them such as a terminal may show. Where Python has an object in memory is
     left out: it would be another text each time."""
-    return re.sub(r"[^ -~]", "?", re.sub(CHANGING, "", str(text)[:MOST_OF_A_TEXT])[:200])
+    return UNPRINTABLE.sub("?", CHANGING.sub("", str(text)[:MOST_OF_A_TEXT])[:200])
 
 
 def print_line(line, file):
@@ -30,10 +28,6 @@ def print_line(line, file):
         # Python would try to write it once more at its end.
         os.dup2(os.open(os.devnull, os.O_WRONLY), file.fileno())
         raise Fault(f"can't print '{line}': {fault.strerror or fault}") from None
-
-
-def fingerprint(key):
-    return "SHA256:" + base64.b64encode(hashlib.sha256(key).digest()).decode().rstrip("=")
 
 
 def joined(serials):

@@ -11,13 +11,16 @@ from cryptography.exceptions import UnsupportedAlgorithm
 from cryptography.hazmat.primitives.asymmetric.ed25519 import Ed25519PrivateKey
 from cryptography.hazmat.primitives.serialization import load_pem_private_key
 
-from .ending import at_most, held_off
+from vethlumi_common.deadlines import at_most
+from vethlumi_common.ssh import string
+
+from .ending import held_off
 from .faults import Fault, WrongPin
 from .files import check_secret, keys_of, state_of
 from .journal import printable
 from .limits import LONGEST_REPLY, LONGEST_SIGNING
 from .token import OF_TOKEN, PIN_REFUSED, SIGNED
-from .wire import SIGNATURE_BLOB, string, string_in
+from .wire import SIGNATURE_BLOB, string_in
 
 # The numbers of the ssh-agent's protocol for a request of a signature, and for its answer.
 SIGN_REQUEST, SIGN_RESPONSE = 13, 14

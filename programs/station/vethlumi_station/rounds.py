@@ -9,18 +9,25 @@ import sys
 import time
 from concurrent.futures import FIRST_COMPLETED, Future, wait
 
+from vethlumi_common.deadlines import Overlong
+from vethlumi_common.ssh import fingerprint
+
 from .asking import Connection, Office
-from .ending import Overlong, end_if_told, held_off
-from .faults import OtherCa, Refused
+from .ending import end_if_told, held_off
+from .faults import Fault, NoEvidence, OtherCa, Refused
 from .files import check_kept, keys_of
 from .guard import Guard, serial_of
-from .journal import Room, Said, Serials, fingerprint, joined, print_line, printable
+from .hints import Hints
+from .journal import Room, Said, Serials, joined, print_line, printable
 from .keys import signer
-from .limits import (CONNECTIONS, FOR_A_WHILE, LONGEST_AGAIN, LONGEST_INTERVAL, LONGEST_PAUSE, LONGEST_PENDING,
-                     LONGEST_SILENCE, LONG_ANSWER, MOST_FETCHED, MOST_JUDGED, MOST_KEPT, MOST_REASONS, OFTEN,
-                     TIMES_AS_LONG)
+from .limits import (AWHILE, CONNECTIONS, FOR_A_WHILE, LONGEST_AGAIN, LONGEST_AWAITED, LONGEST_INTERVAL, LONGEST_PAUSE,
+                     LONGEST_PENDING, LONGEST_SILENCE, LONG_ANSWER, MOST_FETCHED, MOST_JUDGED, MOST_KEPT, MOST_REASONS,
+                     OFTEN, PAUSE_OF_EVIDENCE, TIMES_AS_LONG, TIMES_AS_SILENT)
 from .lists import Lists
+from .running import PROGRAMS
+from .trail import Copy, Trail
 from .wire import verifies
+from .witnessing import NEEDED
 from .workers import Workers
 
 # What is shown in place of more reasons.
@@ -33,6 +40,17 @@ def serial_in(row):
     return int(row.partition(" ")[0])
 
 
+def witness_of(given):
+    """The witness, if there are settings for one. Others need none of its libraries."""
+    if not given.witness:
+        return None
+    try:
+        from .witness import Witness
+    except ImportError as fault:
+        raise Fault(f"{NEEDED}: {printable(fault)}") from None
+    return Witness(given)
+
+
 class Station:
     """What a station keeps from one round to the next, by rows of what is pending: bodies, and of what it didn't sign
     the number of tries, the moment before which it isn't tried again, and why."""
@@ -43,15 +61,19 @@ class Station:
         self.room = Room()
         self.bodies, self.kept, self.left, self.said = {}, 0, {}, Said(self.room)
         self.signed, self.not_taken = Serials(self.room), Serials(self.room)
-        # The rows of this round, when it last said what was left of them, and the signatures that may have been sent
-        # and of which nothing is said yet: rows, with what comes of their deliveries.
-        self.rows, self.is_whole, self.silent_since, self.sent = [], True, 0, collections.deque()
+        # The rows of this round, when it says what is left of them, and the signatures that may have been sent and of
+        # which nothing is said yet: rows, with what comes of their deliveries.
+        self.rows, self.is_whole, self.silent_until, self.sent = [], True, 0, collections.deque()
+        # The witness, and since when evidence is awaited, by rows.
+        self.witness, self.awaited = witness_of(given), {}
         # The other CAs, when the files were last looked at, and what a refusal of the guard depends on.
         self.known, self.looked_at, self.rules = self.other_cas(), time.monotonic(), None
         # When this round began, how long the next one waits, how soon a front may have it begin, when a row was last
-        # new, and what the front last said of messages.
-        self.begun, self.pause, self.soonest, self.new_at, self.messages = 0, 0, 0, float("-inf"), None
-        self.lists = Lists(given, self.key, self.office, Room()) if given.lists else None
+        # new, and what the fronts last said of messages.
+        self.begun, self.pause, self.soonest, self.new_at, self.messages = 0, 0, 0, float("-inf"), {}
+        self.hints = Hints(self.office)
+        self.trail, self.copy = Trail(given.events, Room()), Copy(given.db, given.copy, Said(self.room))
+        self.lists = Lists(given, self.key, self.office, Room(), self.trail) if given.lists else None
         self.guard = None
 
     def other_cas(self):
@@ -59,6 +81,7 @@ class Station:
         databases = [it for it in (given.db, given.lists) if it]
         # A log has what its database doesn't have yet, and is a part of it.
         files = [given.policy, *databases, *(f"{it}-wal" for it in databases), *given.other_ca, *given.list_ca]
+        files += self.witness.files() if self.witness else []
         for path in [*files, *[given.cacert] * bool(given.cacert)]:
             check_kept(path)
         return {key for path in given.other_ca for key in keys_of(path)}
@@ -79,8 +102,9 @@ class Station:
         self.bodies = {row: self.bodies[row] for row in self.rows if row in self.bodies}
         self.kept = sum(map(len, self.bodies.values()))
         self.left = {row: self.left[row] for row in self.rows if row in self.left}
+        self.awaited = {row: self.awaited[row] for row in self.rows if row in self.awaited}
         self.forget_pauses()
-        self.silent_since = time.monotonic()
+        self.silent_until = time.monotonic() + LONGEST_SILENCE
         try:
             self.try_all(new)
             return self.report()
@@ -96,6 +120,8 @@ class Station:
         """Sees before each signature, and each second, that nobody else can change what decides about it."""
         if is_new or time.monotonic() > self.looked_at + LONGEST_INTERVAL:
             self.known, self.looked_at = self.other_cas(), time.monotonic()
+            if self.witness:
+                self.witness.read()
 
     def decide_pause(self, is_new):
         """Decides how long the next round waits."""
@@ -114,9 +140,10 @@ class Station:
         self.try_to_sign(new)
         end = time.monotonic() + min(LONGEST_AGAIN, max(OFTEN, self.pause))
         due = [it for it in again if self.left[it][1] <= time.monotonic()]
-        while due and time.monotonic() < end:
-            self.try_to_sign(due[:MOST_JUDGED])
-            due = due[MOST_JUDGED:]
+        for at in range(0, len(due), MOST_JUDGED):
+            if time.monotonic() > end:
+                break
+            self.try_to_sign(due[at:at + MOST_JUDGED])
 
     def try_to_sign(self, rows):
         """Signs pending certificates, or notes of each why it isn't signed. While the guard judges some of them, the
@@ -136,20 +163,25 @@ class Station:
             self.do_meanwhile()
 
     def fetched(self, row):
-        """What comes of fetching a body: the one that is kept, if it is."""
-        future = Future()
-        if row in self.bodies:
-            future.set_result(self.bodies[row])
+        """What comes of fetching a body, with why the witness objects to it: the body that is kept, if it is."""
+        future, body = Future(), self.bodies.get(row)
+        if body is not None and not self.witness:
+            future.set_result((body, None))
         else:
-            self.fetching.do(future, self.fetch, row)
+            self.fetching.do(future, self.fetch, row, body)
         return future
 
-    def fetch(self, row, connection):
+    def fetch(self, row, body, connection):
         serial, digest = row.split(" ")
-        body = self.office.body(serial, connection)
+        body = self.office.body(serial, connection) if body is None else body
         if hashlib.sha256(body).hexdigest() != digest:
             raise OSError("its body has another digest than the one that is pending")
-        return body
+        try:
+            if self.witness:
+                self.witness.look(body, lambda of_key: self.office.evidence(of_key, connection))
+        except (Refused, NoEvidence, OSError) as objection:
+            return body, objection
+        return body, None
 
     def next_of(self, fetched):
         """The next rows whose bodies have come, in their order and with what came. Waits for the first."""
@@ -164,19 +196,21 @@ class Station:
         """Waits for what a thread does, and does meanwhile what can be done."""
         while not future.done():
             self.do_meanwhile()
-            wait([future, *(it for _, it in itertools.islice(self.sent, 1))], 1, FIRST_COMPLETED)
+            others = [it for _, it in itertools.islice(self.sent, 1)]
+            others += [self.lists.under_way] if self.lists and self.lists.under_way else []
+            wait([future, *others], 1, FIRST_COMPLETED)
 
     def do_meanwhile(self):
-        """Says what came of deliveries, publishes lists when they are due, and says what is left: an office can make a
-        round last."""
+        """Says what came of deliveries, goes on with lists, and says what is left: an office can make a round last."""
         while self.sent and self.sent[0][1].done():
             self.finish()
-        if self.lists and self.lists.is_due():
-            # This may take minutes, and what is left is said before.
+        self.go_on_with_lists()
+        if time.monotonic() > self.silent_until:
             self.report()
-            self.publish()
-        if time.monotonic() > self.silent_since + LONGEST_SILENCE:
-            self.report()
+
+    def go_on_with_lists(self):
+        if self.lists:
+            self.lists.go_on()
 
     def judge(self, batch):
         """Signs those of some bodies that the guard approves, and has the signatures delivered. Returns whether the key
@@ -184,12 +218,18 @@ class Station:
         asked = []
         for row, future in batch:
             try:
-                body = future.result()
+                body, objection = future.result()
                 self.keep(row, body)
                 # The guard would keep it under its own serial, and what is reported has the row's.
                 if serial_of(body) not in (None, serial_in(row)):
                     raise OSError("its body has another serial")
+                if objection:
+                    raise objection
                 asked.append((row, body))
+            except NoEvidence:
+                self.await_evidence(row)
+            except Refused as refused:
+                self.leave(row, refused.args[0], None)
             except OSError as fault:
                 self.leave(row, printable(fault), OTHER_REASONS)
         answers = self.guard.answers([body for _, body in asked]) if asked else []
@@ -197,21 +237,29 @@ class Station:
         for (row, body), answer in zip(asked, answers):
             try:
                 if hangs:
+                    if answer[:1] == ["sign"]:
+                        self.trail.body(row, body, "approved", hangs[0])
                     # It is tried before the one at which the key hung.
                     self.left[row] = self.tries(row), 0, *hangs
                     continue
                 signature, future = self.signature_of(row, body, answer), Future()
+                self.trail.body(row, body, "signed")
                 # Noted before: if the station ends in between, it may have been sent.
                 self.sent.append((row, future))
                 self.delivering.do(future, self.deliver, row, signature)
             except Refused as refused:
+                self.trail.body(row, body, "refused", refused.args[0].removeprefix("refused as "))
                 self.leave(row, refused.args[0], None)
             except OtherCa as refused:
+                if refused.args[0]:
+                    self.trail.body(row, body, "refused", "OtherCa")
                 self.leave(row, refused.args[0] and f"refused as OtherCa, {refused.args[0]}", OTHER_CAS)
             except Overlong as fault:
                 hangs = printable(fault), OTHER_REASONS
+                self.trail.body(row, body, "approved", hangs[0])
                 self.leave(row, *hangs)
             except (OSError, subprocess.SubprocessError) as fault:
+                self.trail.body(row, body, "approved", printable(fault))
                 self.leave(row, printable(fault), OTHER_REASONS)
         return not hangs
 
@@ -272,11 +320,19 @@ class Station:
         tries = self.tries(row)
         self.left[row] = tries + 1, time.monotonic() + min(2 ** min(tries, 9), LONGEST_PAUSE), *why
 
+    def await_evidence(self, row):
+        """That no evidence has come is no refusal for a minute."""
+        since = self.awaited.setdefault(row, time.monotonic())
+        if self.given.once or time.monotonic() > since + LONGEST_AWAITED:
+            self.leave(row, "refused as NoEvidence", None)
+        else:
+            self.left[row] = self.tries(row), time.monotonic() + PAUSE_OF_EVIDENCE, None, None
+
     def forget_pauses(self):
         """Tries everything again if what a refusal depends on has changed, other than the time."""
         try:
             policy = os.stat(self.given.policy)
-            rules = policy.st_ino, policy.st_size, policy.st_mtime_ns, self.known
+            rules = policy.st_ino, policy.st_size, policy.st_mtime_ns, self.known, self.witness and self.witness.state
         except OSError:
             rules = None
         if rules != self.rules:
@@ -284,15 +340,19 @@ class Station:
         self.rules = rules
 
     def report(self):
-        """Says what is left, as far as that has changed. Returns whether nothing is."""
+        """Says what is left, as far as that has changed. Returns whether nothing is. Of a million rows that takes
+        seconds, so it is said again after a multiple of them."""
+        begun = time.monotonic()
         left = self.left_by_reason()
         lines = {why: f"not signed: {len(serials)}, {why}: {joined(serials)}" for why, serials in left.items()}
         if not self.is_whole:
             why = f"of what is pending only the first {LONGEST_PENDING} bytes are looked at"
             lines[why] = why
-        self.silent_since = time.monotonic()
         own = {why for _, _, why, others in self.left.values() if not others}
-        return self.said.say(lines, own, left)
+        is_nothing = self.said.say(lines, own, left)
+        now = time.monotonic()
+        self.silent_until = now + max(LONGEST_SILENCE, TIMES_AS_SILENT * (now - begun))
+        return is_nothing
 
     def left_by_reason(self):
         """The reasons that are shown, each with the serials that weren't signed for it, in ascending order. An office
@@ -307,25 +367,24 @@ class Station:
                 left.setdefault(why, array.array("Q")).append(serial_in(row))
         return {why: array.array("Q", sorted(serials)) for why, serials in left.items()}
 
-    def publish(self):
-        """Publishes the list, if it is time. Returns whether the last one was published."""
-        return self.lists is None or self.lists.publish_if_due()
-
     def wait(self):
-        """Waits for the next round, which begins at once when a front says that a message was accepted. Lists are
-        published when they are due, however long that is before it."""
+        """Waits for the next round, which begins at once if a front says that a message was accepted."""
         begun = time.monotonic()
         end = begun + self.pause
         while (now := time.monotonic()) < end:
             end_if_told()
-            if messages := self.office.messages():
-                if messages != self.messages and now > self.soonest:
-                    self.messages = messages
-                    return
-                # While the front says so, the office is asked less often.
-                end = max(end, begun + LONGEST_INTERVAL)
-            time.sleep(max(0, min(end, now + OFTEN, self.lists.due if self.lists else end) - now))
-            self.publish()
+            messages = self.hints.said()
+            if messages != self.messages and now > self.soonest:
+                self.messages = messages
+                return
+            pause = OFTEN
+            if self.hints.are_whole():
+                # The office is asked less often.
+                end, pause = max(end, begun + LONGEST_INTERVAL), AWHILE
+            if messages != self.messages:
+                pause = min(pause, self.soonest - now)
+            self.hints.wait(min(end, now + pause) - now)
+            self.go_on_with_lists()
             self.guard.stay()
 
     def run(self):
@@ -336,13 +395,20 @@ class Station:
                 self.guard = Guard(self.given)
             while not self.given.once:
                 self.look()
-                self.publish()
                 self.guard.stay()
+                self.copy.make_if_missing()
                 self.wait()
             is_done = self.look()
-            is_published = self.publish()
+            is_published = self.lists is None or self.lists.go_to_the_end()
+            self.copy.make_if_missing()
         except BaseException:
-            if self.guard:
-                self.guard.end()
+            self.end()
             raise
-        return 0 if self.guard.end() == 0 and is_done and is_published else 1
+        return 0 if self.end() == 0 and is_done and is_published else 1
+
+    def end(self):
+        """Ends what the station has begun, and returns the guard's status. The guards end by themselves."""
+        with held_off():
+            status = self.guard.end() if self.guard else 0
+            PROGRAMS.end()
+        return status

@@ -3,8 +3,10 @@ import functools
 import json
 import sys
 
+from vethlumi_common.ssh import string
+
 from .limits import LONGEST_BODY, LONGEST_REPLY
-from .wire import string, string_in
+from .wire import string_in
 
 # The word that has this program be that process, and how its answers begin.
 OF_TOKEN, SIGNED, PIN_REFUSED, FAILED = "--asks-a-token", b"+", b"!", b"-"

@@ -7,11 +7,6 @@ KEY_BLOB = b"\0\0\0\x0bssh-ed25519\0\0\0\x20"
 SIGNATURE_BLOB = b"\0\0\0\x0bssh-ed25519\0\0\0\x40"
 
 
-def string(data):
-    """A string of RFC 4251: its length in four bytes, and then its bytes."""
-    return len(data).to_bytes(4, "big") + data
-
-
 def string_in(stream, longest):
     """A string of RFC 4251 that comes from a stream."""
     head = stream.read(4)
