@@ -12,7 +12,8 @@ from vethlumi import signon  # noqa: E402
 if signon.is_granted(sys.argv[1:]):
     sys.exit(0)
 
-from vethlumi import certificates, departments, login, people, reports, revocations  # noqa: E402, F401
+from vethlumi import certificates, departments, enrolment, events, login, people, reports  # noqa: E402, F401
+from vethlumi import revocations, workloads  # noqa: E402, F401
 from vethlumi.cli import main  # noqa: E402
 
 

@@ -8,6 +8,7 @@ import socket
 
 from vethlumi.formats import CERTIFICATE_TYPE, BadFormat, Certificate, Reader
 from vethlumi.settings import BadSettings
+from vethlumi_common.ssh import string
 
 # Messages, what the agent replies, and the constraint that ends a key after some seconds.
 LIST, ADD, REMOVE = 11, 25, 18
@@ -16,11 +17,6 @@ LIFETIME = 1
 # How long the agent may take, in seconds, and the most bytes of a reply: OpenSSH's has at most a quarter of that.
 PATIENCE, LONGEST_REPLY = 10, 1 << 20
 LONGEST_LIFE = 2 ** 32 - 1
-
-
-def string(data):
-    """A string of RFC 4251."""
-    return len(data).to_bytes(4) + data
 
 
 def path():

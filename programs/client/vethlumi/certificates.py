@@ -32,14 +32,21 @@ def collect(job, kept, serial, key, out):
             time.sleep(min(pause, left))
             pause = min(LONGER * pause, LONGEST_PAUSE)
     line, certificate = found
-    if certificate.key != key:
-        raise NoAnswer(f"what came as serial {serial} is a certificate for another key. The message is kept")
+    if certificate.blob != key:
+        raise NoAnswer(f"the office returned a certificate for a different key as serial {serial}. The message is kept")
     if out:
         put_file(out, line)
         click.echo(f"{out} serial {serial}")
     else:
         print_text(line)
     kept.drop()
+
+
+def demanded(department, options):
+    """The options that a department demands with their values, and that aren't given."""
+    given = {it.partition(" ")[0] for it in options}
+    return [f"{name} {value}" if value else name for name, value in (department.demands if department else ())
+            if name not in given and (value or name == "verify-required")]
 
 
 def comma_list(context, option, text):
@@ -63,18 +70,19 @@ def request(job, key_id, public, principals, life, extensions, options, out):
     KEYID is DEPARTMENT/NAME. The validity begins a minute in the past, for servers whose clocks are slow.
     """
     if not formats.KEY_ID.fullmatch(key_id):
-        raise BadFormat(f"{key_id!r} is no key ID of the form DEPARTMENT/NAME")
+        raise BadFormat(f"invalid key ID {key_id!r}: expected DEPARTMENT/NAME")
     if not out and (not public.endswith(".pub") or public.endswith("-cert.pub")):
         raise BadFormat(f"{public} has to end with .pub, or name the certificate's file by --out")
-    key, (department, _, name) = formats.key_line(read_text(public)), key_id.partition("/")
+    key, (department, _, name) = formats.subject_line(read_text(public)), key_id.partition("/")
+    known = job.policy().get(department)
     if extensions is None:
-        known = job.policy().get(department)
         extensions = known.extensions if known else ()
+    options = (*options, *demanded(known, options))
     after = int(time.time()) - 60
     message = formats.issue(department, key_id, key, principals or (name,), after, after + formats.seconds_of(life),
                             options, extensions)
     kept, reply = job.send(message)
-    collect(job, kept, int(reply[1]), formats.point_of(key), out or f"{public[:-4]}-cert.pub")
+    collect(job, kept, int(reply[1]), formats.blob_of(key), out or f"{public[:-4]}-cert.pub")
 
 
 def certificate_of(job, what):
@@ -94,11 +102,11 @@ def certificate_of(job, what):
 def renew(job, what, life, out):
     """Request a certificate again, with a new validity."""
     old, out = certificate_of(job, what), out if what.isdecimal() else out or what
-    formats.refuse_small_order(old.key)
+    formats.refuse_weak(old.blob)
     after = int(time.time()) - 60
     length = formats.seconds_of(life) if life else old.before - old.after
     kept, reply = job.send(formats.renew(old.serial, after, after + length))
-    collect(job, kept, int(reply[1]), old.key, out)
+    collect(job, kept, int(reply[1]), old.blob, out)
 
 
 @main.command()
@@ -115,7 +123,7 @@ def get(job, serial, out):
     put_file(out, line) if out else print_text(line)
 
 
-@main.command()
+@main.command(short_help="Show a certificate's fields, and whether it is revoked.")
 @click.argument("what", metavar="SERIAL|FILE")
 @as_json
 @pass_job

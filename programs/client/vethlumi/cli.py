@@ -8,13 +8,14 @@ import click
 from rich.console import Console
 from rich.text import Text
 
-from vethlumi import __version__, files, formats
+from vethlumi import __version__, formats
 from vethlumi.formats import BadFormat
 from vethlumi.office import NoAnswer, Office, trying
 from vethlumi.outbox import Outbox
 from vethlumi.printing import plain, say
 from vethlumi.refusals import Refused
 from vethlumi.settings import BAD_WORDS, FILES, NO_ANSWER, REFUSED, BadSettings, read_settings, state_folder
+from vethlumi_common import files
 
 
 class Job:
@@ -38,7 +39,7 @@ class Job:
             with waiting("waiting for the office's answer") as tell:
                 reply = trying(lambda: self.office.post(kept), self.ends, tell)
             if not is_reply(reply):
-                raise NoAnswer(f"what came is no answer that an office gives: {' '.join(reply)[:200]}")
+                raise NoAnswer(f"unexpected answer from the office: {' '.join(reply)[:200]}")
         except Refused as refused:
             if refused.number:
                 kept.drop()
@@ -143,7 +144,7 @@ def put_file(path, text, mode=0o644):
 def ask(question, yes):
     """Ends the command unless the person at the terminal agrees. If there is none, only --yes does."""
     if not yes and not sys.stdin.isatty():
-        raise BadFormat(f"{question} Nobody can be asked here: give --yes")
+        raise BadFormat(f"{question} Not a terminal. Pass --yes to confirm.")
     if not yes and not click.confirm(question, err=True):
         say("nothing was sent")
         sys.exit(REFUSED)

@@ -38,7 +38,7 @@ def of_office(job):
     try:
         return formats.departments((found if isinstance(found, bytes) else found.body()).decode("ascii"))
     except (BadFormat, ValueError) as fault:
-        raise NoAnswer(f"/v1/departments: what came is no page that an office gives: {fault}") from None
+        raise NoAnswer(f"/v1/departments: unexpected answer from the office: {fault}") from None
 
 
 def known_to(job, policy):
@@ -91,6 +91,15 @@ def tell_changes(job, old, new):
     return bool(lines)
 
 
+def warn(departments):
+    """Says which keys sshd lets in without what a department demands."""
+    for it in departments:
+        if types := it.unverified():
+            click.echo(plain(f"warning: the department {it.name} demands verify-required, and permits "
+                             f"{', '.join(types)}: sshd looks at it for security keys alone (sk-). Leave the others "
+                             "out of `key-types`"), err=True)
+
+
 def chosen_of(found, names, where):
     """Those of the departments that are named, or all. `where` says where they are from."""
     if missing := [it for it in names if it not in found] or [""] * (not found):
@@ -112,7 +121,9 @@ def department_diff(job, file, names, policy):
     if not file:
         raise BadSettings("no file: name one, or set `policy` in the settings")
     given, (known, where) = read_departments(file), known_to(job, policy)
-    differ = [tell_changes(job, known.get(it.name), it) for it in chosen_of(given, names, file)]
+    chosen = chosen_of(given, names, file)
+    warn(chosen)
+    differ = [tell_changes(job, known.get(it.name), it) for it in chosen]
     others = [] if names else [it for it in known if it not in given]
     for it in others:
         click.echo(plain(f"{where} has the department {it}, which {file} doesn't name"))
@@ -129,10 +140,11 @@ def department_diff(job, file, names, policy):
 def department_put(job, file, names, policy, yes):
     """Show what changes, and send the departments in FILE, or those with the given names, to the office.
 
-    FILE has the format of the policy: eight lines per department, with empty lines and comments in between. With --yes,
-    nothing is shown before, and those that the office has already are sent too.
+    FILE has the format of the policy: departments, with empty lines and comments in between. With --yes, nothing is
+    shown before, and those that the office has already are sent too.
     """
     chosen = chosen_of(read_departments(file), names, file)
+    warn(chosen)
     if not yes:
         known, _ = known_to(job, policy)
         chosen = [it for it in chosen if tell_changes(job, known.get(it.name), it)]

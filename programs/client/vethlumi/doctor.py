@@ -20,6 +20,8 @@ from vethlumi.settings import BadSettings
 
 Finding = collections.namedtuple("Finding", "state what found advice")
 AMISS = NoAnswer, Refused, BadFormat, ValueError
+# Why it isn't known when a certificate ends.
+NO_END = OSError, ValueError, KeyError, NoAnswer
 STATEMENT = re.compile(rb"list ([0-9a-f]{64}) \d+ (\d+)\n")
 
 # Seconds by which clocks may differ: certificates begin a minute in the past.
@@ -46,23 +48,28 @@ def ending(what, moment, within, advice):
 def front_findings(job, within):
     """The front's certificate, by a connection of its own, and the client's certificate."""
     url = urllib.parse.urlsplit(job.settings.url())
-    cacert, pem = job.settings.file("cacert"), job.settings.file("certificate")
+    pem = job.settings.file("certificate")
     if url.scheme != "https":
         return [Finding("warn", "front", f"{url.geturl()} has no TLS",
                         "without a front anybody on that machine is any caller, root too: docs/OPERATING.md, A front")]
     found = []
     try:
-        context = ssl.create_default_context(cafile=cacert)
-        if pem:
-            context.load_cert_chain(pem)
-        ends = at_most(job.office.time_left(LONGEST_HANDSHAKE),
-                       lambda: end_of_certificate(context, url.hostname, url.port or 443))
-        found.append(ending("front's certificate", ends, within, "on the front's machine: authority renew"))
-    except (OSError, ValueError, KeyError, NoAnswer) as fault:
+        found.append(ending("front's certificate", front_end(job), within, "on the front's machine: authority renew"))
+    except NO_END as fault:
         found.append(Finding("bad", "front's certificate", str(fault), "check `office` and `cacert` in the settings"))
     if pem:
         found.append(pem_finding(pem, within))
     return found
+
+
+def front_end(job):
+    """When the front's certificate ends."""
+    url, pem = urllib.parse.urlsplit(job.settings.url()), job.settings.file("certificate")
+    context = ssl.create_default_context(cafile=job.settings.file("cacert"))
+    if pem:
+        context.load_cert_chain(pem)
+    return at_most(job.office.time_left(LONGEST_HANDSHAKE),
+                   lambda: end_of_certificate(context, url.hostname, url.port or 443))
 
 
 def end_of_certificate(context, host, port):
@@ -72,17 +79,24 @@ def end_of_certificate(context, host, port):
         return ssl.cert_time_to_seconds(secured.getpeercert()["notAfter"])
 
 
+def pem_end(pem):
+    """When the certificate in a file ends."""
+    done = subprocess.run(["openssl", "x509", "-in", pem, "-noout", "-enddate"], capture_output=True, text=True)
+    name, _, end = done.stdout.strip().partition("=")
+    if done.returncode or name != "notAfter":
+        raise ValueError(f"{pem} has none")
+    return ssl.cert_time_to_seconds(end)
+
+
 def pem_finding(pem, within):
     try:
-        done = subprocess.run(["openssl", "x509", "-in", pem, "-noout", "-enddate"], capture_output=True, text=True)
+        return ending("client's certificate", pem_end(pem), within,
+                      "ask whoever keeps the front's authority for a new bundle")
     except FileNotFoundError:
         return Finding("warn", "client's certificate", "not looked at: the program openssl isn't here",
                        "install OpenSSL for this")
-    name, _, end = done.stdout.strip().partition("=")
-    if done.returncode or name != "notAfter":
-        return Finding("bad", "client's certificate", f"{pem} has none", "copy the bundle from the authority again")
-    return ending("client's certificate", ssl.cert_time_to_seconds(end), within,
-                  "ask whoever keeps the front's authority for a new bundle")
+    except ValueError as fault:
+        return Finding("bad", "client's certificate", str(fault), "copy the bundle from the authority again")
 
 
 def clock_finding(job):
@@ -203,16 +217,22 @@ def statement_finding(path, data, fresh):
     return Finding(state, "list's statement", f"made {age} s ago", advice)
 
 
+# Where this host's certificate is that vethlumi-host renews, and all that are looked at.
+OF_THIS_HOST = "/etc/vethlumi/host-cert.pub"
+CERTIFICATES = "~/.ssh/*-cert.pub", "/etc/ssh/*-cert.pub", OF_THIS_HOST
+
+
 def local_findings(within):
     """The certificates of this user and of this host."""
     found = []
-    for path in sorted(glob.glob(os.path.expanduser("~/.ssh/*-cert.pub")) + glob.glob("/etc/ssh/*-cert.pub")):
+    for path in sorted(path for it in CERTIFICATES for path in glob.glob(os.path.expanduser(it))):
         try:
             with open(path, encoding="utf-8") as it:
                 certificate = Certificate.of_line(it.read())
         except (OSError, BadFormat, UnicodeDecodeError):
             continue
-        found.append(ending(path, certificate.before, within, f"vethlumi renew {path}"))
+        advice = "journalctl -u vethlumi-host says why" if path == OF_THIS_HOST else f"vethlumi renew {path}"
+        found.append(ending(path, certificate.before, within, advice))
     return found
 
 

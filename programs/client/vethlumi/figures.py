@@ -1,7 +1,8 @@
 """Metrics of an office, in the text format that Prometheus reads."""
+import contextlib
 import time
 
-from vethlumi import formats
+from vethlumi import doctor, formats
 
 
 def figures(office, last):
@@ -32,6 +33,19 @@ def figures(office, last):
         ("cas", "CAs of the office, at most 8.", [("", len(cas))]),
         ("answer_seconds", "Seconds that the three pages took together.", [("", round(time.monotonic() - begun, 6))]),
     ]
+
+
+def ends(job):
+    """The same of the certificates by which the front and this client know each other, as far as it can be seen."""
+    found, pem = {}, job.settings.file("certificate")
+    if job.settings.url().startswith("https:"):
+        with contextlib.suppress(*doctor.NO_END):
+            found["front"] = doctor.front_end(job)
+    if pem:
+        with contextlib.suppress(*doctor.NO_END):
+            found["client"] = doctor.pem_end(pem)
+    return [("tls_ends_timestamp_seconds", "When the certificate of the front ends, and that of this client for it.",
+             [(f'{{of="{name}"}}', moment) for name, moment in found.items()])] * bool(found)
 
 
 def printed(name, text, values):

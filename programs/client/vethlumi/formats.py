@@ -1,18 +1,21 @@
 """The texts and bytes that an office takes and gives, as docs/FORMATS.md describes them."""
 import base64
 import datetime
-import hashlib
+import ipaddress
 import re
 from dataclasses import dataclass
+
+from vethlumi_common.ssh import ED25519_LINE as KEY_LINE
+from vethlumi_common.ssh import BadFormat, Reader, blob_of, fingerprint, string
+from vethlumi_common.subjects import CERTIFICATES, TYPES
 
 LAST_MOMENT = 253402300799
 LAST_SERIAL = 9223372036854775806
 UNITS = {"s": 1, "m": 60, "h": 3600, "d": 86400, "w": 604800}
 NAME = re.compile(r"[a-z0-9-]{1,32}", re.ASCII)
-KEY_LINE = re.compile(r"ssh-ed25519 AAAAC3NzaC1lZDI1NTE5AAAAI[A-P][A-Za-z0-9+/]{42}( .*)?", re.ASCII)
 KEY_ID = re.compile(r"[a-z0-9-]{1,32}/[!-~]{1,64}", re.ASCII)
 CERTIFICATE_TYPE = b"ssh-ed25519-cert-v01@openssh.com"
-CERTIFICATE_LINE = re.compile(r"ssh-ed25519-cert-v01@openssh\.com [A-Za-z0-9+/]+={0,2} [!-~]+\n", re.ASCII)
+CERTIFICATE_LINE = re.compile(r"([a-z0-9-]+-cert-v01@openssh\.com) [A-Za-z0-9+/]+={0,2} [!-~]+\n", re.ASCII)
 SIGNER = re.compile(rb'[a-z0-9._@*,-]+ cert-authority,namespaces="[a-z0-9._@,-]+" ssh-ed25519 [A-Za-z0-9+/]{68}\n')
 # RFC 8032, section 5.1: the prime of Ed25519.
 PRIME = 2 ** 255 - 19
@@ -21,10 +24,6 @@ ORDER_8 = [int.from_bytes(bytes.fromhex(it), "little") for it in (
     "26e8958fc2b227b045c3f489f2ef98f0d5dfac05d3c63339b13802886d53fc05",
     "c7176a703d4dd84fba3c0b760d10670f2a2053fa2c39ccc64ec7fd7792ac037a")]
 SMALL = (0, 1, PRIME - 1, *ORDER_8)
-
-
-class BadFormat(Exception):
-    """Bytes or a text that no office gives, or words that are no value. Its text says why."""
 
 
 # ---- values
@@ -41,10 +40,6 @@ def date(moment):
     """A time as ISO 8601 has it, in UTC."""
     found = datetime.datetime.fromtimestamp(min(moment, LAST_MOMENT), datetime.timezone.utc)
     return found.strftime("%Y-%m-%dT%H:%M:%SZ").zfill(20)
-
-
-def fingerprint(blob):
-    return "SHA256:" + base64.b64encode(hashlib.sha256(blob).digest()).decode().rstrip("=")
 
 
 def is_of_small_order(point):
@@ -73,11 +68,51 @@ def key_line(text):
     return line
 
 
+def subject_line(text):
+    """The first line of a public key's file, of any type that a department may permit."""
+    line = text.partition("\n")[0].rstrip("\r")
+    blob = blob_of(line)
+    kind, *strings = strings_in(blob) if blob else [b""]
+    if TYPES.get(kind.decode("latin-1")) != len(strings):
+        raise BadFormat(f"the file has no public key of a type that an office takes: {', '.join(TYPES)}")
+    refuse_weak(blob)
+    return line
+
+
+def strings_in(blob):
+    """The strings of a key blob."""
+    it, found = Reader(blob), []
+    while not it.is_at_end():
+        found.append(it.string())
+    return found
+
+
+def refuse_weak(blob):
+    """Refuses a key of Ed25519, in a security key or not, for which no private key is needed."""
+    kind, *strings = strings_in(blob)
+    if kind in (b"ssh-ed25519", b"sk-ssh-ed25519@openssh.com"):
+        refuse_small_order(strings[0])
+
+
 # ---- departments
+
+def name_of(key_id):
+    """The name in a key ID: what follows its first `/`, up to the next one or the end."""
+    return key_id.partition("/")[2].partition("/")[0]
+
+
+def meets(principal, rule, key_id):
+    """Whether a principal of a certificate with this key ID meets a rule."""
+    if rule.startswith("{name}"):
+        return principal == name_of(key_id) + rule.removeprefix("{name}") and (rule, principal) != ("{name}", "root")
+    return principal == rule or (rule.startswith("*") and principal.endswith(rule[1:])
+                                 and len(principal) > len(rule) - 1)
+
 
 @dataclass(frozen=True)
 class Department:
-    """The rules for some certificates. `text` has its eight lines."""
+    """The rules for some certificates. `text` has its lines. `demands` are the options that each must have, with their
+    values or None, and `key_types` the permitted types of keys, if these are listed."""
     text: str
     name: str
     kind: str
@@ -87,43 +122,82 @@ class Department:
     extensions: tuple
     longest: int
     namespaces: tuple
+    demands: tuple = ()
+    key_types: tuple = ()
 
     FIELDS = ("department", "kind", "admins", "principals", "options", "extensions", "maxlife", "namespaces")
 
     @classmethod
     def of(cls, lines):
-        """The department of eight lines."""
-        values = []
-        for line, field in zip(lines, cls.FIELDS, strict=True):
+        """The department of these lines."""
+        values, demands, types, fields = [], [], (), [*cls.FIELDS]
+        for line in lines:
             word, space, value = line.partition(" ")
-            if word != field or bool(space) != bool(value):
-                raise BadFormat(f"{line!r} is no line `{field} ..` of a department")
-            values.append(value)
+            if word == "must" and fields[:1] == ["extensions"]:
+                demands.append(demand_of(value))
+            elif word == "key-types" and fields[:1] == ["maxlife"] and value and not types:
+                types = tuple(value.split(","))
+            elif word != (fields[0] if fields else None) or bool(space) != bool(value):
+                raise BadFormat(f"{line!r} is no line `{fields[0] if fields else ''} ..` of a department")
+            else:
+                values.append(value)
+                fields.pop(0)
+        if fields:
+            raise BadFormat(f"the department ends before its line `{fields[0]} ..`")
         name, kind, admins, principals, options, extensions, longest, namespaces = values
         if not NAME.fullmatch(name) or kind not in ("user", "host") or not longest.isdecimal():
             raise BadFormat(f"{name!r} is no department: its name, its kind or its longest lifetime is none")
         lists = [tuple(it.split(",")) if it else () for it in (admins, principals, options, extensions, namespaces)]
-        return cls("".join(f"{line}\n" for line in lines), name, kind, *lists[:4], int(longest), lists[4])
+        return cls("".join(f"{line}\n" for line in lines), name, kind, *lists[:4], int(longest), lists[4],
+                   tuple(demands), types)
 
-    def meets(self, principal):
-        """Whether a principal meets one of the rules."""
-        return any(principal == rule or (rule.startswith("*") and principal.endswith(rule[1:])
-                                         and len(principal) > len(rule) - 1) for rule in self.principals)
+    def meets(self, principal, key_id):
+        """Whether a principal of a certificate with this key ID meets one of the rules."""
+        return any(meets(principal, rule, key_id) for rule in self.principals)
+
+    def unverified(self):
+        """The permitted types of keys for which sshd doesn't look at `verify-required`, if it has to be there."""
+        types = self.key_types or ("ssh-ed25519",)
+        return [it for it in types if not it.startswith("sk-")] if "verify-required" in dict(self.demands) else []
 
     def objections(self, certificate):
         """Why this department wouldn't permit a certificate, a text for each reason."""
         life = certificate.before - certificate.after
         return [
             *[f"is for a {certificate.kind}" for _ in range(certificate.kind != self.kind)],
-            *[f"principal {it}" for it in certificate.principals if not self.meets(it)],
-            *[f"option {name}" for name, _ in certificate.options if name not in self.options],
+            *[f"principal {it}" for it in certificate.principals if not self.meets(it, certificate.key_id)],
+            *[f"option {name}" for name, _ in certificate.options
+              if name not in self.options and name not in dict(self.demands)],
+            *[f"lacks option {name}{'' if value is None else f' {value}'}" for name, value in self.demands
+              if not is_met(name, value, dict(certificate.options))],
             *[f"extension {it}" for it in certificate.extensions if it not in self.extensions],
             *[f"lifetime of {life} s" for _ in range(not 0 < life <= self.longest)],
         ]
 
 
+def demand_of(value):
+    """An option that certificates must have, with its value or None."""
+    name, space, wanted = value.partition(" ")
+    if name not in ("force-command", "source-address", "verify-required") or bool(space) != bool(wanted):
+        raise BadFormat(f"{value!r} is no option that certificates may have to have")
+    return name, wanted if space else None
+
+
+def is_met(name, wanted, options):
+    """Whether options have the one that must be, with its value: of source-address, networks within those."""
+    if name not in options or wanted is None:
+        return name in options
+    if name != "source-address":
+        return options[name] == wanted
+    try:
+        own, outer = ([ipaddress.ip_network(it) for it in text.split(",")] for text in (options[name], wanted))
+        return all(any(it.subnet_of(one) for one in outer) for it in own)
+    except (ValueError, TypeError):
+        return False
+
+
 def departments(text):
-    """The departments of a policy's text: eight lines for each, with empty lines and comments between them."""
+    """The departments of a policy's text, each up to its namespaces, with empty lines and comments between them."""
     lines, found = text.split("\n"), {}
     if lines.pop():
         raise BadFormat("the last line has no line feed")
@@ -132,49 +206,19 @@ def departments(text):
         if not lines[at] or lines[at].startswith("#"):
             at += 1
             continue
-        if len(lines) < at + 8:
-            raise BadFormat(f"line {at + 1}: a department has eight lines")
+        end = next((it + 1 for it in range(at, len(lines)) if lines[it].startswith("namespaces")), len(lines))
         try:
-            department = Department.of(lines[at:at + 8])
+            department = Department.of(lines[at:end])
         except BadFormat as fault:
             raise BadFormat(f"line {at + 1}: {fault}") from None
         if department.name in found:
             raise BadFormat(f"line {at + 1}: a second department of the name {department.name}")
         found[department.name] = department
-        at += 8
+        at = end
     return found
 
 
 # ---- certificates
-
-class Reader:
-    """Integers and strings of RFC 4251, one after the other."""
-
-    def __init__(self, data):
-        self.data, self.at = memoryview(data), 0
-
-    def take(self, count):
-        if self.at + count > len(self.data):
-            raise BadFormat("the bytes end too early")
-        self.at += count
-        return bytes(self.data[self.at - count:self.at])
-
-    def number(self, size):
-        return int.from_bytes(self.take(size))
-
-    def string(self):
-        return self.take(self.number(4))
-
-    def strings(self):
-        """The strings within a string."""
-        inner, found = Reader(self.string()), []
-        while not inner.is_at_end():
-            found.append(inner.string())
-        return found
-
-    def is_at_end(self):
-        return self.at == len(self.data)
-
 
 @dataclass(frozen=True)
 class Certificate:
@@ -189,15 +233,19 @@ class Certificate:
     options: tuple
     extensions: tuple
     ca: bytes
+    # The whole key blob. `key` has the 32 bytes of a plain Ed25519 key, and nothing of any other.
+    blob: bytes
 
     @classmethod
     def of_bytes(cls, data):
         """The fields of a certificate's bytes, with or without the signature."""
         it = Reader(data)
-        if it.string() != CERTIFICATE_TYPE:
-            raise BadFormat("the bytes are no Ed25519 certificate")
+        of = CERTIFICATES.get(it.string().decode("latin-1"))
+        if not of:
+            raise BadFormat("the bytes are no certificate")
         it.string()
-        key, serial, kind, key_id = it.string(), it.number(8), it.number(4), it.string().decode("latin-1")
+        strings = [it.string() for _ in range(TYPES[of])]
+        serial, kind, key_id = it.number(8), it.number(4), it.string().decode("latin-1")
         principals = tuple(name.decode("latin-1") for name in it.strings())
         after, before = it.number(8), it.number(8)
         options, extensions = it.strings(), it.strings()
@@ -205,15 +253,16 @@ class Certificate:
         pairs = tuple((name.decode("latin-1"), Reader(data).string().decode("latin-1") if data else "")
                       for name, data in zip(options[::2], options[1::2]))
         kinds = {1: "user", 2: "host"}
-        return cls(key, serial, kinds.get(kind, str(kind)), key_id, principals, after, before, pairs,
-                   tuple(name.decode("latin-1") for name in extensions[::2]), it.string())
+        return cls(strings[0] if of == "ssh-ed25519" else b"", serial, kinds.get(kind, str(kind)), key_id, principals,
+                   after, before, pairs, tuple(name.decode("latin-1") for name in extensions[::2]), it.string(),
+                   b"".join(map(string, [of.encode(), *strings])))
 
     @classmethod
     def of_line(cls, text):
         """The fields of a certificate's line, as ssh-keygen writes it into a file."""
         words = text.split()
-        if len(words) < 2 or words[0] != CERTIFICATE_TYPE.decode():
-            raise BadFormat("the file has no line of an Ed25519 certificate")
+        if len(words) < 2 or words[0] not in CERTIFICATES:
+            raise BadFormat("the file has no line of a certificate")
         try:
             return cls.of_bytes(base64.b64decode(words[1], validate=True))
         except ValueError:
@@ -231,8 +280,11 @@ class Certificate:
 def signed_parts(data):
     """The part of a certificate's bytes that is signed, and the Ed25519 signature, of 64 bytes."""
     it = Reader(data)
-    # Type, nonce and key; serial and kind; key ID and principals; validity; options, extensions, a reserved text, CA.
-    for length in (0, 0, 0, 8, 4, 0, 0, 8, 8, 0, 0, 0, 0):
+    of = CERTIFICATES.get(it.string().decode("latin-1"))
+    if not of:
+        raise BadFormat("the bytes are no certificate")
+    # Nonce and key; serial and kind; key ID and principals; validity; options, extensions, a reserved text, CA.
+    for length in (0, *[0] * TYPES[of], 8, 4, 0, 0, 8, 8, 0, 0, 0, 0):
         it.take(length) if length else it.string()
     body, signature = bytes(it.data[:it.at]), Reader(it.string())
     if signature.string() != b"ssh-ed25519":
@@ -246,8 +298,9 @@ def signed_parts(data):
 def certificate_line(data):
     """The line of a certificate, which is text that steers no terminal."""
     line = data.decode("ascii", "replace")
-    if not CERTIFICATE_LINE.fullmatch(line):
-        raise BadFormat("what came is no line of an Ed25519 certificate")
+    found = CERTIFICATE_LINE.fullmatch(line)
+    if not found or found[1] not in CERTIFICATES:
+        raise BadFormat("the answer isn't the line of a certificate")
     return line
 
 

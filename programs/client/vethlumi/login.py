@@ -36,12 +36,13 @@ def end(why, status=REFUSED):
 # ---- one login at a time
 
 def own_folder():
-    """A folder in which nobody else can do anything: that of the user's session, or that of the agent."""
+    """A folder in which nobody else can do anything: that of the user's session, or that of the agent. Whoever may read
+    a folder can lock it, and so keep its user waiting."""
     for it in (os.environ.get("XDG_RUNTIME_DIR", ""), f"/run/user/{os.geteuid()}", os.path.dirname(agent.path())):
         with contextlib.suppress(OSError):
             found = os.stat(it)
             if os.path.isabs(it) and stat.S_ISDIR(found.st_mode) and found.st_uid == os.geteuid() \
-                    and not found.st_mode & 0o022:
+                    and not found.st_mode & 0o066:
                 return it
     raise BadSettings("no folder for this session: set XDG_RUNTIME_DIR to one that belongs to you alone")
 
@@ -79,29 +80,33 @@ def alone(ends):
 # ---- the registrar
 
 class Registrar:
-    """The service that turns an ID token and a public key into a certificate."""
+    """The service that turns an ID token and a public key into a certificate, and renews those of hosts."""
 
     def __init__(self, settings, ends):
         url = settings.secure_url("registrar" if settings.registrar else "office").rstrip("/")
         self.server, self.ends = Server(url, ends, cacert=settings.file("cacert")), ends
 
     def certificate(self, department, token, line):
+        """The serial and the line of a certificate by a token."""
+        return self.obtained("/v1/login", department=department, token=token, public_key=line)
+
+    def obtained(self, path, **asked):
         """The serial and the line of a certificate, waited for until it is signed. The same request again is answered
         by the same certificate."""
-        body = json.dumps({"department": department, "token": token, "public_key": line}).encode()
-        fields = {"Content-Type": "application/json"}
+        body = json.dumps(asked).encode()
         with waiting("waiting for the registrar") as tell:
-            serial, found = trying(lambda: self.issued(body, fields), self.ends, tell)
+            serial, found = trying(lambda: self.issued(path, body), self.ends, tell)
         if found is None:
             with waiting(f"serial {serial} waits for its signature") as tell:
                 found = self.signed(serial, tell)
         return serial, found
 
-    def issued(self, body, fields):
-        found = ask_json(self.server, WHO, COMPLAINT, "POST", "/v1/login", body, fields=fields)
+    def issued(self, path, body):
+        fields = {"Content-Type": "application/json"}
+        found = ask_json(self.server, WHO, COMPLAINT, "POST", path, body, fields=fields)
         serial, line = found.get("serial"), found.get("certificate")
         if type(serial) is not int or not 1 <= serial <= formats.LAST_SERIAL or not isinstance(line, str | None):
-            raise NoAnswer(f"{WHO}: what came is no certificate, and no serial of one", None)
+            raise NoAnswer(f"{WHO}: the answer is neither a certificate nor the serial of one", None)
         return serial, line
 
     def signed(self, serial, tell):
@@ -135,7 +140,7 @@ def looked_through(serial, line, public, department, cas):
             raise BadFormat(f"it is valid from {formats.date(found.after)} to {formats.date(found.before)}. Check this "
                             "machine's clock")
     except BadFormat as fault:
-        raise NoAnswer(f"what came is no certificate for this login: {fault}", None) from None
+        raise NoAnswer(f"the answer isn't a certificate for this login: {fault}", None) from None
     return blob, found
 
 
@@ -168,7 +173,7 @@ def has_browser():
     return any(os.environ.get(it) for it in ("BROWSER", "DISPLAY", "WAYLAND_DISPLAY"))
 
 
-@main.command()
+@main.command(short_help="Log in at the identity provider, with a key in ssh-agent.")
 @click.option("--if-needed", is_flag=True, help="do nothing if ssh-agent has a certificate of the department that is "
                                                 "valid for another 5 minutes: for `Match exec` of ssh_config")
 @click.option("--department", metavar="NAME", help="the department [default: `department` of the settings]")
@@ -208,7 +213,7 @@ def login(job, if_needed, department, is_pasted):
     click.echo(plain(f"{found.key_id} serial {found.serial} until {formats.date(found.before)}"))
 
 
-@main.command()
+@main.command(short_help="Remove the keys of logins from ssh-agent.")
 @click.option("--department", metavar="NAME", help="only those of this department")
 def logout(department):
     """Have ssh-agent forget the keys and certificates of logins.

@@ -3,22 +3,18 @@
 Whoever holds the front, or the way to it, answers what they like. So nothing is read beyond a limit, no redirect is
 followed, nothing is decompressed, and what isn't of the form that an office writes is no answer.
 """
-import contextlib
-import http.cookiejar
 import io
 import re
-import signal
 import socket
-import subprocess
 import tempfile
 import time
 from typing import NamedTuple
 
-import requests
-
 from vethlumi import formats, lists, table
 from vethlumi.formats import BadFormat
 from vethlumi.refusals import Refused, refusal_of, said_by
+from vethlumi_common import deadlines, web
+from vethlumi_common.addresses import addresses
 
 # The most bytes that are read: of a table, over three million certificates; of a list as servers do, and of the
 # signers; of any other answer.
@@ -52,53 +48,12 @@ class Answer(NamedTuple):
         return self.file.read()
 
 
-class Overdue(BaseException):
-    """No Exception: after one of these the library goes on, for example with a name's next address."""
-
-
 def at_most(seconds, work):
-    """What a function returns, or NoAnswer if it takes longer, however its time passes."""
-    is_over = False
-
-    def end(*_):
-        if not is_over:
-            raise Overdue
-
-    before = signal.signal(signal.SIGALRM, end)
+    """What a function returns, or NoAnswer if it takes longer."""
     try:
-        try:
-            # Every second from then on: what is raised while Python deletes an object is lost.
-            signal.setitimer(signal.ITIMER_REAL, seconds, 1)
-            return work()
-        finally:
-            signal.setitimer(signal.ITIMER_REAL, 0)
-    except Overdue:
-        is_over = True
-        signal.setitimer(signal.ITIMER_REAL, 0)
+        return deadlines.at_most(seconds, work)
+    except deadlines.Overlong:
         raise NoAnswer(f"no whole answer came within {round(seconds) or 1} s") from None
-    finally:
-        signal.signal(signal.SIGALRM, before)
-
-
-LIBRARYS_OWN = socket.getaddrinfo
-
-
-def addresses(host, port, *_):
-    """The addresses of a name, in the form of socket.getaddrinfo, found by a program that can be killed. glibc waits
-    without end for a name server that takes a connection and sends nothing, and until then Python handles no signal."""
-    def look_up(address, **how):
-        return LIBRARYS_OWN(address, port, type=socket.SOCK_STREAM, **how)
-    with contextlib.suppress(socket.gaierror):
-        return look_up(host, flags=socket.AI_NUMERICHOST)
-    try:
-        done = subprocess.run(["getent", "ahosts", "--", host], stdin=subprocess.DEVNULL, capture_output=True)
-    except FileNotFoundError:
-        # Not a system of glibc.
-        return look_up(host)
-    found = re.findall(r"^(\S+) +STREAM", done.stdout.decode(errors="replace"), re.MULTILINE)
-    if not found:
-        raise socket.gaierror(socket.EAI_NONAME, f"the name {host} has no address")
-    return [it for address in found for it in look_up(address, flags=socket.AI_NUMERICHOST)]
 
 
 class Server:
@@ -106,17 +61,9 @@ class Server:
 
     def __init__(self, url, ends, certificate=None, cacert=None):
         # By this name the library looks for the server's addresses.
-        socket.getaddrinfo = addresses
+        socket.getaddrinfo = lambda host, port, *_, **how: addresses(host, port)
         self.url, self.ends = url, ends
-        self.session = requests.Session()
-        # Neither proxies nor passwords come from the environment.
-        self.session.trust_env = False
-        # Even of a redirect that isn't followed, the library would read the whole answer.
-        self.session.get_redirect_target = lambda answer: None
-        self.session.cookies.set_policy(http.cookiejar.DefaultCookiePolicy(allowed_domains=[]))
-        self.session.headers = {"Accept-Encoding": "identity", "User-Agent": "vethlumi"}
-        self.session.cert = certificate
-        self.session.verify = cacert or True
+        self.session = web.session_of("vethlumi", certificate, cacert)
 
     def time_left(self, most):
         """How many seconds the next answer may take, of at most so many."""
@@ -172,7 +119,7 @@ class Server:
         try:
             return read(found)
         except (BadFormat, ValueError) as fault:
-            raise NoAnswer(f"{path}: what came is no page that an office gives: {fault}", None) from None
+            raise NoAnswer(f"{path}: unexpected answer from the office: {fault}", None) from None
 
 
 class Office(Server):
@@ -189,7 +136,7 @@ class Office(Server):
         try:
             return formats.reply_to(kept.message, found.body())
         except BadFormat as fault:
-            raise NoAnswer(f"what came is no answer that an office gives: {fault}", None) from None
+            raise NoAnswer(f"unexpected answer from the office: {fault}", None) from None
 
     def table(self):
         """The certificates, and the version of the list."""

@@ -10,9 +10,9 @@ import re
 import secrets
 import time
 
-from vethlumi import files
 from vethlumi.formats import NAME
 from vethlumi.settings import BadSettings
+from vethlumi_common import files
 
 # The lines of a message that differ when the same command runs again later.
 MOMENTS = re.compile(r"^(after|before) (\d+)$", re.M | re.ASCII)

@@ -1,7 +1,5 @@
 """Commands of sign-on for administrators: leave, people."""
-import base64
 import collections
-import hashlib
 import json
 import re
 import sys
@@ -16,17 +14,13 @@ from vethlumi.formats import BadFormat
 from vethlumi.printing import plain, print_json, print_table, say
 from vethlumi.refusals import Refused
 from vethlumi.settings import REFUSED
+from vethlumi_common.signon import tag_of
 
 # The key ID of somebody who has logged in: department, name, and the tag of the account, which is nobody else's ever.
 NAME, TAG = r"[a-z0-9._@-]{1,40}", r"[a-z2-7]{16}"
 KEY_ID = re.compile(rf"([a-z0-9-]{{1,32}})/({NAME})/({TAG})", re.ASCII)
 BOTH = ("disable the account at the identity provider too, and end its sessions there. Neither is enough alone: a "
         "session may go on after the account is disabled, and an account that stays may get another name")
-
-
-def tag_of(issuer, subject):
-    """The tag of an account: 80 bits of a hash. A name may be given to somebody else later, and an account never."""
-    return base64.b32encode(hashlib.sha256(f"{issuer}\n{subject}".encode()).digest()[:10]).decode().lower()
 
 
 class Account:
@@ -115,7 +109,7 @@ def revoke_all(job, key_ids):
     return are_done
 
 
-@main.command()
+@main.command(short_help="Revoke all access by sign-on of somebody who has left.")
 @click.argument("name", metavar="NAME")
 @click.option("--subject", metavar="SUB", help="the account's `sub` at the provider of the settings: for somebody "
                                                "who has no certificate yet, or a name that several had")
@@ -128,7 +122,7 @@ def leave(job, name, subject, tag, departments, yes):
     """Revoke all access by sign-on of somebody who has left, permanently.
 
     Revokes the key IDs of the account that has NAME, in each department, with or without certificates there, and under
-    each name that it had. No later login of this account gets a certificate.
+    each name that it had. No later login of this account gets a certificate, unless the provider gives it a new name.
     """
     if not re.fullmatch(NAME, name, re.ASCII):
         raise BadFormat(f"{name!r} is no name: it has 1 to 40 of a-z, 0-9, `.`, `_`, `@` and `-`")
@@ -168,7 +162,7 @@ def users_of(text):
     return {*found}
 
 
-@main.command()
+@main.command(short_help="Compare the identity provider's users with certificates.")
 @click.argument("file", metavar="FILE", type=click.File(encoding="utf-8-sig"))
 @click.option("--department", "departments", metavar="NAME", multiple=True,
               help="only in this department; may be repeated [default: all]")

@@ -8,13 +8,9 @@ import click
 from rich.console import Console
 from rich.table import Table
 
+from vethlumi_common.texts import plain
+
 COLOURS = {"signed": "green", "pending": "yellow", "revoked": "red", "ok": "green", "warn": "yellow", "bad": "red"}
-
-
-def plain(text):
-    """A text without what steers a terminal: what it shows has come from elsewhere."""
-    text = str(text)
-    return text if text.isprintable() else "".join(it if it.isprintable() or it == "\n" else "?" for it in text)
 
 
 def batches(texts):

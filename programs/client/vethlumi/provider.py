@@ -3,7 +3,6 @@
 What the provider answers, and what comes to the loopback address, may be from anybody. The ID token isn't verified
 here: it comes from the provider itself, by TLS (OpenID Connect Core, 3.1.3.7), and the registrar judges it.
 """
-import base64
 import contextlib
 import hashlib
 import hmac
@@ -23,6 +22,7 @@ from vethlumi.printing import say
 from vethlumi.refusals import Refused
 from vethlumi.services import ask_json, complaint
 from vethlumi.settings import BadSettings, is_secure
+from vethlumi_common.signon import nonce_of, url64
 
 # Where browsers are sent back to; and the port that is named if any will do, and nobody listens.
 CALLBACK, ANY_PORT = "/callback", 8400
@@ -41,16 +41,6 @@ PAGE = """<!DOCTYPE html>
 <html lang="en"><meta charset="utf-8"><title>vethlumi</title>
 <p>{}. You may close this window, and go on in the terminal.</p></html>
 """
-
-
-def url64(data):
-    """Base64 of RFC 4648, section 5, without padding."""
-    return base64.urlsafe_b64encode(data).rstrip(b"=").decode()
-
-
-def nonce_of(blob):
-    """The nonce that binds a login to a public key: whoever steals the token can't use it for a key of their own."""
-    return url64(hashlib.sha256(blob).digest())
 
 
 # ---- the browser and the loopback address

@@ -15,7 +15,7 @@ from vethlumi.printing import plain, print_fields, print_json, print_table, prin
 from vethlumi.refusals import Refused
 
 
-@main.command()
+@main.command(short_help="Show the office's CAs, KRL and number of certificates.")
 @as_json
 @pass_job
 def status(job, as_json):
@@ -78,7 +78,7 @@ def figures_(job, last):
     """Print metrics in Prometheus' text format."""
     answered = "up", "Whether the office answered."
     try:
-        found = figures.figures(job.office, last)
+        found = figures.figures(job.office, last) + figures.ends(job)
     except Exception:
         # Whatever it is: somebody who looks at the metrics has to see it.
         click.echo(figures.printed(*answered, [("", 0)]), nl=False)
@@ -122,7 +122,7 @@ def sent_again(job, kept):
     return " ".join(reply)
 
 
-@main.command("doctor")
+@main.command("doctor", short_help="Check the front, clocks, certificates, KRL and sshd.")
 @click.option("--within", metavar="TIME", default="14d", show_default=True, help="warn of what expires within TIME")
 @click.option("--krl", metavar="FILE", help="the KRL that sshd reads [default: as sshd -T prints it]")
 @click.option("--fresh", metavar="TIME", default="1h", show_default=True, help="the oldest that this KRL may be")

@@ -44,7 +44,7 @@ def end_of_key_id(name, serials):
     return "\n".join(lines)
 
 
-@main.command()
+@main.command(short_help="Revoke certificates, permanently.")
 @click.argument("what", metavar="SERIAL|LOW-HIGH|KEYID|FILE")
 @click.option("--keyid", is_flag=True, help="the argument is a key ID, even if a file has this name")
 @without_asking

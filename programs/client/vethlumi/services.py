@@ -15,9 +15,9 @@ def json_of(data):
     try:
         found = json.loads(data)
     except (ValueError, RecursionError):
-        raise BadFormat("what came is no JSON") from None
+        raise BadFormat("the answer isn't JSON") from None
     if not isinstance(found, dict):
-        raise BadFormat("what came is no JSON object")
+        raise BadFormat("the answer isn't a JSON object")
     return found
 
 

@@ -8,7 +8,7 @@ from dataclasses import dataclass, fields
 
 import platformdirs
 
-from vethlumi import files
+from vethlumi_common import files
 
 # The statuses with which a command ends, beside 0.
 REFUSED, BAD_WORDS, NO_ANSWER, NOT_SIGNED = 1, 2, 3, 4
@@ -157,6 +157,11 @@ def read_settings(path=None, **given):
         if value:
             setattr(made, name, value)
     return made
+
+
+def config_folder():
+    """The folder of this user's certificates and keys."""
+    return os.path.join(os.path.abspath(folder(platformdirs.user_config_dir(), "~/.config")), "vethlumi")
 
 
 def state_folder():

@@ -6,9 +6,10 @@ import base64
 import os
 import time
 
-from vethlumi import agent, files
+from vethlumi import agent
 from vethlumi.formats import KEY_LINE
 from vethlumi.settings import BadSettings, read_settings
+from vethlumi_common import files
 
 # With what the comments of the keys begin that a login has given to the agent.
 MARK = "vethlumi login"
@@ -52,7 +53,8 @@ def is_granted(words):
     match words:
         case ["login", "--if-needed"]:
             department = ""
-        case ["login", "--if-needed", "--department", department] | ["login", "--department", department, "--if-needed"]:
+        case (["login", "--if-needed", "--department", department]
+              | ["login", "--department", department, "--if-needed"]):
             pass
         case _:
             return False
