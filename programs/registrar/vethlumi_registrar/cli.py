@@ -4,21 +4,27 @@ import logging
 import os
 import sys
 
+from vethlumi_signon.settings import HERE, BadSettings
+
 from vethlumi_registrar import settings as of_settings
-from vethlumi_registrar.settings import BadSettings, read_settings
+from vethlumi_registrar.settings import read_settings
 
 ABOUT = """\
-Turns logins at an identity provider, and the tokens of workloads, into SSH certificates of an office.
+Turns logins at an identity provider, and the tokens of workloads, into SSH
+certificates of an office.
 
-The registrar verifies a token, that it was issued for the public key that comes with it, and asks the office for a
-certificate as one of its callers. It keeps nothing on disk, and may be stopped, killed or run twice at any time.
+The registrar verifies a token, that it was issued for the public key that
+comes with it, and asks the office for a certificate as one of its callers. It
+keeps nothing on disk, and may be stopped, killed or run twice at any time.
 """
 SERVE = """\
-Serves logins. Under systemd it takes the socket that vethlumi-registrar.socket opens; otherwise it listens at a port of
-127.0.0.1, and the front has to reach it there. Each request is a line of JSON on standard output.
+Serves logins. Under systemd it takes the socket that vethlumi-registrar.socket
+opens; otherwise it listens at a port of 127.0.0.1, and the front has to reach
+it there. Each request is a line of JSON on standard output.
 """
 CHECK = """\
-Reads the settings, and says what they mean: who gets which principals, for how long. It asks nobody.
+Reads the settings, and says what they mean: who gets which principals, for how
+long. It asks nobody.
 """
 COMMANDS = """\
 Commands:
@@ -27,7 +33,8 @@ Commands:
 
 """
 STATUSES = """\
-Exit status: 0, 1 if the settings can't be used, with the reason on standard error, 2 for invalid arguments.
+Exit status: 0, 1 if the settings can't be used, with the reason on standard
+error, 2 for invalid arguments.
 """
 
 
@@ -37,7 +44,7 @@ def words_of(names):
 
 def said_of(department):
     """What a department means, in lines."""
-    issuer, here = department.issuer, of_settings.HERE
+    issuer = department.issuer
     if issuer.client:
         yield f"department {department.name}: people of provider {issuer.label}, {issuer.url}, client {issuer.client}"
     else:
@@ -52,10 +59,14 @@ def said_of(department):
     if department.need:
         yield f"  only for members of one of: {words_of(department.need)}"
     if department.templates:
-        yield f"  all of them get: {words_of(it.replace(here, '<name>') for it in department.templates)}"
+        yield f"  all of them get: {words_of(it.replace(HERE, '<name>') for it in department.templates)}"
     for group, principals in department.groups.items():
         yield f"  members of {group} also get: {words_of(principals)}"
     yield f"  options: {words_of(department.options)}; extensions: {words_of(department.extensions)}"
+    if department.renews:
+        yield "  hosts renew their certificates by their own keys, without a token"
+    if department.is_witnessed:
+        yield "  the front gets each token, for a witness beside the station's guard"
 
 
 def said_of_names(issuer):
@@ -70,7 +81,7 @@ def warnings_of(settings):
     by_template = {}
     for it in settings.departments.values():
         for template in it.templates:
-            if of_settings.HERE in template:
+            if HERE in template:
                 by_template.setdefault(template, {}).setdefault(it.issuer.label, it.name)
     for template, names in by_template.items():
         if len(names) > 1:

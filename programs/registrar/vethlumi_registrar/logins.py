@@ -4,6 +4,7 @@ Message and request ID are functions of these. So a login that is sent again, al
 the same message, and the office gives the same serial. Nothing is kept on disk, and the limits are counted in memory.
 """
 import base64
+import contextlib
 import hashlib
 import threading
 import time
@@ -11,19 +12,21 @@ import time
 from vethlumi import formats
 from vethlumi.formats import BadFormat
 from vethlumi.refusals import Refused
+from vethlumi_signon import tokens
+from vethlumi_signon.keys import Keys, NoProvider
+from vethlumi_signon.rights import BEFORE_TOKEN, NoRight, groups_of, key_id_of, name_of, principals_of, times_of
+from vethlumi_signon.settings import fixed_of
+from vethlumi_signon.tokens import BadToken
 
-from vethlumi_registrar import settings as limits
-from vethlumi_registrar import tokens
-from vethlumi_registrar.keys import Keys, NoProvider
 from vethlumi_registrar.lines import Busy, Lines
-from vethlumi_registrar.office import BadOffice, NoOffice, Office
-from vethlumi_registrar.tokens import BadToken
+from vethlumi_registrar.office import BadOffice, Cas, NoOffice, Office
 
-# A certificate begins a minute before its token, for servers whose clocks are behind.
-BEFORE_TOKEN = 60
 HOUR = 3600
 # How many people are counted. Beyond, those who asked longest ago are forgotten.
 MOST_PEOPLE = 20000
+# How many pieces of evidence the front gets of a person within an hour, whatever becomes of the logins: so many times
+# the new certificates.
+PIECES = 3
 # For how many seconds after its login anybody who knows a serial gets the certificate.
 OPEN = 900
 
@@ -45,11 +48,6 @@ def hashed(*parts):
     return made.digest()
 
 
-def tag_of(issuer, subject):
-    """Who somebody is at an issuer, whatever the name: 80 bits of a hash, in base32. A name may be given to others."""
-    return base64.b32encode(hashlib.sha256(f"{issuer}\n{subject}".encode()).digest()[:10]).decode().lower()
-
-
 def request_of(department, claims, blob):
     """The request ID. A token that isn't bound to a key has one alone, so the office refuses it with a second key."""
     if department.issuer.audience:
@@ -58,54 +56,11 @@ def request_of(department, claims, blob):
     return hashed("vethlumi login", *parts).hex()[:32]
 
 
-def groups_of(department, claims):
-    """The groups that a token has: a list of texts, one text, or none."""
-    claim = department.issuer.groups
-    found = claims.get(claim, []) if claim else []
-    found = [found] if isinstance(found, str) else found
-    links = claims.get("_claim_names")
-    if not isinstance(found, list) or not all(isinstance(it, str) for it in found) or (
-            claim and isinstance(links, dict) and claim in links):
-        raise Refusal(403, "BadGroups", "the provider doesn't say which groups you are in, as a list of texts")
-    return found
-
-
-def name_of(department, claims):
-    """The name, byte for byte. None is folded or cut into one."""
-    found = department.issuer.name_in(claims)
-    if found is None:
-        raise Refusal(403, "BadName", "the token gives no name that the settings know",
-                      f"the claim {department.issuer.name} gives no name")
-    if not limits.PERSON.fullmatch(found) or found in limits.NOBODY:
-        raise Refusal(403, "BadName", "the name in the token can't be a name here: it has other characters than "
-                      f"a-z 0-9 . _ @ -, has over {limits.LONGEST_NAME}, or is root", f"name {found[:64]!r}")
-    return found
-
-
-def principals_of(department, name, groups, fixed):
-    """What somebody of this name and of these groups may log in as."""
-    if department.need and not {*department.need} & {*groups}:
-        raise Refusal(403, "NotInGroup", f"{name} is in none of the groups that may have this")
-    own = [it.replace(limits.HERE, name) for it in department.templates]
-    if taken := [it for it, rule in zip(own, department.templates) if it != rule and it in fixed]:
-        # A name that gives what the settings give to a group would be that group.
-        raise Refusal(403, "BadName", f"{name} can't be a name here: the principal {taken[0]} is a group's")
-    given = {it for group in groups for it in department.groups.get(group, ())}
-    found = own + sorted(given - {*own})
-    if not found:
-        raise Refusal(403, "NoPrincipals", f"{name} is in no group that gives anything here")
-    if len(found) > limits.MOST_PRINCIPALS:
-        raise Refusal(403, "TooManyPrincipals", f"{name} has {len(found)} principals: a certificate has at most "
-                                                f"{limits.MOST_PRINCIPALS}")
-    return found
-
-
 def message_of(department, claims, key, name, principals):
-    """The key ID and the message. Some issuers have fractions of seconds."""
-    issued = int(claims["iat"])
-    key_id = f"{department.name}/{name}/{tag_of(claims['iss'], claims['sub'])}"
-    return key_id, formats.issue(department.name, key_id, key, principals, issued - BEFORE_TOKEN,
-                                 issued + department.life, department.options, department.extensions)
+    """The key ID and the message."""
+    key_id, (after, before) = key_id_of(department, claims, name), times_of(department, claims)
+    return key_id, formats.issue(department.name, key_id, key, principals, after, before, department.options,
+                                 department.extensions)
 
 
 class Counts:
@@ -137,13 +92,36 @@ class Counts:
                 del asked[at]
 
 
+class Evidence:
+    """Which token the front was last given for a key, so that whoever asks again and again doesn't use up what it
+    takes."""
+
+    def __init__(self, clock=time.monotonic):
+        self.clock, self.lock, self.given = clock, threading.Lock(), {}
+
+    def is_new(self, token, blob):
+        with self.lock:
+            given, at = self.given.get(blob, (None, 0))
+            return given != hashed(token) or self.clock() > at + HOUR
+
+    def note(self, token, blob):
+        with self.lock:
+            self.given.pop(blob, None)
+            if len(self.given) >= MOST_PEOPLE:
+                del self.given[next(iter(self.given))]
+            self.given[blob] = hashed(token), self.clock()
+
+
 class Registrar:
     def __init__(self, settings, clock=time.time):
-        self.settings, self.clock, self.fixed = settings, clock, settings.fixed()
+        self.settings, self.clock, self.fixed = settings, clock, fixed_of(settings.departments)
         self.office = Office(settings)
+        self.cas = Cas(self.office)
         issuers = {id(it.issuer): it.issuer for it in settings.departments.values()}
-        self.keys = {key: Keys(it.url, it.algorithms, it.keys_url, it.trusted or None) for key, it in issuers.items()}
-        self.counts = Counts(settings.certificates, settings.requests)
+        self.keys = {key: Keys(it.url, it.algorithms, it.keys_url, it.trusted or None, it.proxy or None)
+                     for key, it in issuers.items()}
+        self.counts, self.evidence = Counts(settings.certificates, settings.requests), Evidence()
+        self.pieces = Counts(PIECES * settings.certificates, PIECES * settings.certificates)
         self.lines = Lines(self.office.line, self.suits)
 
     def suits(self, fields):
@@ -160,17 +138,23 @@ class Registrar:
         record |= {"department": department, "key": formats.fingerprint(blob)}
         claims = self.verified(token, one, blob)
         record |= {"issuer": claims["iss"], "subject": claims["sub"], "issued": int(claims["iat"])}
-        name = record["name"] = name_of(one, claims)
-        groups = groups_of(one, claims)
-        record["groups"] = [it for it in groups if it in one.groups or it in one.need]
-        principals = record["principals"] = principals_of(one, name, groups, self.fixed)
-        record["keyid"], message = message_of(one, claims, key, name, principals)
+        message = self.message(one, claims, key, record)
         record["request"] = request_of(one, claims, blob)
+
+        def ask():
+            if one.is_witnessed:
+                self.show(token, blob, person, record["request"])
+            return self.issued(record["request"], message, bool(one.issuer.audience))
         person = claims["iss"], claims["sub"]
+        return self.served(person, record, ask)
+
+    def served(self, person, record, ask):
+        """The serial that `ask` gives to somebody within the limits, and the line or None. `record` has the request ID,
+        and gets what the journal says of the serial."""
         self.counts.count(person, record["request"])
         begun = time.monotonic()
         try:
-            serial = record["serial"] = self.issued(record["request"], message, bool(one.issuer.audience))
+            serial = record["serial"] = ask()
         except Refusal as refusal:
             if refusal.status == 503:
                 self.counts.take_back(person, record["request"])
@@ -178,6 +162,36 @@ class Registrar:
         record["ms_office"] = round(1000 * (time.monotonic() - begun), 1)
         self.lines.expect(serial)
         return serial, self.lines.wait(serial, self.settings.wait)
+
+    def message(self, department, claims, key, record):
+        """The message that asks for what the claims give, as the journal has it."""
+        try:
+            name = record["name"] = name_of(department, claims)
+            groups = groups_of(department, claims)
+            record["groups"] = [*dict.fromkeys(
+                it for it in groups if it in department.groups or it in department.need)]
+            principals = record["principals"] = principals_of(department, name, groups, self.fixed)
+        except NoRight as fault:
+            raise Refusal(403, fault.name, fault.detail, fault.why) from None
+        record["keyid"], made = message_of(department, claims, key, name, principals)
+        return made
+
+    def show(self, token, blob, person, request):
+        """Gives the front the token as evidence for the witness beside the station's guard, before the issue. Who asks
+        again with the same token has shown it. With several tokens in turn each is shown again, so there is a limit."""
+        if not self.evidence.is_new(token, blob):
+            return
+        self.pieces.count(person, request)
+        try:
+            self.office.put_evidence(token, blob)
+        except NoOffice as fault:
+            self.pieces.take_back(person, request)
+            raise Refusal(503, "NoOffice", "no answer came from the office: send the same again", f"evidence: {fault}",
+                          fault.pause) from None
+        except Refused as refused:
+            raise Refusal(502, "NoEvidence", "the front doesn't take the evidence of this login",
+                          f"evidence: {refused}") from None
+        self.evidence.note(token, blob)
 
     def verified(self, token, department, blob):
         try:
@@ -193,26 +207,18 @@ class Registrar:
     def issued(self, request, message, is_unbound):
         """The serial that the office has given."""
         try:
-            return self.office.issue(request, message)
-        except NoOffice as fault:
-            raise Refusal(503, "NoOffice", "no answer came from the office: send the same again", str(fault),
-                          fault.pause) from None
-        except BadOffice as fault:
-            raise Refusal(502, "BadOffice", "what came is no answer that an office gives", str(fault)) from None
+            with answers_of_office():
+                return self.office.issue(request, message)
         except Refused as refused:
             raise refusal_of_office(refused, is_unbound) from None
 
     def certificate(self, serial):
         """The line of a certificate, or None while there is none, or none to give."""
         try:
-            return self.lines.line(serial)
+            with answers_of_office():
+                return self.lines.line(serial)
         except Busy:
             raise Refusal(429, "TooMany", "too many ask: send the same again", pause=1) from None
-        except NoOffice as fault:
-            raise Refusal(503, "NoOffice", "no answer came from the office: send the same again", str(fault),
-                          fault.pause) from None
-        except BadOffice as fault:
-            raise Refusal(502, "BadOffice", "what came is no answer that an office gives", str(fault)) from None
 
     def public(self):
         """What a client may know of the settings."""
@@ -220,6 +226,18 @@ class Registrar:
             "issuer": it.issuer.url, "client_id": it.issuer.client or None, "scopes": [*it.issuer.scopes],
             "life": it.life, "bound": "nonce" if it.issuer.client else "token" if it.issuer.audience else "audience",
             "audience": it.issuer.audience or None} for name, it in self.settings.departments.items()}}
+
+
+@contextlib.contextmanager
+def answers_of_office():
+    """Refuses whoever asks, if no answer comes from the office, or none that an office gives."""
+    try:
+        yield
+    except NoOffice as fault:
+        raise Refusal(503, "NoOffice", "no answer came from the office: send the same again", str(fault),
+                      fault.pause) from None
+    except BadOffice as fault:
+        raise Refusal(502, "BadOffice", "unexpected answer from the office", str(fault)) from None
 
 
 def key_of(text):
@@ -238,6 +256,8 @@ def refusal_of_office(refused, is_unbound):
     if refused.name == "KeyReused":
         return Refusal(409, "KeyReused", "this token has a certificate already, for another key or department"
                        if is_unbound else "groups, name or settings have changed since this login: log in again")
+    if refused.name == "Revoked":
+        return Refusal(403, "Revoked", "this certificate was revoked, so nothing is renewed by it")
     if refused.name == "KeyIdRevoked":
         return Refusal(403, "KeyIdRevoked", "the certificates of this account were revoked for good")
     said = f"refused {refused.number} {refused.name}" if refused.number else str(refused)

@@ -1,15 +1,20 @@
-"""The office, as one of its callers reaches it: an issue goes out, and a certificate's line comes back."""
-import re
+"""The office, as one of its callers reaches it: a message goes out, and a certificate's line comes back."""
+import hashlib
+import threading
+import time
 
-from vethlumi import formats
+from vethlumi import formats, table
 from vethlumi.formats import BadFormat
-from vethlumi.refusals import refusal_of, said_by
-
-from vethlumi_registrar.web import NoAnswer, fetch
+from vethlumi.office import PAUSE, pause_of
+from vethlumi.refusals import Refused, refusal_of, said_by
+from vethlumi_signon.web import NoAnswer, fetch
 
 # Seconds for an answer to a message, and for a line.
 LONGEST_ISSUE, LONGEST_READ = 20, 10
-PAUSE, LONGEST_PAUSE = 1, 60
+# Seconds until the office is asked again which CAs it has, and between two attempts for one that isn't known.
+FRESH, BETWEEN = 300, 10
+# How many wait for its CAs. Strangers can have as many wait, and logins need the other threads.
+MOST_WAITING = 16
 
 
 class NoOffice(Exception):
@@ -36,22 +41,26 @@ class Office:
         except NoAnswer as fault:
             raise NoOffice(str(fault)) from None
         text = found.body.decode("utf-8", "replace")
-        if found.status == 200:
+        if found.status in ((201, 204) if method == "PUT" else (200,)):
             return found.body
         if found.status == 429 or found.status >= 500:
-            asked = found.fields.get("retry-after", "")
-            is_number = re.fullmatch(r"[1-9]\d{0,4}", asked, re.ASCII)
-            raise NoOffice(said_by(found.status, text), min(int(asked), LONGEST_PAUSE) if is_number else PAUSE)
+            raise NoOffice(said_by(found.status, text), pause_of(found.fields))
         raise refusal_of(found.status, text)
 
     def issue(self, request, message):
-        """The serial that the message got under this request ID, now or when it came first."""
+        """The serial that an issue or a renewal got under this request ID, now or when it came first."""
         path = f"/v1/callers/{self.caller}/requests/{request}" if self.caller else f"/v1/requests/{request}"
         found = self.ask("POST", path, message.encode(), LONGEST_ISSUE)
         try:
             return int(formats.reply_to(message, found)[1])
         except BadFormat as fault:
             raise BadOffice(str(fault)) from None
+
+    def put_evidence(self, token, blob):
+        """Gives the front the token of a login, by the hash of the login's key. An office without a front has no place
+        for it."""
+        if not self.caller:
+            self.ask("PUT", f"/evidence/{hashlib.sha256(blob).hexdigest()}", token.encode())
 
     def line(self, serial):
         """A certificate's line and its fields. The office refuses one that isn't signed, or isn't there."""
@@ -63,3 +72,47 @@ class Office:
         if found.serial != serial:
             raise BadOffice(f"the certificate has serial {found.serial}, not {serial}")
         return line, found
+
+    def cas(self):
+        """The fingerprints of its CAs."""
+        try:
+            return {fingerprint for _, _, fingerprint in table.cas(self.ask("GET", "/v1/cas"))}
+        except (BadFormat, UnicodeDecodeError) as fault:
+            raise BadOffice(str(fault)) from None
+
+
+class Cas:
+    """Which CAs the office has. Whoever names CAs that it hasn't has it asked once in a while, and no more often."""
+
+    def __init__(self, office, clock=time.monotonic):
+        self.office, self.clock, self.lock = office, clock, threading.Lock()
+        self.known, self.came, self.tried = None, 0, None
+        self.places = threading.Semaphore(MOST_WAITING)
+
+    def has(self, fingerprint):
+        if not self.places.acquire(blocking=False):
+            raise NoOffice("many wait for the office to say which CAs it has")
+        try:
+            return self.is_one(fingerprint)
+        finally:
+            self.places.release()
+
+    def is_one(self, fingerprint):
+        with self.lock:
+            now = self.clock()
+            if self.known is None or now - self.came >= FRESH or fingerprint not in self.known:
+                self.look(now)
+            return fingerprint in self.known
+
+    def look(self, now):
+        """Asks again, unless that was a moment ago."""
+        if self.tried is not None and now - self.tried < BETWEEN:
+            if self.known is None:
+                raise NoOffice("the office didn't say a moment ago which CAs it has")
+            return
+        self.tried = now
+        try:
+            self.known, self.came = self.office.cas(), now
+        except (NoOffice, BadOffice, Refused):
+            if self.known is None:
+                raise

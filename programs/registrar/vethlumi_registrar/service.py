@@ -12,50 +12,72 @@ import time
 
 import waitress
 
+from vethlumi_registrar import renewals
 from vethlumi_registrar.logins import Refusal
 
-# The longest body of a login, a token of 8 KB among it.
+# The longest body of a login, a token of 8 KB among it, or of a renewal.
 LONGEST_BODY = 16384
 THREADS, BACKLOG, MOST_CONNECTIONS = 64, 256, 512
 # Seconds for which a client may be silent.
 SILENT = 30
 # Only the front reaches the socket, so it may say whom it asks for.
 ADDRESS = re.compile(r"[0-9a-fA-F.:]{2,45}", re.ASCII)
-ROUTE = re.compile(r"/v1/(login|settings|certificates/([1-9][0-9]{0,18}))", re.ASCII)
+ROUTE = re.compile(r"/v1/(login|renewal|settings|certificates/([1-9][0-9]{0,18}))", re.ASCII)
 STATUSES = {200: "OK", 400: "Bad Request", 401: "Unauthorized", 403: "Forbidden", 404: "Not Found",
             405: "Method Not Allowed", 409: "Conflict", 413: "Payload Too Large", 429: "Too Many Requests",
             500: "Internal Server Error", 502: "Bad Gateway", 503: "Service Unavailable"}
-FIELDS = {"department", "token", "public_key"}
+# In bytes: how much is written at once of what anybody can have written, and how much a second in the long run. It is
+# far less than journald takes in such a time.
+ROOM_AT_ONCE, ROOM_A_SECOND = 1 << 20, 1 << 10
+# By the paths to which something is sent: what it is called in the audit trail, and the texts that it has.
+SENT = {"/v1/login": ("sign-on", ("department", "token", "public_key")),
+        "/v1/renewal": ("renewal", ("certificate", "statement", "signature"))}
 LAST_SERIAL = 9223372036854775806
 # The first file that systemd passes to a service (sd_listen_fds).
 PASSED = 3
 
 
 class Journal:
-    """Lines that are whole, also of threads that write at once."""
+    """Lines that are whole, also of threads that write at once. Of too many lines journald drops any. So what anybody
+    can have written, without a token that is believed, is written as far as there is room for it, and the next line
+    says how many were left out."""
 
-    def __init__(self, file):
-        self.file, self.lock = file, threading.Lock()
+    def __init__(self, file, clock=time.monotonic):
+        self.file, self.lock, self.clock = file, threading.Lock(), clock
+        self.room, self.since, self.left_out = ROOM_AT_ONCE, clock(), 0
 
-    def write(self, record):
-        line = json.dumps(record)
+    def write(self, record, is_always=True):
         with self.lock:
-            self.file.write(f"{line}\n")
+            now = self.clock()
+            self.room = min(ROOM_AT_ONCE, self.room + (now - self.since) * ROOM_A_SECOND)
+            self.since = now
+            line = json.dumps(record | ({"left_out": self.left_out} if self.left_out else {})) + "\n"
+            if not is_always and len(line) > self.room:
+                self.left_out += 1
+                return
+            self.room -= 0 if is_always else len(line)
+            self.left_out = 0
+            self.file.write(line)
             self.file.flush()
 
 
-def asked_of(environ):
-    """The three texts of a login."""
+def is_limited(record):
+    """Whether a record is of a login or renewal that was counted, of which each account has a few in an hour."""
+    return "request" in record and record["status"] not in (429, 503)
+
+
+def asked_of(environ, names):
+    """The texts of these names that were sent."""
     length = environ.get("CONTENT_LENGTH") or "0"
     if not length.isdecimal() or int(length) > LONGEST_BODY:
-        raise Refusal(413, "TooLong", f"a login has at most {LONGEST_BODY} bytes")
+        raise Refusal(413, "TooLong", f"a body has at most {LONGEST_BODY} bytes")
     try:
         asked = json.loads(environ["wsgi.input"].read(int(length)).decode())
     except (ValueError, RecursionError):
         raise Refusal(400, "BadRequest", "the body is no JSON") from None
-    if not isinstance(asked, dict) or {*asked} != FIELDS or not all(isinstance(it, str) for it in asked.values()):
-        raise Refusal(400, "BadRequest", "the body is no object with the texts department, token and public_key")
-    return asked["department"], asked["token"], asked["public_key"]
+    if not isinstance(asked, dict) or {*asked} != {*names} or not all(isinstance(it, str) for it in asked.values()):
+        raise Refusal(400, "BadRequest", f"the body is no object with the texts {', '.join(names[:2])} and {names[2]}")
+    return [asked[it] for it in names]
 
 
 class Service:
@@ -81,8 +103,12 @@ class Service:
             status, kind = 500, "application/json"
             text = as_json({"error": "Fault", "detail": "a fault in the registrar: see its journal"})
             record |= {"error": "Fault", "why": place_of(fault)}
+        if path in SENT:
+            # A line of the audit trail, too.
+            record |= {"source": "registrar", "event": SENT[path][0], "outcome": outcome_of(status)}
+            record |= {"reason": record["error"]} if "error" in record else {}
         record |= {"status": status, "ms": round(1000 * (time.monotonic() - begun), 1)}
-        self.journal.write(record)
+        self.journal.write(record, is_limited(record))
         data = text.encode()
         start(f"{status} {STATUSES[status]}", [
             ("Content-Type", kind), ("Content-Length", str(len(data))), ("Cache-Control", "no-store"),
@@ -94,18 +120,25 @@ class Service:
         found = ROUTE.fullmatch(path)
         if environ.get("QUERY_STRING") or not found:
             raise Refusal(404, "NoRoute", "there is no such path")
-        wanted = "POST" if path == "/v1/login" else "GET"
+        wanted = "POST" if path in SENT else "GET"
         if method != wanted:
             raise Refusal(405, "WrongMethod", f"this path is for {wanted}")
         if path == "/v1/settings":
             return "application/json", as_json(self.registrar.public())
-        if path == "/v1/login":
-            serial, line = self.registrar.login(*asked_of(environ), record)
+        if path in SENT:
+            asked = asked_of(environ, SENT[path][1])
+            serial, line = self.registrar.login(*asked, record) if path == "/v1/login" \
+                else renewals.renew(self.registrar, *asked, record)
             return "application/json", as_json({"serial": serial, "certificate": line and line.rstrip("\n")})
         line = self.registrar.certificate(int(found[2])) if int(found[2]) <= LAST_SERIAL else None
         if line is None:
             raise Refusal(404, "NoCertificate", "there is no certificate of this serial yet, or none to give here")
         return "text/plain", line
+
+
+def outcome_of(status):
+    """What became of a login. Without an answer of the office it may have got a certificate."""
+    return "accepted" if status == 200 else "unanswered" if status >= 500 else "refused"
 
 
 def as_json(value):
@@ -142,7 +175,8 @@ def serve(registrar, port, passed):
     """Serves until the process is told to end."""
     at = listener(port, passed)
     made = server_of(registrar, at, sys.stdout)
-    signal.signal(signal.SIGTERM, signal.default_int_handler)
+    # Also before the server runs, which then ends in good order.
+    signal.signal(signal.SIGTERM, lambda *_: sys.exit())
     if not passed:
         print(f"listening {at.getsockname()[1]}", file=sys.stderr, flush=True)
     made.run()

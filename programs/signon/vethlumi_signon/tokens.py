@@ -11,7 +11,9 @@ import time
 
 import jwt
 
-from vethlumi_registrar.keys import UnknownKey
+from vethlumi_common.signon import nonce_of, url64
+
+from vethlumi_signon.keys import UnknownKey
 
 LONGEST_TOKEN = 8192
 FORM = re.compile(r"[A-Za-z0-9_-]+\.[A-Za-z0-9_-]+\.[A-Za-z0-9_-]+", re.ASCII)
@@ -27,16 +29,6 @@ class BadToken(Exception):
     """Why a token isn't believed. Its text is for the journal, and never has the token."""
 
 
-def as_text(data):
-    """Unpadded base64url (RFC 7515, section 2)."""
-    return base64.urlsafe_b64encode(data).rstrip(b"=").decode()
-
-
-def nonce_of(blob):
-    """The nonce by which a login is one for this public key alone."""
-    return as_text(hashlib.sha256(blob).digest())
-
-
 def audience_of(blob):
     """The audience by which a workload's token is one for this public key alone."""
     return AUDIENCE + hashlib.sha256(blob).hexdigest()
@@ -48,7 +40,7 @@ def decoded(part):
         data = base64.urlsafe_b64decode(part + "=" * (-len(part) % 4))
     except ValueError:
         raise BadToken("a part is no base64url") from None
-    if as_text(data) != part:
+    if url64(data) != part:
         raise BadToken("a part has bits beyond its bytes")
     return data
 

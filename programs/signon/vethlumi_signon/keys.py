@@ -6,7 +6,7 @@ import time
 import jwt
 from cryptography.hazmat.primitives.asymmetric.rsa import RSAPublicKey
 
-from vethlumi_registrar.web import NoAnswer, fetch
+from vethlumi_signon.web import NoAnswer, fetch
 
 # The type of key of each algorithm, and its curve. A key is only used with its own algorithms, so a public key is never
 # the secret of an HMAC.
@@ -39,14 +39,14 @@ def since_boot():
     return time.clock_gettime(time.CLOCK_BOOTTIME)
 
 
-def page(url, trusted):
+def page(url, trusted, proxy=None):
     """An object in JSON. `url` may be the path of a file."""
     try:
         if url.startswith("/"):
             with open(url, "rb") as file:
                 data = file.read(LONGEST_PAGE)
         else:
-            answer = fetch("GET", url, trusted=trusted, seconds=LONGEST_FETCH, longest=LONGEST_PAGE)
+            answer = fetch("GET", url, trusted=trusted, proxy=proxy, seconds=LONGEST_FETCH, longest=LONGEST_PAGE)
             if answer.status != 200:
                 raise NoProvider(f"{url}: status {answer.status}")
             data = answer.body
@@ -91,8 +91,9 @@ def keys_of(found, algorithms):
 class Keys:
     """The keys of one issuer."""
 
-    def __init__(self, issuer, algorithms, keys_url=None, trusted=None, clock=since_boot):
-        self.issuer, self.algorithms, self.keys_url, self.trusted = issuer, algorithms, keys_url, trusted
+    def __init__(self, issuer, algorithms, keys_url=None, trusted=None, proxy=None, clock=since_boot):
+        self.issuer, self.algorithms, self.keys_url = issuer, algorithms, keys_url
+        self.trusted, self.proxy = trusted, proxy
         self.clock, self.changed = clock, threading.Condition()
         self.known, self.fetched, self.tried, self.fault = {}, None, None, "not asked yet"
         self.is_fetching, self.waiting = False, 0
@@ -101,13 +102,13 @@ class Keys:
         """The keys as the issuer shows them now. It has to name itself exactly as the settings do."""
         url = self.keys_url
         if not url:
-            found = page(self.issuer.rstrip("/") + "/.well-known/openid-configuration", self.trusted)
+            found = page(self.issuer.rstrip("/") + "/.well-known/openid-configuration", self.trusted, self.proxy)
             if found.get("issuer") != self.issuer:
                 raise NoProvider("the issuer names itself otherwise")
             url = found.get("jwks_uri")
             if not isinstance(url, str) or not url.startswith(self.issuer.partition(":")[0] + "://"):
                 raise NoProvider("the issuer names no page of keys, or none by https")
-        return keys_of(page(url, self.trusted), self.algorithms)
+        return keys_of(page(url, self.trusted, self.proxy), self.algorithms)
 
     def key(self, kid, algorithm):
         """The key of this ID, which isn't believed much longer than the issuer shows it."""
@@ -115,7 +116,11 @@ class Keys:
         with self.changed:
             if (kid, algorithm) in self.known and asked - self.fetched < FRESH:
                 return self.known[kid, algorithm]
-            if self.is_fetching:
+            if self.is_fetching and self.waiting >= MOST_WAITING:
+                # Strangers can have as many wait. That keeps nobody out whose key is known.
+                if (kid, algorithm) not in self.known:
+                    raise NoProvider("many wait for the issuer's keys")
+            elif self.is_fetching:
                 self.wait()
             elif self.tried is None or asked - self.tried >= PAUSE:
                 self.fetch_now()
@@ -127,9 +132,7 @@ class Keys:
             raise NoProvider(self.fault or "an unknown key, and the keys were fetched just before")
 
     def wait(self):
-        """Waits for the fetch that is under way, unless many do."""
-        if self.waiting >= MOST_WAITING:
-            raise NoProvider("many wait for the issuer's keys")
+        """Waits for the fetch that is under way."""
         self.waiting += 1
         self.changed.wait_for(lambda: not self.is_fetching, 3 * LONGEST_FETCH)
         self.waiting -= 1

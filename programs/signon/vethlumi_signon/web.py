@@ -4,15 +4,15 @@ Whoever answers may be slow in any way: silent, or with one byte after the other
 connection. Redirects, proxies of the environment, cookies and compression are not followed, used, kept or taken.
 """
 import contextlib
-import http.cookiejar
 import io
 import socket
 import threading
 from typing import NamedTuple
 
-import requests
 import urllib3
 from requests.adapters import HTTPAdapter
+
+from vethlumi_common import web
 
 # Seconds until a connection is made, and until the next bytes of an answer come.
 PATIENCE = 5, 10
@@ -43,13 +43,14 @@ class Deadline:
 
     def __exit__(self, *_):
         self.timer.cancel()
+        for it in self.opened:
+            it.close()
 
     def end(self):
         self.is_over = True
         for it in [*self.opened]:
-            # Of the socket itself: that of TLS would first forget what another thread is reading by.
             with contextlib.suppress(OSError):
-                socket.socket.shutdown(it, socket.SHUT_RDWR)
+                it.shutdown(socket.SHUT_RDWR)
 
     def watch(self, opened):
         self.opened.append(opened)
@@ -66,38 +67,44 @@ class Watched(HTTPAdapter):
 
     def init_poolmanager(self, *words, **more):
         super().init_poolmanager(*words, **more)
-        self.poolmanager.pool_classes_by_scheme = {
+        self.watch(self.poolmanager)
+
+    def proxy_manager_for(self, *words, **more):
+        return self.watch(super().proxy_manager_for(*words, **more))
+
+    def watch(self, manager):
+        manager.pool_classes_by_scheme = {
             "http": self.watching(urllib3.HTTPConnectionPool), "https": self.watching(urllib3.HTTPSConnectionPool)}
+        return manager
 
     def watching(self, pool):
         deadline = self.deadline
 
         class Connection(pool.ConnectionCls):
-            def connect(self):
-                super().connect()
-                deadline.watch(self.sock)
+            def _new_conn(self):
+                # Before TLS, which may be slow as well. What it is wrapped in has another object for the socket.
+                made = super()._new_conn()
+                deadline.watch(made.dup())
+                return made
 
         return type("Pool", (pool,), {"ConnectionCls": Connection})
 
 
-def session_of(deadline, certificate, trusted):
-    made = requests.Session()
-    made.trust_env = False
-    # Even of a redirect that isn't followed, the library would read the whole answer.
-    made.get_redirect_target = lambda answer: None
-    made.cookies.set_policy(http.cookiejar.DefaultCookiePolicy(allowed_domains=[]))
-    made.headers = {"Accept-Encoding": "identity", "User-Agent": "vethlumi-registrar", "Connection": "close"}
-    made.cert, made.verify = certificate, trusted or True
+def session_of(deadline, certificate, trusted, proxy):
+    made = web.session_of("vethlumi-registrar", certificate, trusted)
+    made.headers["Connection"] = "close"
+    made.proxies = {"http": proxy, "https": proxy} if proxy else {}
     for scheme in ("https://", "http://"):
         made.mount(scheme, Watched(deadline))
     return made
 
 
-def fetch(method, url, data=None, certificate=None, trusted=None, seconds=10, longest=1 << 16):
-    """What is answered, whole. `certificate` is a file with a key, `trusted` one with authorities."""
+def fetch(method, url, data=None, certificate=None, trusted=None, seconds=10, longest=1 << 16, proxy=None):
+    """What is answered, whole. `certificate` is a file with a key, `trusted` one with authorities, and `proxy` the URL
+    of the only proxy that is asked."""
     with Deadline(seconds) as deadline:
         try:
-            with session_of(deadline, certificate, trusted) as session:
+            with session_of(deadline, certificate, trusted, proxy) as session:
                 return answered(session, method, url, data, longest)
         except NoAnswer:
             raise
