@@ -4,10 +4,7 @@ A bundle is a text that one set-up command makes for another. Its parts begin wi
 public keys before the first part are CAs', so `cat ca.pub server.bundle` is a bundle too.
 """
 import argparse
-import base64
-import contextlib
 import grp
-import hashlib
 import os
 import pathlib
 import pwd
@@ -15,13 +12,20 @@ import re
 import stat
 import subprocess
 import sys
-import tempfile
 import time
+
+sys.dont_write_bytecode = True
+# In a clone. Debian's package has it where Python looks.
+sys.path.append(os.path.join(os.path.dirname(os.path.dirname(os.path.realpath(__file__))), "common"))
+from vethlumi_common import files
+from vethlumi_common.helps import of_screen
+from vethlumi_common.ssh import ED25519_LINE as CA_LINE
+from vethlumi_common.ssh import blob_of, fingerprint
+from vethlumi_common.texts import plain
 
 LAST_SERIAL = 9223372036854775806
 ETC = pathlib.Path("/etc/vethlumi")
-PARTS = ("office", "caller", "host", "authority", "certificate", "ca", "policy")
-CA_LINE = re.compile(r"ssh-ed25519 AAAAC3NzaC1lZDI1NTE5AAAAI[A-P][A-Za-z0-9+/]{42}( .*)?", re.ASCII)
+PARTS = ("office", "caller", "host", "department", "authority", "certificate", "ca", "policy")
 # A public key somewhere in a line: its type and the key.
 KEY = re.compile(r"(?:^|(?<=\s))[a-z][a-z0-9@.-]+ AAAA[A-Za-z0-9+/]+={0,2}(?=\s|$)", re.ASCII)
 FINGERPRINT = re.compile(r"SHA256:[A-Za-z0-9+/]{43}", re.ASCII)
@@ -29,8 +33,10 @@ FINGERPRINT = re.compile(r"SHA256:[A-Za-z0-9+/]{43}", re.ASCII)
 NAME = re.compile(r"[a-z0-9][a-z0-9-]{0,31}", re.ASCII)
 # Parts of one line. Root writes them into settings, and names files by them, so nothing else may stand there.
 FORMS = {"office": ("URL of a front", re.compile(r"https://[A-Za-z0-9.:\[\]/~_-]{1,300}")),
-         "caller": ("name of a caller", NAME),
+         "caller": ("name of a caller", NAME), "department": ("name of a department", NAME),
          "host": ("name of a host", re.compile(r"(?=.{1,253}$)[A-Za-z0-9:]([A-Za-z0-9.:-]*[A-Za-z0-9:])?"))}
+# The names of servers as callers begin with this, and no others do.
+HOST_PREFIX = "host-"
 # Closes a database of SQLite whose log is left.
 CLOSE = """
 import sqlite3, sys
@@ -97,12 +103,18 @@ def check_line(name, text):
         raise Fault(f"no {what}: {text[:60]!r}")
 
 
-def name_of_host(host):
-    """The name of a host's department: the host's own name with - for each dot. The host asks the office as the caller
-    host-NAME, which has at most 32 bytes."""
+def own_department(host):
+    """The name of a host's own department, if it has one: the host's name with - for each dot."""
+    return host.lower().replace(".", "-")
+
+
+def name_of_host(host, department=None):
+    """The host's name as the caller host-NAME, who has at most 32 bytes. In a department of its own, it is that
+    department's. In one of all hosts it is what stands before the first dot."""
     check_line("host", host)
-    name = host.lower().replace(".", "-")
-    if not NAME.fullmatch(name) or not NAME.fullmatch(f"host-{name}"):
+    own = own_department(host)
+    name = host.lower().partition(".")[0] if department not in (None, own) else own
+    if not NAME.fullmatch(name) or not NAME.fullmatch(HOST_PREFIX + name):
         raise Fault(f"{host} gives no name of 1 to 27 of a-z, 0-9 and -")
     return name
 
@@ -142,13 +154,8 @@ def keys_in(text):
     found = {}
     for line in text.splitlines():
         for it in [] if line.startswith("#") else KEY.findall(line):
-            kind, key = it.split()
-            with contextlib.suppress(ValueError):
-                blob = base64.b64decode(key, validate=True)
-                digest = base64.b64encode(hashlib.sha256(blob).digest()).decode().rstrip("=")
-                # The key has its type in it, too.
-                if blob[4:].startswith(kind.encode()):
-                    found[f"SHA256:{digest}"] = it
+            if blob := blob_of(it):
+                found[fingerprint(blob)] = it
     return found
 
 
@@ -280,23 +287,12 @@ def as_user(user, *words):
 def put(path, text, mode, user="root", group=None):
     """Puts a text into a file, whole or not at all. The folder may be that of a user who isn't root."""
     path = pathlib.Path(path)
-    handle, new = tempfile.mkstemp(prefix=f".{path.name}.", dir=path.parent)
-    try:
-        with open(handle, "w", errors="surrogateescape") as it:
-            it.write(text)
-            it.flush()
-            if not os.getuid():
-                os.fchown(handle, pwd.getpwnam(user).pw_uid, grp.getgrnam(group or user).gr_gid)
-            os.fchmod(handle, mode)
-            os.fsync(handle)
-        os.rename(new, path)
-    except BaseException:
-        # It may have half a private key.
-        pathlib.Path(new).unlink(missing_ok=True)
-        raise
-    folder = os.open(path.parent, os.O_RDONLY | os.O_DIRECTORY)
-    os.fsync(folder)
-    os.close(folder)
+    files.put(path, text.encode(errors="surrogateescape"), mode, owner_of(user, group), f".{path.name}.")
+
+
+def owner_of(user, group):
+    """The numbers of a user and a group, if root asks."""
+    return None if os.getuid() else (pwd.getpwnam(user).pw_uid, grp.getgrnam(group or user).gr_gid)
 
 
 def put_database(user, path, make):
@@ -322,12 +318,11 @@ def put_database(user, path, make):
 
 
 def text_of(path):
-    """The text of a file; none if it isn't there, or is a link or too long. Nobody is waited for at the other end of a
-    pipe."""
+    """The text of a file; none if it isn't there, or is a link or too long."""
     try:
-        with open(os.open(path, os.O_RDONLY | os.O_NOFOLLOW | os.O_NONBLOCK), errors="surrogateescape") as it:
-            found = os.fstat(it.fileno())
-            return it.read() if stat.S_ISREG(found.st_mode) and found.st_size <= LONGEST_TEXT else ""
+        text = files.bytes_of(path, LONGEST_TEXT).decode(errors="surrogateescape")
+        # As Python reads a text from a file.
+        return text.replace("\r\n", "\n").replace("\r", "\n")
     except OSError:
         return ""
 
@@ -335,7 +330,7 @@ def text_of(path):
 def is_of(path, mode, user, group):
     """Whether a file has this mode and, if root asks, belongs to this user."""
     found = os.lstat(path)
-    owner = None if os.getuid() else (pwd.getpwnam(user).pw_uid, grp.getgrnam(group or user).gr_gid)
+    owner = owner_of(user, group)
     return stat.S_IMODE(found.st_mode) == mode and owner in (None, (found.st_uid, found.st_gid))
 
 
@@ -466,11 +461,6 @@ def fetch_list():
         time.sleep(2)
 
 
-def plain(text):
-    """A text without what steers a terminal: it may have come from a machine that was taken."""
-    return "".join(it if it.isprintable() or it in "\n\t" else "?" for it in text)
-
-
 def tell(text):
     """Tells people something beside the output."""
     print(plain(text), file=sys.stderr, flush=True)
@@ -479,9 +469,11 @@ def tell(text):
 def main(program, doc, options, do, is_for_root=True, passes_on=False):
     """Reads the words of a set-up command, and does it. It ends with 0 if all is done, with 1 if not, and with 2 for
     bad arguments. Options that it doesn't know are for another command, if it passes them on."""
-    usage, _, description = doc.strip().partition("\n\n")
+    shown, more = of_screen(doc.strip(), program)
+    usage, _, description = shown.partition("\n\n")
     parser = argparse.ArgumentParser(prog=program, usage=usage.removeprefix("usage: "), description=description,
-                                     formatter_class=argparse.RawDescriptionHelpFormatter, allow_abbrev=not passes_on)
+                                     epilog=more, formatter_class=argparse.RawDescriptionHelpFormatter,
+                                     allow_abbrev=not passes_on)
     options(parser)
     parser.add_argument("--yes", action="store_true", help="don't ask for confirmation")
     given, given.further = parser.parse_known_args()
