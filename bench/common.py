@@ -1,4 +1,5 @@
-"""For the scripts in this folder: a department, issues, new and filled offices, and a server that ends with its block."""
+"""For the scripts in this folder: a department, issues, new and filled offices, and a server that ends with its
+block."""
 import contextlib
 import hashlib
 import os
