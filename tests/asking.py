@@ -63,12 +63,14 @@ CA, OTHER_CA, KEY = key_line(0x11), key_line(0x12), key_line(0x22)
 # ---- certificates' bodies
 
 def body(serial=1, *, ca, key_id="web/alice", principals=("alice",), after=None, before=None, kind=1, options=(),
-         extensions=(), key=bytes([0x22]) * 32, nonce=bytes([0x33]) * 32, reserved=b""):
-    """A certificate's body as a CA signs it, by PROTOCOL.certkeys. An option is a name and a value."""
+         extensions=(), key=bytes([0x22]) * 32, nonce=bytes([0x33]) * 32, reserved=b"", type_name=CERTIFICATE_NAME):
+    """A certificate's body as a CA signs it, by PROTOCOL.certkeys. An option is a name and a value. A key is its only
+    string, or all its strings."""
     now = int(time.time())
     after, before = (now - 60 if after is None else after), (now + 3600 if before is None else before)
     return b"".join([
-        string(CERTIFICATE_NAME), string(nonce), string(key), serial.to_bytes(8, "big"),
+        string(type_name), string(nonce), *map(string, [key] if isinstance(key, bytes) else key),
+        serial.to_bytes(8, "big"),
         kind.to_bytes(4, "big"), string(key_id.encode()), string(b"".join(string(it.encode()) for it in principals)),
         after.to_bytes(8, "big"), before.to_bytes(8, "big"),
         string(b"".join(string(name.encode()) + string(string(value.encode()) if value else b"")
@@ -106,11 +108,23 @@ def line_of(word, some):
     return f"{word} {joined(some)}".rstrip(" ") + "\n"
 
 
-def department(name="web", *, kind="user", admins="ana", principals="alice", options=(), extensions=(), maxlife=86400,
-               namespaces=()):
+def department(name="web", *, kind="user", admins="ana", principals="alice", options=(), musts=(), extensions=(),
+               key_types=(), maxlife=86400, namespaces=()):
+    """The text of a department. What its certificates must have, and the types of their keys, have no lines if none are
+    given."""
     return (f"department {name}\nkind {kind}\n" + line_of("admins", admins) + line_of("principals", principals)
-            + line_of("options", options) + line_of("extensions", extensions) + f"maxlife {maxlife}\n"
-            + line_of("namespaces", namespaces))
+            + line_of("options", options) + "".join(f"must {it}\n" for it in musts)
+            + line_of("extensions", extensions) + (line_of("key-types", key_types) if key_types else "")
+            + f"maxlife {maxlife}\n" + line_of("namespaces", namespaces))
+
+
+# What a department may have beside its eight lines and its words, by what then stands in its text.
+ADDITIONS = {"own names": "{name}", "demands": "\nmust ", "key types": "\nkey-types "}
+
+
+def additions_in(text):
+    """Which of them are in the texts of departments."""
+    return [name for name, it in ADDITIONS.items() if it in text]
 
 
 def lasting(seconds, since=-60):

@@ -46,11 +46,6 @@ def lines_of(text):
     return [line for it in blocks(text) if it.kind == "sh" for line in it.lines]
 
 
-def transcript(text):
-    """The commands of the blocks that show what is printed."""
-    return [step for it in blocks(text) if it.kind == "console" for step in steps(it.lines)]
-
-
 def printed_after(script, log):
     """What stands in the log of a verbose shell behind each line of its script, up to the line where it ended."""
     found, lines, at = [], log.splitlines(keepends=True), 0

@@ -14,13 +14,13 @@ from running import run
 OWN_LINES = ("connection", "content-length", "transfer-encoding", "date", "server")
 
 
-def new_browser(folder, driver="/usr/bin/chromedriver"):
-    """Headless Chromium with a profile of its own in the folder, begun by this driver."""
+def new_browser(folder, driver="/usr/bin/chromedriver", words=()):
+    """Headless Chromium with a profile of its own in the folder, begun by this driver, with further words."""
     options = webdriver.ChromeOptions()
     options.binary_location = "/usr/bin/chromium"
     for word in ("--headless=new", "--no-sandbox", "--disable-gpu", "--disable-dev-shm-usage", "--no-first-run",
                  "--disable-background-networking", "--disable-component-update", "--hide-scrollbars",
-                 f"--user-data-dir={folder}/browser"):
+                 f"--user-data-dir={folder}/browser", *words):
         options.add_argument(word)
     options.set_capability("goog:loggingPrefs", {"browser": "ALL"})
     service = Service(str(driver), env=os.environ | {"HOME": str(folder), "LANG": "C.UTF-8"})
@@ -35,17 +35,21 @@ exec unshare --map-root-user --mount sh -c 'mount -t tmpfs none /etc/chromium &&
 """
 
 
-def new_browser_of_client(folder, front, name):
-    """Headless Chromium that has this client's certificate, and shows it to the front without asking anybody."""
+def trust(folder, authority):
+    """Has a browser with its profile in the folder trust this authority. Returns what it keeps its keys in."""
     keys = folder / ".pki/nssdb"
     keys.mkdir(parents=True)
-    packed = folder / f"{name}.p12"
-    for words in (["certutil", "-d", f"sql:{keys}", "-N", "--empty-password"],
-                  ["certutil", "-d", f"sql:{keys}", "-A", "-t", "C,,", "-n", "front", "-i", front.authority / "ca.crt"],
-                  ["openssl", "pkcs12", "-export", "-in", front.certificate(name), "-name", name, "-passout", "pass:",
-                   "-out", packed],
-                  ["pk12util", "-d", f"sql:{keys}", "-i", packed, "-W", ""]):
-        run(words, check=True)
+    run(["certutil", "-d", f"sql:{keys}", "-N", "--empty-password"], check=True)
+    run(["certutil", "-d", f"sql:{keys}", "-A", "-t", "C,,", "-n", "front", "-i", authority], check=True)
+    return f"sql:{keys}"
+
+
+def new_browser_of_client(folder, front, name):
+    """Headless Chromium that has this client's certificate, and shows it to the front without asking anybody."""
+    keys, packed = trust(folder, front.authority / "ca.crt"), folder / f"{name}.p12"
+    run(["openssl", "pkcs12", "-export", "-in", front.certificate(name), "-name", name, "-passout", "pass:", "-out",
+         packed], check=True)
+    run(["pk12util", "-d", keys, "-i", packed, "-W", ""], check=True)
     policy, driver = folder / "policy.json", folder / "driver"
     choice = json.dumps({"pattern": front.url, "filter": {}})
     policy.write_text(json.dumps({"AutoSelectCertificateForUrls": [choice]}))

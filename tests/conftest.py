@@ -32,7 +32,7 @@ def pytest_addoption(parser):
                          ("--trial", "trial"), ("--heads-tool", "heads_tool")):
         group.addoption(option, metavar="PATH", type=pathlib.Path, default=TOP / f"crates/{name}/out/{name}",
                         help=f"the {name} to test")
-    group.addoption("--steps", type=int, default=1000, help="how many random exchanges test_registers asks (1000)")
+    group.addoption("--steps", type=int, default=5000, help="how many random exchanges test_registers asks (5000)")
     group.addoption("--rounds", type=int, default=0,
                     help="how many faults test_three_machines has happen (0: left out)")
     group.addoption("--minutes", type=int, default=0,
@@ -41,6 +41,7 @@ def pytest_addoption(parser):
                     help="how many times as long as promised a takeover may take, beside other work (1)")
     group.addoption("--sites", type=int, default=1,
                     help="how many sets of machines have these faults side by side, each with 6 GB of memory (1)")
+    group.addoption("--fleet", type=int, default=5, help="how many machines test_fleet sets up (5)")
     group.addoption("--judgements", type=int, default=100_000,
                     help="how many random bodies test_guard has judged (100000)")
     group.addoption("--lists", type=int, default=600, help="how many random lists test_list_guard has judged (600)")
@@ -106,6 +107,15 @@ def pytest_unconfigure(config):
     print(f"{sum('rows' in it.keywords for it in passed)} worked rows")
     print(f"{len(left_out)} left out")
     print(f"{len(passed)} passed, {failed} failed", flush=True)
+
+
+@pytest.fixture(autouse=True)
+def kept_umask():
+    """Scripts that a test runs in its own process may change it, which the next test isn't to meet."""
+    before = os.umask(0o022)
+    os.umask(before)
+    yield
+    os.umask(before)
 
 
 def pytest_collection_modifyitems(config, items):

@@ -61,7 +61,8 @@ class Front:
                        ("server 127.0.0.1:8022 max_conns", f"server 127.0.0.1:{office_port} max_conns"),
                        ("listen 8443", f"listen {address}:{self.port}"), ("listen [::]:8443", by_ipv6),
                        ("/etc/vethlumi/front;", f"{self.conf};"),
-                       ("/usr/local/share/office/page", str(PROGRAMS / "front/page")), *edits)
+                       ("/usr/local/share/office/page", str(PROGRAMS / "front/page")),
+                       ("/usr/local/share/office/trail.js", str(PROGRAMS / "front/trail.js")), *edits)
         self.begin()
 
     def configure(self, *edits):
@@ -120,7 +121,7 @@ class Front:
 
     def connect_plainly(self, address="127.0.0.1"):
         """A connection before TLS."""
-        plain = socket.create_connection(("127.0.0.1", self.port), timeout=60, source_address=(address, 0))
+        plain = socket.create_connection((self.address, self.port), timeout=60, source_address=(address, 0))
         plain.setsockopt(socket.IPPROTO_TCP, socket.TCP_NODELAY, 1)
         return plain
 

@@ -2,7 +2,7 @@
 """Runs commands of vethlumi, the client, some side by side, each in a process of its own that has the modules already:
 to load them takes longer than most commands.
 
-    PYTHONPATH=programs/client tests/often.py SECONDS
+    PYTHONPATH=programs/client:programs/common tests/often.py SECONDS
 
 A line of standard input is a JSON list of commands, each with its words, environment and folder. It gets a line with a
 list: the status of each, the seconds that it took, and the bytes of memory that it used at most. Its output is in the

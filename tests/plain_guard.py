@@ -12,6 +12,7 @@ import base64
 import contextlib
 import functools
 import hashlib
+import ipaddress
 import os
 import pathlib
 import re
@@ -20,13 +21,13 @@ import sys
 import time
 from dataclasses import dataclass, field
 
-from plain_office import (EXTENSIONS, KEY_ID, MOST_MOMENT, MOST_SERIAL, NAME, NUMBER, OPTIONS, PRINCIPAL, RULE, meets,
-                          string)
+from plain_keys import BY_CERTIFICATE, COMMENT, TYPES, is_key, key_in
+from plain_office import (ADMINISTRATOR, EXTENSIONS, KEY_ID, MOST_MOMENT, MOST_SERIAL, NAME, NUMBER, OPTIONS, PRINCIPAL,
+                          RULE, meets, name_of, string)
 
 LONGEST_BODY = 16384
 MOST_BODIES = 64
 LONGEST_POLICY = 1 << 20
-COMMENT = r"[\t -~\x80-\xff]{0,1024}"
 
 
 # ---- values
@@ -131,13 +132,14 @@ def is_range(value):
 MOMENT, SERIAL = numbered(0, MOST_MOMENT), numbered(1, MOST_SERIAL)
 NAMED = r"(?:" + "|".join(OPTIONS) + ")"
 EXTENSION = r"(?:" + "|".join(EXTENSIONS) + ")"
+KEY_TYPE = r"(?:" + "|".join(map(re.escape, TYPES)) + ")"
 # The lines of each kind. Before the last line of an issue there may be options.
 KINDS = {
-    "department": {"department": like(NAME), "kind": like("user|host"), "admins": listed(NAME, 0, 16),
+    "department": {"department": like(NAME), "kind": like("user|host"), "admins": listed(ADMINISTRATOR, 0, 16),
                    "principals": listed(RULE, 1, 16), "options": listed(NAMED, 0, 3),
                    "extensions": listed(EXTENSION, 0, 6), "maxlife": numbered(1, MOST_MOMENT),
                    "namespaces": listed(r"[a-z0-9._@-]{1,32}", 0, 8)},
-    "issue": {"issue": like(NAME), "keyid": like(KEY_ID), "key": lambda it: it is not None and is_key_line(it),
+    "issue": {"issue": like(NAME), "keyid": like(KEY_ID), "key": lambda it: it is not None and key_in(it) is not None,
               "principals": listed(PRINCIPAL, 1, 16), "after": MOMENT, "before": MOMENT,
               "extensions": listed(EXTENSION, 0, 6)},
     "renew": {"renew": SERIAL, "after": MOMENT, "before": MOMENT},
@@ -148,6 +150,11 @@ KINDS = {
     "revoke-keyid": {"revoke-keyid": like(KEY_ID)},
     "rollover": {"rollover": lambda it: it is not None and is_key_line(it)},
 }
+
+
+# The lines that stand beside these, if at all: the options of an issue before its last line, what a department's
+# certificates must have after its options, and the types of their keys after its extensions.
+BESIDE = ("option", "must", "key-types")
 
 
 class BadLine(Exception):
@@ -165,13 +172,22 @@ def follows(lines, line):
     word, value = split(line)
     kind = lines[0][0] if lines else word
     wanted = [*KINDS.get(kind, {}).items()]
-    read = [it for it in lines if it[0] != "option"]
+    read = [it for it in lines if it[0] not in BESIDE]
     if len(read) >= len(wanted):
         return False
     if kind == "issue" and word == "option" and len(read) == 6:
         name, of = split(value) if value is not None else ("", None)
         return is_option_value(name, of) and name not in [split(it)[0] for it_word, it in lines if it_word == "option"]
+    if kind == "department" and word == "must" and len(read) == 5:
+        name, of = split(value) if value is not None else ("", None)
+        earlier = [split(it)[0] for it_word, it in lines if it_word == "must"]
+        return (("kind", "host") not in lines and name in OPTIONS and all(it < name for it in earlier)
+                and (of is None or bool(of) and is_option_value(name, of)))
+    if kind == "department" and word == "key-types" and len(read) == 6:
+        return "key-types" not in dict(lines) and listed(KEY_TYPE, 1, 7)(value)
     if kind == "department" and word in ("options", "extensions", "namespaces") and ("kind", "host") in lines:
+        return word == wanted[len(read)][0] and value is None
+    if kind == "department" and word == "namespaces" and "{name}" in (dict(lines).get("principals") or "").split(","):
         return word == wanted[len(read)][0] and value is None
     name, fits = wanted[len(read)]
     return word == name and bool(fits(value))
@@ -185,9 +201,17 @@ def read_message(text):
         if not follows(lines, line):
             raise BadLine(len(lines) + 1)
         lines.append(split(line))
-    if rest or not lines or len([it for it in lines if it[0] != "option"]) < len(KINDS[lines[0][0]]):
+    if rest or not lines or len([it for it in lines if it[0] not in BESIDE]) < len(KINDS[lines[0][0]]):
         raise BadLine(len(lines) + 1)
     return lines
+
+
+def is_met(name, wanted, value):
+    """Whether an option has the value that certificates must have: any, this one, or networks in these."""
+    if wanted is None or name != "source-address":
+        return wanted is None or value == wanted
+    return all(any(ipaddress.ip_network(own).subnet_of(ipaddress.ip_network(it)) for it in wanted.split(","))
+               for own in value.split(","))
 
 
 @dataclass
@@ -198,11 +222,17 @@ class Department:
     options: list
     extensions: list
     longest: int
+    # What certificates must have, by name, each with its value or with None.
+    demands: dict
+    key_types: list
 
     def permits(self, body):
-        return (all(any(meets(it, rule) for rule in self.rules) for it in body.principals)
-                and {*body.options} <= {*self.options} and {*body.extensions} <= {*self.extensions}
-                and 0 < body.before - body.after <= self.longest and not has_small_order(body.key))
+        return (all(any(meets(name_of(body.key_id), it, rule) for rule in self.rules) for it in body.principals)
+                and {*body.options} <= {*self.options, *self.demands} and {*body.extensions} <= {*self.extensions}
+                and all(name in body.options and is_met(name, wanted, body.options[name])
+                        for name, wanted in self.demands.items())
+                and 0 < body.before - body.after <= self.longest and body.key_type in self.key_types
+                and not has_small_order(body.key[0]))
 
 
 def read_policy(data):
@@ -214,7 +244,8 @@ def read_policy(data):
         if pieces[at] == b"" or pieces[at].startswith(b"#"):
             at += 1
             continue
-        text = b"\n".join(pieces[at:at + 8]) + b"\n" * (len(pieces) > at + 8)
+        end = next((it + 1 for it in range(at, len(pieces)) if pieces[it].startswith(b"namespaces")), len(pieces))
+        text = b"\n".join(pieces[at:end]) + b"\n" * (len(pieces) > end)
         try:
             said = dict(lines := read_message(text))
         except BadLine as bad:
@@ -223,8 +254,10 @@ def read_policy(data):
             raise Fault(f"BadPolicy {at + 1}")
         found[said["department"]] = Department(
             said["department"], {"user": 1, "host": 2}[said["kind"]], said["principals"].split(","),
-            (said["options"] or "").split(","), (said["extensions"] or "").split(","), int(said["maxlife"]))
-        at += 8
+            (said["options"] or "").split(","), (said["extensions"] or "").split(","), int(said["maxlife"]),
+            dict(split(value) for word, value in lines if word == "must"),
+            said.get("key-types", "ssh-ed25519").split(","))
+        at = end
     return found
 
 
@@ -260,15 +293,16 @@ def all_or(is_right, fault):
 
 @dataclass
 class Body:
-    key: bytes
+    key_type: str
+    key: list
     serial: int
     kind: int
     key_id: str
     principals: list
     after: int
     before: int
-    options: list
-    extensions: list
+    options: dict
+    extensions: dict
     ca: bytes
 
 
@@ -280,8 +314,8 @@ def strings_of(data, fault):
 
 
 def options_of(data, kind, known, fault):
-    """The names of a field of critical options or of extensions."""
-    reader, found = Reader(data, fault), []
+    """The options of a field of critical options or of extensions, by name, each with its value or with None."""
+    reader, found = Reader(data, fault), {}
     all_or(kind == 1 or not data, fault)
     while reader.data:
         name, value = reader.string().decode("latin-1"), None
@@ -289,9 +323,9 @@ def options_of(data, kind, known, fault):
         if inner.data:
             value = inner.string().decode("latin-1")
             all_or(not inner.data, fault)
-        all_or(name in known and (not found or found[-1] < name), fault)
+        all_or(name in known and all(it < name for it in found), fault)
         all_or(is_option_value(name, value) if known is OPTIONS else value is None, fault)
-        found.append(name)
+        found[name] = value
     return found
 
 
@@ -299,10 +333,11 @@ def read_body(data):
     """The fields of a body of the profile."""
     all_or(len(data) <= LONGEST_BODY, "TooLong")
     reader = Reader(data, "Truncated")
-    all_or(reader.string() == b"ssh-ed25519-cert-v01@openssh.com", "WrongType")
+    key_type = BY_CERTIFICATE.get(reader.string().decode("latin-1"))
+    all_or(key_type, "WrongType")
     all_or(len(reader.string()) == 32, "BadNonce")
-    key = reader.string()
-    all_or(len(key) == 32, "BadKey")
+    key = [reader.string() for _ in TYPES[key_type]]
+    all_or(is_key(key_type, key), "BadKey")
     serial = reader.number(8)
     all_or(1 <= serial <= MOST_SERIAL, "BadSerial")
     kind = reader.number(4)
@@ -320,7 +355,7 @@ def read_body(data):
     ca = reader.string()
     all_or(is_key_blob(ca), "BadCa")
     all_or(not reader.data, "TrailingBytes")
-    return Body(key, serial, kind, key_id, principals, after, before, options, extensions, ca)
+    return Body(key_type, key, serial, kind, key_id, principals, after, before, options, extensions, ca)
 
 
 # ---- the guard

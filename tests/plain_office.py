@@ -4,9 +4,12 @@ It keeps nothing in a file and knows no fault. So it says what is due to a progr
 """
 import base64
 import hashlib
+import ipaddress
 import re
 import struct
 from dataclasses import dataclass, field
+
+from plain_keys import TYPES, certificate_name, key_in
 
 MOST_MOMENT = 253402300799
 MOST_SERIAL = 9223372036854775806
@@ -22,10 +25,11 @@ PHRASES = {200: "OK", 400: "Bad Request", 403: "Forbidden", 404: "Not Found", 40
 
 NAME = r"[a-z0-9-]{1,32}"
 PRINCIPAL = r"[a-z0-9._@-]{1,64}"
-RULE = rf"(?:\*[a-z0-9._@-]{{1,63}}|{PRINCIPAL})"
+RULE = rf"(?:\*[a-z0-9._@-]{{1,63}}|\{{name\}}(?:[.@][a-z0-9._@-]{{1,62}})?|{PRINCIPAL})"
+ADMINISTRATOR = rf"(?:[a-z0-9-]{{0,31}}\{{name\}}|{NAME})"
 KEY_ID = rf"{NAME}/[!-~]{{1,64}}"
 NUMBER = r"(?:0|[1-9][0-9]{0,18})"
-KEY_LINE = r"ssh-ed25519 (?:[A-Za-z0-9+/]{68})(?: [\t -~\x80-\xff]{0,1024})?"
+CA_LINE = r"ssh-ed25519 (?:[A-Za-z0-9+/]{68})(?: [\t -~\x80-\xff]{0,1024})?"
 OPTIONS = ("force-command", "source-address", "verify-required")
 EXTENSIONS = ("no-touch-required", "permit-X11-forwarding", "permit-agent-forwarding", "permit-port-forwarding",
               "permit-pty", "permit-user-rc")
@@ -45,17 +49,18 @@ def listed(of):
 
 # Each kind of message: the groups of its lines are what the message says.
 TEXTS = {
-    "department": rf"department ({NAME})\nkind (user|host)\nadmins{listed(NAME)}\nprincipals ({RULE}(?:,{RULE})*)\n"
-                  rf"options{listed(OPTION)}\nextensions{listed(EXTENSION)}\nmaxlife ({NUMBER})\n"
-                  rf"namespaces{listed('[a-z0-9._@-]{1,32}')}\n",
-    "issue": rf"issue ({NAME})\nkeyid ({KEY_ID})\nkey ({KEY_LINE})\nprincipals ({PRINCIPAL}(?:,{PRINCIPAL})*)\n"
+    "department": rf"department ({NAME})\nkind (user|host)\nadmins{listed(ADMINISTRATOR)}\n"
+                  rf"principals ({RULE}(?:,{RULE})*)\noptions{listed(OPTION)}\n((?:must [^\n]*\n)*)"
+                  rf"extensions{listed(EXTENSION)}\n(?:key-types ([^\n]*)\n)?"
+                  rf"maxlife ({NUMBER})\nnamespaces{listed('[a-z0-9._@-]{1,32}')}\n",
+    "issue": rf"issue ({NAME})\nkeyid ({KEY_ID})\nkey ([^\n]*)\nprincipals ({PRINCIPAL}(?:,{PRINCIPAL})*)\n"
              rf"after ({NUMBER})\nbefore ({NUMBER})\n((?:option [^\n]*\n)*)extensions{listed(EXTENSION)}\n",
     "renew": rf"renew ({NUMBER})\nafter ({NUMBER})\nbefore ({NUMBER})\n",
     "deliver": rf"deliver ({NUMBER})\ndigest ([0-9a-f]{{64}})\nsignature ([A-Za-z0-9+/]{{111}}=)\n",
     "revoke-serial": rf"revoke-serial ({NUMBER})\n",
     "revoke-range": rf"revoke-range ({NUMBER}) ({NUMBER})\n",
     "revoke-keyid": rf"revoke-keyid ({KEY_ID})\n",
-    "rollover": rf"rollover ({KEY_LINE})\n",
+    "rollover": rf"rollover ({CA_LINE})\n",
 }
 
 
@@ -78,14 +83,24 @@ def elements(text):
 
 
 def key_of(line):
-    """The key blob of a key line."""
+    """The key blob of a CA's key line."""
     blob = base64.b64decode(line.split(" ")[1])
     if len(blob) != 51 or not blob.startswith(string("ssh-ed25519") + struct.pack(">I", 32)):
         raise Refused(7)
     return blob
 
 
-def meets(principal, rule):
+def name_of(key_id):
+    """The name in a key ID: what is between its first / and the next, or its end."""
+    return key_id.split("/")[1]
+
+
+def meets(name, principal, rule):
+    """Whether a principal of a certificate meets a rule, if its key ID has this name."""
+    if rule == "{name}":
+        return principal == name != "root"
+    if rule.startswith("{name}"):
+        return principal == name + rule.partition("}")[2]
     if rule.startswith("*"):
         return principal.endswith(rule[1:]) and len(principal) > len(rule) - 1
     return principal == rule
@@ -101,6 +116,24 @@ def all_or_bad(is_right):
         raise Refused(7)
 
 
+def networks_in(value):
+    """The networks of an option's value."""
+    all_or_bad(all(re.fullmatch(r"(?:(?:0|[1-9][0-9]*)[./]){4}(?:0|[1-9][0-9]*)", it) for it in value.split(",")))
+    try:
+        found = [ipaddress.ip_network(it) for it in value.split(",")]
+    except ValueError:
+        raise Refused(7) from None
+    all_or_bad(len(found) <= 8)
+    return found
+
+
+def has_valid(name, value):
+    """Whether an option may have a value: a command or networks."""
+    if name == "force-command":
+        return re.fullmatch(r"[ -~]{1,200}", value) is not None
+    return name == "source-address" and networks_in(value) != []
+
+
 def read_options(lines):
     """The critical options of an issue's lines."""
     pairs = []
@@ -110,11 +143,39 @@ def read_options(lines):
             all_or_bad(line == "option verify-required")
             pairs.append((name, None))
         else:
-            # The exchanges here have no other option with a value.
-            all_or_bad(name == "force-command" and re.fullmatch(r"[ -~]{1,200}", value))
+            all_or_bad(has_valid(name, value))
             pairs.append((name, value))
     all_or_bad(len(pairs) <= 3 and len({name for name, _ in pairs}) == len(pairs))
     return pairs
+
+
+def read_demands(lines):
+    """What certificates must have, by the lines of a department: each option with its value, or with None."""
+    demands = []
+    for line in lines.splitlines():
+        name, space, value = line.removeprefix("must ").partition(" ")
+        all_or_bad(name in OPTIONS and all(it < name for it, _ in demands))
+        all_or_bad(not space or has_valid(name, value))
+        demands.append((name, value if space else None))
+    return demands
+
+
+def read_key_types(value):
+    """The key types that a department lists; Ed25519 alone without a list."""
+    types = ["ssh-ed25519"] if value is None else value.split(",")
+    all_or_bad(set(types) <= set(TYPES) and len(set(types)) == len(types))
+    return types
+
+
+def is_met(demand, options):
+    """Whether one of the options is what a certificate must have."""
+    name, wanted = demand
+    values = dict(options)
+    if name not in values or wanted is None:
+        return name in values
+    if name == "source-address":
+        return all(any(own.subnet_of(it) for it in networks_in(wanted)) for own in networks_in(values[name]))
+    return values[name] == wanted
 
 
 def read(text):
@@ -139,19 +200,31 @@ class Department:
     extensions: list
     longest: int
     namespaces: list
+    demands: list
+    key_types: list
+    # As they stand in the text.
+    must_lines: str
+    key_types_line: str
 
     def text(self):
         """The text of the message that puts it."""
         return (f"department {self.name}\nkind {self.kind}\n" + line_of("admins", self.admins)
-                + line_of("principals", self.rules) + line_of("options", self.options)
-                + line_of("extensions", self.extensions) + f"maxlife {self.longest}\n"
+                + line_of("principals", self.rules) + line_of("options", self.options) + self.must_lines
+                + line_of("extensions", self.extensions) + self.key_types_line + f"maxlife {self.longest}\n"
                 + line_of("namespaces", self.namespaces))
 
-    def permits(self, asked, after, before):
-        return (all(any(meets(it, rule) for rule in self.rules) for it in asked.principals)
-                and all(name in self.options for name, _ in asked.options)
+    def means(self, caller, key_id):
+        """Whether the caller is one that the department means by the name in this key ID."""
+        return any(caller == word.replace("{name}", name_of(key_id)) for word in self.admins if "{name}" in word)
+
+    def permits(self, asked, after, before, by_name):
+        """Whether the department permits a certificate, for a caller who may ask only by his name or for another."""
+        rules = [it for it in self.rules if "{name}" in it or not by_name]
+        return (all(any(meets(name_of(asked.key_id), it, rule) for rule in rules) for it in asked.principals)
+                and all(name in self.options + [it for it, _ in self.demands] for name, _ in asked.options)
+                and all(is_met(it, asked.options) for it in self.demands)
                 and all(name in self.extensions for name in asked.extensions)
-                and 0 < before - after <= self.longest)
+                and 0 < before - after <= self.longest and asked.key[0] in self.key_types)
 
 
 @dataclass
@@ -159,7 +232,7 @@ class Asked:
     """What an issue asks for, and what a renewal asks for again."""
     department: str
     key_id: str
-    key: bytes
+    key: tuple
     principals: list
     options: list
     extensions: list
@@ -235,14 +308,20 @@ class PlainOffice:
     def administers(self, caller, name):
         return caller == self.root or name in self.departments and caller in self.departments[name].admins
 
-    def do_department(self, name, kind, admins, rules, options, extensions, longest, namespaces):
+    def may_ask(self, caller, name, key_id):
+        return self.administers(caller, name) or (
+            name in self.departments and self.departments[name].means(caller, key_id))
+
+    def do_department(self, name, kind, admins, rules, options, musts, extensions, types, longest, namespaces):
         made = Department(name, kind, elements(admins), elements(rules), elements(options), elements(extensions),
-                          int(longest), elements(namespaces))
+                          int(longest), elements(namespaces), read_demands(musts), read_key_types(types), musts,
+                          "" if types is None else f"key-types {types}\n")
         for some, most in ((made.admins, 16), (made.rules, 16), (made.options, 3), (made.extensions, 6),
                            (made.namespaces, 8)):
             all_or_bad(len(set(some)) == len(some) <= most)
         all_or_bad(1 <= made.longest <= MOST_MOMENT)
-        all_or_bad(kind == "user" or not made.options + made.extensions + made.namespaces)
+        all_or_bad(kind == "user" or not made.options + made.extensions + made.namespaces + made.demands)
+        all_or_bad("{name}" not in made.rules or not made.namespaces)
 
         def done(caller, moment, nonce):
             refuse({10: caller != self.root, 12: name in self.departments and self.departments[name].kind != kind})
@@ -252,7 +331,8 @@ class PlainOffice:
         return done
 
     def do_issue(self, department, key_id, key, principals, after, before, options, extensions):
-        asked = Asked(department, key_id, key_of(key)[19:], elements(principals), read_options(options),
+        all_or_bad(key_in(key))
+        asked = Asked(department, key_id, key_in(key), elements(principals), read_options(options),
                       elements(extensions))
         after, before = int(after), int(before)
         all_or_bad(max(after, before) <= MOST_MOMENT)
@@ -261,9 +341,10 @@ class PlainOffice:
 
         def done(caller, moment, nonce):
             profile = self.departments.get(department)
-            refuse({10: not self.administers(caller, department), 11: profile is None,
+            refuse({10: not self.may_ask(caller, department, key_id), 11: profile is None,
                     13: key_id.partition("/")[0] != department,
-                    14: profile is not None and not profile.permits(asked, after, before), 15: before <= moment,
+                    14: profile is not None and not profile.permits(
+                        asked, after, before, not self.administers(caller, department)), 15: before <= moment,
                     16: key_id in self.key_ids, 22: self.next() > self.last})
             return self.certify(asked, profile.kind, after, before, nonce)
 
@@ -278,8 +359,9 @@ class PlainOffice:
             if old is None:
                 raise Refused(17 if caller == self.root else 10)
             asked = old.asked
-            refuse({10: not self.administers(caller, asked.department),
-                    14: not self.departments[asked.department].permits(asked, after, before), 15: before <= moment,
+            refuse({10: not self.may_ask(caller, asked.department, asked.key_id),
+                    14: not self.departments[asked.department].permits(
+                        asked, after, before, not self.administers(caller, asked.department)), 15: before <= moment,
                     16: asked.key_id in self.key_ids, 19: self.is_revoked(serial), 21: old.signature is None,
                     22: self.next() > self.last})
             return self.certify(asked, old.kind, after, before, nonce)
@@ -308,7 +390,8 @@ class PlainOffice:
         def done(caller, moment, nonce):
             certificate = self.certificates.get(serial)
             refuse({10: caller != self.root and not (
-                certificate and self.administers(caller, certificate.asked.department)), 17: certificate is None})
+                certificate and self.may_ask(caller, certificate.asked.department, certificate.asked.key_id)),
+                    17: certificate is None})
             return self.revoke(moment, {serial}, set())
 
         return done
@@ -355,7 +438,7 @@ class PlainOffice:
     def certify(self, asked, kind, after, before, nonce):
         serial = self.next()
         body = b"".join([
-            string("ssh-ed25519-cert-v01@openssh.com"), string(nonce), string(asked.key), u64(serial),
+            string(certificate_name(asked.key[0])), string(nonce), *map(string, asked.key[1]), u64(serial),
             struct.pack(">I", 1 if kind == "user" else 2), string(asked.key_id),
             string(b"".join(map(string, asked.principals))), u64(after), u64(before),
             string(options_field(asked.options)), string(options_field((name, None) for name in asked.extensions)),
@@ -390,7 +473,7 @@ class PlainOffice:
         refuse({21: certificate.signature is None})
         blob = string("ssh-ed25519") + string(certificate.signature)
         line = base64.b64encode(certificate.body + string(blob)).decode()
-        return f"ssh-ed25519-cert-v01@openssh.com {line} {certificate.asked.key_id}\n", True
+        return f"{certificate_name(certificate.asked.key[0])} {line} {certificate.asked.key_id}\n", True
 
     def waiting(self):
         """The certificates that wait for a signature."""
@@ -402,7 +485,7 @@ class PlainOffice:
 
     def signers(self):
         return "".join(
-            f'{",".join(it.rules)} cert-authority,namespaces="{",".join(it.namespaces)}" '
+            f'{",".join(it.rules).replace("{name}", "*")} cert-authority,namespaces="{",".join(it.namespaces)}" '
             f"ssh-ed25519 {base64.b64encode(ca).decode()}\n"
             for _, it in sorted(self.departments.items()) if it.namespaces for ca, _ in self.cas)
 
@@ -447,11 +530,15 @@ class PlainOffice:
         def joined(some):
             return ",".join(some)
 
+        def behind(some, lines):
+            return "\n".join([some, *lines.splitlines()])
+
         return {
             "office": [[1, 2, hexed(self.ca), self.root, self.station, self.first, self.last, self.next(),
                         self.version, self.date]],
             "department": [[it.name, 1 if it.kind == "user" else 2, joined(it.admins), joined(it.rules),
-                            joined(it.options), joined(it.extensions), it.longest, joined(it.namespaces)]
+                            behind(joined(it.options), it.must_lines), behind(joined(it.extensions), it.key_types_line),
+                            it.longest, joined(it.namespaces)]
                            for _, it in sorted(self.departments.items())],
             "cert": [[serial, it.asked.department, it.asked.key_id, hexed(it.body), hexed(it.signature)]
                      for serial, it in self.certificates.items()],

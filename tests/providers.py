@@ -14,6 +14,7 @@ import subprocess
 import sys
 import threading
 import time
+import urllib.parse
 
 import requests
 from jwcrypto import jwk, jws
@@ -22,9 +23,10 @@ from waitress import wasyncore
 from asking import department, key_blob, key_line
 from plain_office import PlainOffice
 from recording import whole_request
-from running import PROGRAMS, end, run, until
+from running import PROGRAMS, end, free_port, run, until
+from stations import new_station
 
-sys.path[:0] = [str(PROGRAMS / it) for it in ("registrar", "client")]
+sys.path[:0] = [str(PROGRAMS / it) for it in ("registrar", "client", "common", "signon")]
 from vethlumi_registrar import logins, service  # noqa: E402
 from vethlumi_registrar.settings import read_settings  # noqa: E402
 CLIENT_ID = "vethlumi"
@@ -118,6 +120,32 @@ class Provider(http.server.ThreadingHTTPServer):
         self.server_close()
 
 
+class Cloud(Provider):
+    """The issuer of a cloud's machines, which gives each a token for any audience at /identity, as a metadata server
+    does. `given` has these audiences."""
+    SUBJECT = "107517467455664443765"
+
+    def __init__(self):
+        super().__init__(new_key("c1", "RSA"))
+        self.given, self.before = [], self.identity
+
+    def instance(self, audience, **more):
+        """The token of a machine for an audience."""
+        now = int(time.time())
+        return signed({"aud": audience, "azp": self.SUBJECT, "email": "1@developer.gserviceaccount.com",
+                       "email_verified": True, "exp": now + 3600, "iat": now, "iss": self.issuer, "sub": self.SUBJECT,
+                       "google": {"compute_engine": {"instance_id": "1529", "instance_name": "web"}}} | more,
+                      self.keys[0], typ="JWT")
+
+    def identity(self, handler):
+        path, _, query = handler.path.partition("?")
+        if not path.endswith("/identity"):
+            return False
+        self.given.append(dict(urllib.parse.parse_qsl(query))["audience"])
+        handler.say(self.instance(self.given[-1]).encode())
+        return True
+
+
 class Pages(http.server.BaseHTTPRequestHandler):
     def do_GET(self):
         self.server.asked.append(self.path)
@@ -154,14 +182,15 @@ def tag(issuer, subject):
     text = f"printf '%s\\n%s' '{issuer}' '{subject}' | sha256sum | cut -c1-20 | xxd -r -p | base32 | tr A-Z a-z"
     return run(["sh", "-c", text], check=True).stdout.decode().strip()
 
+
 class StandIn(socketserver.ThreadingTCPServer):
     """An office in Python that answers over HTTP, and a station that signs at once with `signs`, or by sign(). `answer`
     takes the place of all its answers."""
     allow_reuse_address = daemon_threads = True
     request_queue_size = 1024
 
-    def __init__(self, *departments, signs=True):
-        self.office, self.lock, self.signs = PlainOffice(key_blob(0x11)), threading.Lock(), signs
+    def __init__(self, *departments, signs=True, ca=key_blob(0x11)):
+        self.office, self.lock, self.signs = PlainOffice(ca), threading.Lock(), signs
         self.answer, self.requests = None, []
         for number, text in enumerate(departments):
             self.office.settle("root", f"department-{number}", text.encode(), 0, b"")
@@ -185,7 +214,10 @@ class StandIn(socketserver.ThreadingTCPServer):
     def sign(self):
         """Signs what is pending. Nobody verifies the signatures."""
         for _, it in self.office.waiting():
-            it.signature = os.urandom(64)
+            it.signature = self.signature_of(it.body)
+
+    def signature_of(self, _):
+        return os.urandom(64)
 
     def messages(self):
         """The texts of the issues that came, in order, with their request IDs."""
@@ -205,41 +237,68 @@ class StandIn(socketserver.ThreadingTCPServer):
 
 # ---- a registrar
 
-SETTINGS = """\
-office = "{office}"
-caller = "registrar"
-wait = {wait}
-{more}
+# Tables of settings, of a registrar or a witness. A witness also needs to know where the keys are.
+CORP = """\
 [provider.corp]
 issuer = "{issuer}"
 client_id = "vethlumi"
 algorithms = ["ES256"]
 name = "preferred_username"
 groups = "groups"
-
+"""
+OF_PEOPLE = """
 [department.people]
 provider = "corp"
 life = "10h"
 principals = ["{{name}}"]
 groups = {{ ops = "ops@group", dba = ["dba@group", "postgres"] }}
 extensions = ["permit-pty"]
+"""
 
+
+def jobs_of(workloads):
+    """The department of jobs, whose tokens come from these workloads."""
+    return f"""
+[department.jobs]
+workloads = "{workloads}"
+life = "1h"
+principals = ["{{{{name}}}}@jobs"]
+"""
+
+
+def machines_of_cloud(name, life, host="web.example.org"):
+    """The department of this name for a machine that brings tokens of a cloud."""
+    return f"""
+[workloads.cloud]
+issuer = "{{issuer}}"
+algorithms = ["RS256"]
+names = {{{{ "{Cloud.SUBJECT}" = "{host}" }}}}
+
+[department.{name}]
+workloads = "cloud"
+life = "{life}"
+principals = ["{{{{name}}}}"]
+"""
+
+
+LOGINS = CORP + OF_PEOPLE + """
 [department.operators]
 provider = "corp"
 life = "1h"
 need = ["ops"]
 groups = {{ ops = "root@operators" }}
-
+"""
+SETTINGS = """\
+office = "{office}"
+caller = "registrar"
+wait = {wait}
+{more}
+""" + LOGINS + """
 [workloads.cluster]
 issuer = "{issuer}"
 algorithms = ["ES256"]
 names = {{ "job:site" = "site", "job:backup" = "backup" }}
-
-[department.jobs]
-workloads = "cluster"
-life = "1h"
-principals = ["{{name}}@jobs"]
-
+""" + jobs_of("cluster") + """
 [workloads.ci]
 issuer = "{issuer}"
 algorithms = ["ES256"]
@@ -307,6 +366,27 @@ class Registrar:
         return [json.loads(it) for it in self.journal.read_text().splitlines()]
 
 
+def registrar_behind(front, sshstation, room, issuer, tables, departments, witness=""):
+    """A registrar between a front and its office, with these tables of settings, and a station, whose witness has some
+    of its own. `post` asks the front, as clients do."""
+    if not front.certificate("registrar").exists():
+        front.make("caller", "registrar")
+    for text in departments:
+        assert 200 == front.session("root").post(f"{front.url}/v1/requests/{text.split()[1]}", data=text).status_code
+    port, trusted, certificate = free_port(), front.authority / "ca.crt", front.certificate("registrar")
+    front.configure(("unix:/run/vethlumi-registrar.sock", f"127.0.0.1:{port}"))
+    front.reload()
+    head = f'office = "{front.url}"\ncertificate = "{certificate}"\ncacert = "{trusted}"\n\n'
+    made = Registrar(room, front.url, issuer, text=head + tables, port=port)
+    made.url, made.trusted, made.front = front.url, str(trusted), front
+    made.station = new_station(sshstation, front.office, front.url, policy="".join(departments), trusted=trusted,
+                               certificate=front.certificate("station"))
+    if witness:
+        (room / "witness.toml").write_text(witness.format(issuer=issuer))
+        made.station.words += ["--witness", "witness.toml"]
+    return made
+
+
 class Inside(Registrar):
     """A registrar in threads of the test, which begins at once."""
 
@@ -320,8 +400,9 @@ class Inside(Registrar):
         self.thread.start()
 
     def end(self):
-        # In the thread that looks after the sockets.
-        self.server.trigger.pull_trigger(lambda: wasyncore.close_all(self.server._map))
+        # In the thread that looks after the sockets. If that is awake, it has closed what would have woken it.
+        with contextlib.suppress(OSError):
+            self.server.trigger.pull_trigger(lambda: wasyncore.close_all(self.server._map))
         self.thread.join(60)
         self.server.task_dispatcher.shutdown(timeout=10)
         self.file.close()

@@ -20,7 +20,7 @@ Options:
 END
 """
 # What ./package takes from the repository.
-SOURCES = ("package", "debian", "programs", "tools/sbom", "crates.txt", "docs")
+SOURCES = ("package", "debian", "programs", "examples", "tools/sbom", "crates.txt", "docs")
 
 
 def stand_ins(folder):

@@ -19,6 +19,8 @@ from asking import Response, answers, exchanges_of, get, post, write_exchanges
 
 TOP = pathlib.Path(__file__).resolve().parent.parent
 EXAMPLES, PROGRAMS, ROWS = TOP / "examples", TOP / "programs", TOP / "tests/rows"
+# Where Python finds the client in a clone.
+CLIENT = f"{PROGRAMS}/client:{PROGRAMS}/common"
 
 
 def command(name):
@@ -137,10 +139,11 @@ def sql(file, *texts):
     return (out + err).decode().rstrip("\n")
 
 
-def new_key(file, comment=None):
-    """Has ssh-keygen make an Ed25519 key in this file, whose name is the comment, and returns the public line."""
-    words = ["-C", pathlib.Path(file).name if comment is None else comment, "-f", file]
-    run(["ssh-keygen", "-q", "-t", "ed25519", "-N", "", *words], check=True)
+def new_key(file, comment=None, kind="ed25519", *more, **how):
+    """Has ssh-keygen make a key in this file, of this kind and with more words of ssh-keygen, and returns the public
+    line. The comment is the file's name, unless another is given."""
+    words = ["-t", kind, *more, "-C", pathlib.Path(file).name if comment is None else comment, "-f", file]
+    run(["ssh-keygen", "-q", "-N", "", *words], check=True, **how)
     return pathlib.Path(f"{file}.pub").read_text().rstrip("\n")
 
 

@@ -18,9 +18,8 @@ from cryptography.hazmat.primitives.asymmetric import padding, rsa
 
 from fetching import response
 from recording import Recorder, whole_request
-from running import PROGRAMS, new_key, run
+from running import CLIENT, new_key, run
 
-CLIENT = PROGRAMS / "client"
 # A key of RSA takes long to make, and no test needs a second one.
 KEY = rsa.generate_private_key(65537, 2048)
 
@@ -213,7 +212,7 @@ class Person:
     def environment(self, **more):
         kept = {name: value for name, value in os.environ.items()
                 if not name.startswith(("VETHLUMI", "XDG", "SSH_", "DISPLAY", "WAYLAND"))}
-        return kept | {"HOME": str(self.home), "PYTHONPATH": str(CLIENT), "COLUMNS": "100", "BROWSER":
+        return kept | {"HOME": str(self.home), "PYTHONPATH": CLIENT, "COLUMNS": "100", "BROWSER":
                        f"{self.browser} %s", "SSH_AUTH_SOCK": str(self.agent.socket),
                        "XDG_RUNTIME_DIR": str(self.runtime)} | more
 

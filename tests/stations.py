@@ -1,4 +1,5 @@
 """The signing station of programs/station/station, with the guard beside its key."""
+import contextlib
 import importlib
 import os
 import pathlib
@@ -21,8 +22,8 @@ WIDE = department(principals="alice,bob,lost,*@example.org", options=EVERY_OPTIO
 
 def part(name):
     """A module of the station, such as `journal`."""
-    if str(PROGRAMS / "station") not in sys.path:
-        sys.path.append(str(PROGRAMS / "station"))
+    sys.path += [it for it in (str(PROGRAMS / name) for name in ("station", "common", "signon", "client"))
+                 if it not in sys.path]
     return importlib.import_module(f"vethlumi_station.{name}")
 
 
@@ -121,21 +122,26 @@ class Station:
         """Has it run a copy of its modules, in which another text stands in the place of one that stands there once."""
         if not self.copy:
             self.copy = pathlib.Path(tempfile.mkdtemp(dir=self.folder))
-            shutil.copytree(PROGRAMS / "station", self.copy, dirs_exist_ok=True)
+            for it in ("station", "common"):
+                shutil.copytree(PROGRAMS / it, self.copy, dirs_exist_ok=True)
+            # Another station of the same guard may have been changed before.
+            for it in ("client", "signon"):
+                if not (self.folder / it).exists():
+                    (self.folder / it).symlink_to(PROGRAMS / it)
             self.words[self.words.index(PROGRAMS / "station/station")] = self.copy / "station"
         texts = {it: it.read_text() for it in self.copy.rglob("*.py")}
         [file] = [it for it, text in texts.items() if old in text]
         assert 1 == texts[file].count(old)
         file.write_text(texts[file].replace(old, new))
 
-    def notes_the_end_of_a_guard(self):
-        """Has the status of a guard that has ended in the file `ended`. A shell would let signals through that its
-        caller has blocked."""
+    def notes_the_end_of_a_guard(self, before="pass"):
+        """Has the status of each guard that has ended in the file `ended`. A line of Python runs before it. A shell
+        would let signals through that its caller has blocked."""
         self.ended, program = self.folder / "ended", self.folder / "sshstation"
         program.unlink()
-        program.write_text(f"#!/usr/bin/python3 -I\nimport subprocess, sys\n"
+        program.write_text(f"#!/usr/bin/python3 -I\nimport subprocess, sys\n{before}\n"
                            f"status = subprocess.call(['{self.guard.program}', *sys.argv[1:]], close_fds=False)\n"
-                           f"open('{self.ended}', 'w').write(f'{{status}}')\nsys.exit(status)\n")
+                           f"print(status, file=open('{self.ended}', 'a'))\nsys.exit(status)\n")
         program.chmod(0o755)
 
     def runs_in_place_of(self, name, text):
@@ -177,6 +183,11 @@ def begin_agent(programs, address):
     return asks_it
 
 
+def children(pid):
+    """The processes that a station has begun, but for those of its threads."""
+    return [int(it) for it in pathlib.Path(f"/proc/{pid}/task/{pid}/children").read_text().split()]
+
+
 def stopped(process, lines=0):
     """Stops a station once it has put out so many more lines, and returns its status, and the lines of its output and
     of its errors. An office has a signature a moment before the station says so."""
@@ -189,6 +200,18 @@ def stopped(process, lines=0):
     signed = [it.removeprefix("signed ") for it in out if it.startswith("signed ")]
     needless = [f"station: the signature of {it} may have been sent, and the station ends" for it in signed]
     return process.returncode, out, [it for it in errors.decode().splitlines() if it not in needless]
+
+
+@contextlib.contextmanager
+def locked(path):
+    """Keeps a guard's file locked as another guard of it would, and gives what the station says of that."""
+    hold = ("import fcntl, sys\nfile = open(sys.argv[1], 'r+')\nfcntl.lockf(file, fcntl.LOCK_EX, 512, 1 << 30)\n"
+            "print('locked', flush=True)\nsys.stdin.read()\n")
+    with subprocess.Popen([sys.executable, "-c", hold, path], stdin=subprocess.PIPE, stdout=subprocess.PIPE) as process:
+        assert b"locked\n" == process.stdout.readline()
+        name = pathlib.Path(f"/proc/{process.pid}/comm").read_text().strip()
+        yield f"{path} is locked by {name}, process {process.pid}: only one program at a time can use it"
+        process.stdin.close()
 
 
 def new_guard(sshstation, office, db="guard.db", policy=WIDE, **serials):

@@ -14,7 +14,7 @@ import time
 import pytest
 
 from asking import department
-from running import PROGRAMS, run
+from running import PROGRAMS, run, until
 
 AUTHORITY = PROGRAMS / "front/authority"
 # Run by this interpreter: another python3 on the PATH may take longer to begin than the script's own work.
@@ -136,13 +136,20 @@ def test_no_other_user_can_keep_a_command_waiting(folder):
     assert 0o600 == (folder / ".lock").stat().st_mode & 0o777
 
 
+def waits_for_a_lock(process):
+    """Whether the system has a process wait for a lock (proc(5), /proc/locks)."""
+    return re.search(rf"^\d+: -> FLOCK +ADVISORY +WRITE {process.pid} ", pathlib.Path("/proc/locks").read_text(), re.M)
+
+
 def test_a_command_waits_for_whoever_has_the_folder(folder, programs):
-    holder = programs.begin(["flock", folder / ".lock", "sh", "-c", "echo held; exec sleep 1.5"],
+    holder = programs.begin(["flock", folder / ".lock", "sh", "-c", "echo held; exec cat"], stdin=subprocess.PIPE,
                             stdout=subprocess.PIPE)
     assert b"held\n" == holder.stdout.readline()
-    begun = time.monotonic()
-    must("caller", folder, "bob")
-    assert time.monotonic() - begun > 1.2
+    command = programs.begin([*RUN, "caller", folder, "bob"], stdout=subprocess.PIPE)
+    until(lambda: waits_for_a_lock(command) or command.poll() is not None)
+    assert command.poll() is None and not (folder / ".making").exists()
+    holder.stdin.close()
+    assert 0 == command.wait(60) and f"{folder}/bob.pem\n" == command.stdout.read().decode()
 
 
 # ---- kills

@@ -378,10 +378,12 @@ def test_a_kill_at_any_moment_leaves_the_old_or_the_new(web, names, room):
 
 # ---- what is named
 
-def test_fingerprints_in_a_file(web, names, room):
-    """As ssh-keygen prints them, or alone, with comments and ends of other systems."""
+@pytest.mark.parametrize("end", ["\r\n", "\n", ""], ids=["of another system", "a line feed", "none"])
+def test_fingerprints_in_a_file(web, names, room, end):
+    """As ssh-keygen prints them, or alone, with comments and ends of other systems. An editor may leave the last line
+    without an end."""
     printed = run(["ssh-keygen", "-l", "-f", "-"], input=f"{A} the first CA\n".encode(), stdin=None).stdout.decode()
-    (room / "named").write_text(f"# our CAs\n\n{printed}{names[B]} the second\r\n")
+    (room / "named").write_text(f"# our CAs\n\n{printed}{names[B]} the second{end}")
     web.answer = response(body(A, B))
     assert (0, "", []) == script("fetch-ca-keys", "--named", "named", web.url, "keys")
     assert text(A, B) == of()

@@ -241,10 +241,11 @@ def test_what_no_office_answers_keeps_the_message(room, answer, why):
 @pytest.mark.parametrize("line, why", [
     (lambda room: certificate(room, 2), "serial 1 is not for alice.pub"),
     (lambda room: certificate(room, 1, "bob"), "serial 1 is not for alice.pub"),
-    (lambda room: certificate(room)[:-1] + b"\x1b[2J\n", "what came as serial 1 is no certificate"),
-    (lambda room: 2 * certificate(room), "what came as serial 1 is no certificate"),
-    (lambda room: certificate(room) + b"\0", "what came as serial 1 is no certificate"),
-    (lambda room: HTML, "what came as serial 1 is no certificate"), (lambda room: b"", "what came as serial 1 is no"),
+    (lambda room: certificate(room)[:-1] + b"\x1b[2J\n", "the answer for serial 1 isn't a certificate"),
+    (lambda room: 2 * certificate(room), "the answer for serial 1 isn't a certificate"),
+    (lambda room: certificate(room) + b"\0", "the answer for serial 1 isn't a certificate"),
+    (lambda room: HTML, "the answer for serial 1 isn't a certificate"),
+    (lambda room: b"", "the answer for serial 1 isn't"),
 ], ids=["serial", "key", "escape", "two", "zero", "HTML", "empty"])
 def test_another_certificate_is_not_taken(room, line, why):
     line = line(room)

@@ -1,4 +1,6 @@
 """What each of the two programs is built of, by `crates.txt`: the guard trusts nothing of the office."""
+import os
+import pathlib
 import re
 
 import pytest
@@ -29,10 +31,16 @@ def below(name):
 def test_a_program_stands_on_nothing_of_the_other(program, others):
     assert {*others} <= {*STANDS_ON}
     assert not below(program) & {*others}
-    assert {"text", "values", "message", "krl", "store_sql", "files", "command_line"} <= below(program)
+    assert {"text", "values", "message", "krl", "store_sql", "files", "system", "command_line"} <= below(program)
 
 
 @pytest.mark.parametrize("name", STANDS_ON)
 def test_crates_stand_in_the_order_of_the_list(name):
     places = [*STANDS_ON]
     assert all(places.index(it) < places.index(name) for it in below(name))
+
+
+def test_no_file_of_the_repository_is_a_link():
+    """The gate refuses one before it proves anything."""
+    found = [pathlib.Path(folder, it) for folder, folders, names in os.walk(TOP) for it in (*folders, *names)]
+    assert [] == [it for it in found if it.is_symlink() and not {".git", "out"} & {*it.parts}]

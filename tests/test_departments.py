@@ -392,8 +392,8 @@ def test_an_office_that_is_down_is_started_before_it_is_asked(room, monkeypatch,
             kept.enter_context(opened(UnixDoor(str(room / "door")))).root_puts(B)
 
         def units(steps, *names):
-            if not (room / "door").exists():
-                steps.add(f"start {names[0]}", start)
+            if names == ("office",) and not (room / "door").exists():
+                steps.add("start office", start)
         monkeypatch.setattr(set_up.script.setting_up.Steps, "units", units)
         told = set_up(A)
         first, _, second = told.partition("  start office\n")
@@ -436,6 +436,11 @@ LIMITS = [
     ("principals", "", False), ("principals", "*", False), ("principals", "*a", True),
     ("principals", 64 * "a", True), ("principals", 65 * "a", False), ("principals", "*" + 63 * "a", True),
     ("principals", "*" + 64 * "a", False), ("principals", "a*", False), ("principals", "a\u0430", False),
+    ("principals", "{name}", True), ("principals", "{name}.", False), ("principals", "{name}@a", True),
+    ("principals", "{name}." + 62 * "a", True), ("principals", "{name}." + 63 * "a", False),
+    ("principals", "{name}a", False), ("principals", "a{name}", False), ("admins", "{name}", True),
+    ("admins", "host-{name}", True), ("admins", 31 * "a" + "{name}", True), ("admins", 32 * "a" + "{name}", False),
+    ("admins", "{name}a", False), ("admins", "{name},{name}", False),
     ("principals", ",".join(map(str, range(16))), True), ("principals", ",".join(map(str, range(17))), False),
     ("options", "force-command,source-address,verify-required", True), ("options", "force-commands", False),
     ("extensions", "permit-X11-forwarding,permit-agent-forwarding,permit-port-forwarding,permit-pty,permit-user-rc,"
@@ -459,7 +464,8 @@ def test_random_policies_have_the_bad_lines_that_the_guard_of_python_finds():
     """But for texts of other messages, of which the line is told that should be the department's, and the second text
     of a name, which may come with the policy of another key."""
     policies, lines, some = loaded(TOP / "programs/setup/policies.py"), (A + HOSTS).splitlines(True), random.Random(8)
-    odd = ["\n", "# a comment\n", "kind user\n", "maxlife 0\n", "options \n", "namespaces file", "admins a,b\n", " \n"]
+    odd = ["\n", "# a comment\n", "kind user\n", "maxlife 0\n", "options \n", "namespaces file", "admins a,b\n", " \n",
+           "principals alice,{name}\n", "admins host-{name}\n", "namespaces git\n"]
     bad = 0
     for _ in range(3000):
         text = [*lines]
@@ -505,6 +511,14 @@ def test_the_client_shows_the_departments_of_the_office(root):
     assert (2, "", "vethlumi: the office has no department zoe\n") == root("department", "show", "zoe")
 
 
+def objections(text):
+    """Why a department wouldn't permit a certificate of `alice@people` whose key ID is `people/alice/laptop`."""
+    formats = loaded(TOP / "programs/client/vethlumi/formats.py")
+    certificate = argparse.Namespace(kind="user", key_id="people/alice/laptop", principals=["alice@people"], options=[],
+                                     extensions=[], after=1, before=2)
+    return formats.departments(text)["people"].objections(certificate)
+
+
 def test_the_client_compares_a_policy_with_the_office(room, root):
     assert "no file: name one, or set `policy` in the settings" in root("department", "diff")[2]
     (room / "policy").write_text(f"# people\n{A}\n{HOSTS}")
@@ -515,6 +529,10 @@ def test_the_client_compares_a_policy_with_the_office(room, root):
     assert 0 == status and {"-principals alice", "+principals alice,bob"} < {*out.splitlines()}
     assert "the office has the department db-example-org, which wider doesn't name" in out.splitlines()
     assert "db-example-org" not in root("department", "diff", "wider", "people")[1]
+    # What isn't permitted any more is told, and a rule with {name} permits the name in the key ID alone.
+    assert ["principal alice@people"] == objections(department("people", principals="{name}@other"))
+    assert [] == objections(department("people", principals="{name}@people"))
+    assert ["principal alice@people"] == objections(department("people", principals="{name}"))
     # Two files, without an office.
     status, out, _ = root("--office", "http://127.0.0.1:1", "department", "show", "--policy", "wider")
     assert (0, B) == (status, out)
@@ -527,10 +545,27 @@ def test_the_client_sends_what_differs_from_the_office(room, port, root):
     assert (0, "no difference\n", "") == root("department", "put", "policy")
     status, out, told = root("department", "put", "wider")
     assert (2, True) == (status, "+principals alice,bob" in out.splitlines()), told
-    assert "Send 1 department to the office? Nobody can be asked here" in told and [] == port.sent()
+    assert "Send 1 department to the office? Not a terminal." in told and [] == port.sent()
     for name, due in (("wider", B), ("policy", A), ("wider", B), ("policy", A)):
         assert 0 == root("department", "put", name, "people", "--yes")[0]
         assert [HOSTS, due] == port.office.texts()
+
+
+TYPES = ("sk-ssh-ed25519@openssh.com", "ssh-ed25519", "sk-ecdsa-sha2-nistp256@openssh.com", "ssh-rsa")
+
+
+@pytest.mark.parametrize("demands, types, due", [
+    (["verify-required"], None, "ssh-ed25519"), (["verify-required"], TYPES, "ssh-ed25519, ssh-rsa"),
+    (["verify-required"], TYPES[::2], None), ([], None, None), ([], TYPES, None), (["force-command"], TYPES, None),
+    (["force-command /bin/true", "verify-required"], TYPES[1:2], "ssh-ed25519")], ids=range(7))
+@pytest.mark.parametrize("words", [["diff"], ["put"], ["put", "--yes"]], ids=" ".join)
+def test_a_demand_that_sshd_ignores_is_told(room, root, words, demands, types, due):
+    """sshd asks for a PIN by security keys alone. It is a warning: what was typed is done."""
+    (room / "policy").write_text(department(principals="alice", musts=demands, key_types=types or ()))
+    told = root("department", words[0], "policy", *words[1:])[2]
+    line = (f"warning: the department web demands verify-required, and permits {due}: sshd looks at it for security "
+            "keys alone (sk-). Leave the others out of `key-types`\n")
+    assert (bool(due), due is None) == (line in told, "warning" not in told), told
 
 
 def test_an_office_or_a_front_of_an_earlier_version_is_told(room, port, root):
@@ -552,7 +587,7 @@ def test_what_are_no_departments_is_no_answer(port, root, text):
     data = text.encode()
     port.spoil = lambda *_: b"HTTP/1.1 200 OK\r\ncontent-length: %d\r\n\r\n" % len(data) + data
     status, out, told = root("--wait", "1", "department", "show")
-    assert (3, "", True) == (status, out, "no answer: /v1/departments: what came is no page" in told), told
+    assert (3, "", True) == (status, out, "no answer: /v1/departments: unexpected answer from the office" in told), told
 
 
 def test_what_a_false_office_says_of_departments_steers_no_terminal(port, root):

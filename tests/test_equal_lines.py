@@ -1,10 +1,12 @@
-"""What two crates have alike stands once: tools/equal-lines finds runs of lines that stand in both."""
+"""What two crates have alike stands once: tools/equal-lines finds runs of lines that stand in both. And what two
+programs of Python have alike is in vethlumi_common."""
+import ast
 import re
 import shutil
 
 import pytest
 
-from running import TOP, run
+from running import PROGRAMS, TOP, run
 
 pytestmark = pytest.mark.early
 TOOL = "tools/equal-lines"
@@ -66,3 +68,62 @@ def test_where_lines_are_looked_for(found, place, status):
 @pytest.mark.parametrize("words", [["one"], ["guard_sql", "nothing"], ["--lines", "0"]])
 def test_words_that_name_no_two_crates(words):
     assert 2 == run([TOP / TOOL, *words]).returncode
+
+
+# ---- functions of the programs in Python
+
+# How many equal lines are too many.
+LEAST = 6
+
+
+def outermost(tree):
+    """The functions of a tree that are within no other."""
+    for it in ast.iter_child_nodes(tree):
+        yield from [it] if isinstance(it, ast.FunctionDef) else outermost(it)
+
+
+def functions(texts):
+    """The lines of each function that is in these texts, by its place: those that do something."""
+    found = {}
+    for name, text in texts.items():
+        lines = text.splitlines()
+        for it in outermost(ast.parse(text)):
+            body = it.body[1:] if ast.get_docstring(it, False) is not None else it.body
+            own = [line.strip() for line in lines[body[0].lineno - 1:it.end_lineno]] if body else []
+            found[f"{name}:{it.lineno} {it.name}"] = [line for line in own if line and not line.startswith("#")]
+    return found
+
+
+def twice(texts):
+    """The functions that share a run of LEAST lines, by the run."""
+    found = {}
+    for name, lines in functions(texts).items():
+        for at in range(len(lines) - LEAST + 1):
+            found.setdefault(tuple(lines[at:at + LEAST]), {})[name] = None
+    return {run: [*names] for run, names in found.items() if len(names) > 1}
+
+
+def python_of(folder):
+    return {str(it.relative_to(folder)): it.read_text() for it in sorted(folder.rglob("*"))
+             if it.is_file() and (it.suffix == ".py" or it.read_bytes().startswith(b"#!/usr/bin/python3"))}
+
+
+def test_no_function_of_the_programs_stands_twice():
+    texts = python_of(PROGRAMS)
+    assert {"common/vethlumi_common/files.py", "server/fetch-list", "station/vethlumi_station/rounds.py",
+            "client/vethlumi/office.py", "setup/vethlumi-install", "front/authority"} <= {*texts}
+    assert {} == twice(texts)
+
+
+BODY = "".join(f"    step({it})\n" for it in range(LEAST))
+
+
+@pytest.mark.parametrize("one, other, is_found", [
+    (f"def one():\n{BODY}", f"def other():\n    '''It says more.'''\n    # And more.\n\n{BODY}", True),
+    (f"def one():\n{BODY}    last()\n", f"class Other:\n  def other(self):\n    first()\n{BODY}", True),
+    (f"def one():\n{BODY}", "def other():\n" + BODY.partition("\n")[2], False),
+    (f"def one():\n{BODY}", "def other():\n" + BODY.replace("step(3)", "step(7)"), False),
+    (f"if one:\n{BODY}", f"if other:\n{BODY}", False), (f"def one():\n{BODY}\ndef two():\n{BODY}", "", True),
+])
+def test_which_functions_are_alike(one, other, is_found):
+    assert is_found == bool(twice({"one": one, "other": other}))

@@ -443,6 +443,16 @@ def test_a_statement_of_the_future_in_place_is_not_fresh(fetch, room):
     assert 1 == metrics()["office_list_fresh"]
 
 
+@pytest.mark.parametrize("ahead, is_taken", [(240, True), (360, False)])
+def test_force_takes_no_statement_of_the_future(fetch, room, ahead, is_taken):
+    """Else a server that somebody has forced refuses every later list, until that moment comes."""
+    assert (0, "") == fetch(fetch.signer.published(LIST))
+    status, said = fetch(fetch.signer.published(NEWER, moment=int(time.time()) + ahead), "list", "--forced")
+    assert (0 if is_taken else 1, is_taken) == (status, said == "")
+    assert said.startswith("" if is_taken else "refused as TooFarAhead: ")
+    assert (NEWER if is_taken else LIST) == (room / "list").read_bytes()
+
+
 def test_a_front_that_gives_nothing_is_seen_within_the_hour(fetch, web, room):
     signer, now = fetch.signer, int(time.time())
     assert (0, "") == fetch(signer.published(LIST, moment=now), "list", "--metrics", "metrics")
@@ -689,10 +699,12 @@ def test_root_runs_as_the_user_whose_folder_it_is(web, signer):
     lock there once."""
     web.answer = response(signer.published(LIST))
     with folder_of_nobody() as folder:
-        for it in (PROGRAMS / "server/fetch-list", signer.allowed):
-            shutil.copy(it, folder)
+        for it in ("server", "common"):
+            shutil.copytree(PROGRAMS / it, f"{folder}/programs/{it}")
+        shutil.copy(signer.allowed, folder)
         pathlib.Path(folder, ".list.lock").touch(0o600)
-        words = [f"{folder}/fetch-list", "--signers", f"{folder}/{signer.allowed.name}", web.url, f"{folder}/list"]
+        words = [f"{folder}/programs/server/fetch-list", "--signers", f"{folder}/{signer.allowed.name}", web.url,
+                 f"{folder}/list"]
         for before in ((), ("runuser", "-u", "nobody", "--")):
             done = run([*before, *words])
             assert (0, b"") == (done.returncode, done.stderr)

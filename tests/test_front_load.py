@@ -133,6 +133,21 @@ def test_who_has_a_slow_limit(make_front, recorder):
             "registrar": [200] * 8} == found
 
 
+@pytest.mark.parametrize("path, zone, at_once", [("/v1/settings", "sign_on", 2000), ("/v1/login", "logins", 400)])
+def test_how_often_a_stranger_asks_the_registrar(make_front, recorder, path, zone, at_once):
+    """Of an address so many at once, and then some a second: here none, so that it doesn't matter how long this takes.
+    There is no registrar, and the front says so."""
+    rate = {"sign_on": "50r/s", "logins": "5r/s"}[zone]
+    front = make_front(recorder.port, edits=[(f"zone={zone}:10m rate={rate}", f"zone={zone}:10m rate=1r/m"), (
+        "server unix:/run/vethlumi-registrar.sock max_conns=64;", f"server unix:/nonexistent/registrar.sock max_conns=64;")])
+    request = posting(path) if path == "/v1/login" else getting(path)
+    found = side_by_side([lambda: statuses_on_one(front, request, 100, None)] * (at_once // 100), 4)
+    more = statuses_on_one(front, request, 100, None)
+    assert [[502] * 100] * (at_once // 100) == found
+    # nginx counts what comes in addition to the first one, and a minute or two may be over.
+    assert {429, 502} >= {*more} and 1 <= more.count(502) <= 10, more
+
+
 def test_what_a_slow_limit_refuses_uses_up_no_other(make_front, recorder):
     """A client that goes on asking meets the limit alone: once the minute is over it is answered at once."""
     front = make_front(recorder.port, edits=[("zone=slow_hosts:4m rate=1r/m", "zone=slow_hosts:4m rate=60r/m"),
@@ -503,6 +518,25 @@ def test_logs_are_rotated_and_no_line_is_lost(make_front, recorder, room):
     assert "turn-2" in files["asked.log.1"].read_text()
     assert b"turn-1" in run(["gzip", "-dc", files["asked.log.2.gz"]], check=True).stdout
     assert b"turn-0" in run(["gzip", "-dc", files["asked.log.3.gz"]], check=True).stdout
+
+
+@pytest.mark.root
+@pytest.mark.parametrize("days, kilobytes, is_rotated", [
+    (2, 1, True), (0, 1, False), (0, 104_000, False), (0, 105_000, True)])
+def test_a_log_is_rotated_each_day_and_when_it_is_large(room, days, kilobytes, is_rotated):
+    """As logrotate runs by its timer, so many days after it has rotated last. A log has addresses of clients."""
+    user = pwd.getpwuid(os.getuid()).pw_name
+    state = room / "state"
+    state.mkdir()
+    (state / "asked.log").touch()
+    os.truncate(state / "asked.log", 1000 * kilobytes)
+    text = (PROGRAMS / "front/logrotate").read_text().replace("/var/lib/office-front", str(state))
+    (room / "logrotate").write_text(text.replace("su office-front office-front", f"su {user} {user}")
+                                    .replace("=office-front", f"={user}"))
+    last = time.strftime("%Y-%-m-%-d-%-H:%-M:%-S", time.localtime(time.time() - 86400 * days))
+    (room / "done").write_text(f'logrotate state -- version 2\n"{state}/asked.log" {last}\n')
+    run(["logrotate", "--state", room / "done", room / "logrotate"], check=True)
+    assert ["asked.log.1" if is_rotated else "asked.log"] == [it.name for it in state.iterdir()]
 
 
 @pytest.mark.root

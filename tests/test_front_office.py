@@ -13,7 +13,7 @@ import pytest
 from asking import department, issue, lasting
 from fronts import Front
 from recording import getting, posting, statuses, whole_request
-from running import EXAMPLES, PROGRAMS, Programs, free_port, is_listening, left_out, new_key, rest, run, until
+from running import CLIENT, EXAMPLES, Programs, free_port, is_listening, left_out, new_key, rest, run, until
 from stations import new_station
 
 pytestmark = [pytest.mark.front, pytest.mark.xdist_group("front_office")]
@@ -178,7 +178,7 @@ def test_a_server_gets_its_certificate_and_renews_it_with_what_the_front_gives_i
     new_key("host")
     client = ["/usr/bin/python3", "-B", "-m", "vethlumi", "--office", front.url, "--certificate",
               front.certificate("host-web"), "--cacert", front.authority / "ca.crt", "--wait", "90s"]
-    environment = os.environ | {"PYTHONPATH": str(PROGRAMS / "client"), "HOME": str(room)}
+    environment = os.environ | {"PYTHONPATH": CLIENT, "HOME": str(room)}
     new = ["request", "web/web.example.org", "host.pub", "--principals", "web.example.org", "--life", "30d",
            "--extensions", ""]
     for serial, words in ((1, new), (2, ["renew", "host-cert.pub"])):

@@ -4,8 +4,9 @@ histories of bodies, under policies and moments that change.
 A history is some hundred bodies in calls, each with a policy, a moment and a limit for what lies ahead. Many bodies
 come again, many have the serial of another one, some are spoiled, and some were approved by an earlier version of the
 guard, which permitted every key. A history that fails is made shorter, and is printed with its seed.
-`--judgements=1000000` asks more than the hundred thousand of the check.
+`--judgements=1000000` asks more than the hundred thousand of the check, and so does bench/histories.
 """
+import collections
 import contextlib
 import os
 import random
@@ -16,10 +17,12 @@ from dataclasses import dataclass, replace
 import pytest
 
 import plain_guard
-from asking import (LAST_SERIAL, LATEST, PRIME, SMALL_ORDER_KEYS, batch, body, department, digest_of, encoded, key_blob,
-                    key_line)
+from asking import (ADDITIONS, LAST_SERIAL, LATEST, PRIME, SMALL_ORDER_KEYS, additions_in, batch, body, department,
+                    digest_of, encoded, key_blob, key_line)
 from running import preloaded, run
 from stations import EVERY_EXTENSION, Guard
+from subject_keys import CERTIFICATES, MISCOUNTED, MORE, NO_KEYS, SK_ED25519
+from subject_keys import KEYS as TYPES
 
 CA = key_blob(0x11)
 # Other CAs, two of which differ in a byte alone.
@@ -93,10 +96,18 @@ class History:
 
 # Keys of small order, and some that are next to one.
 KEYS = [*SMALL_ORDER_KEYS, *(encoded(y, sign) for y in (2, PRIME - 2, PRIME + 2, 2 ** 255 - 1) for sign in (0, 1))]
-PRINCIPALS = ["alice", "bob", "x@example.org", "@example.org", "a.example.org", "alic", "alicee"]
-RULES = ["alice", "bob", "*@example.org", "*.example.org", "*lice"]
+# Keys of the seven types, of small order in security keys, and what is none, each with the name of its certificates.
+OF_TYPES = [{"type_name": CERTIFICATES[kind].encode(), "key": key} for kind, key in [
+    *TYPES.items(), *MORE, *((SK_ED25519, [it, b"ssh:"]) for it in SMALL_ORDER_KEYS[:3])]]
+OF_NONE = [{"type_name": CERTIFICATES[kind].encode(), "key": key} for kind, key in NO_KEYS + MISCOUNTED]
+PRINCIPALS = ["alice", "bob", "x@example.org", "@example.org", "a.example.org", "alic", "alicee", "a", "root"]
+NAME_RULES = ["{name}", "{name}@example.org", "{name}.example.org"]
+RULES = ["alice", "bob", "*@example.org", "*.example.org", "*lice", *NAME_RULES]
+# What follows the department in key IDs.
+NAMES = ["a", "a/laptop", "b/c", "~!", "alice", "x/alice", "root"]
 VALUES = {"force-command": ["/bin/true", " ", "x" * 200], "verify-required": [None],
-          "source-address": ["10.0.0.0/8", "192.0.2.7/32,0.0.0.0/0", ",".join(f"10.{it}.0.0/16" for it in range(8))]}
+          "source-address": ["10.0.0.0/8", "10.1.0.0/16", "192.0.2.7/32,0.0.0.0/0",
+                             ",".join(f"10.{it}.0.0/16" for it in range(8))]}
 # Values that no option may have, and names of none.
 BAD_OPTIONS = [("force-command", None), ("force-command", "x" * 201), ("force-command", "a\tb"),
                ("verify-required", "x"), ("source-address", "10.0.0.1/8"), ("source-address", "10.0.0.0/33"),
@@ -108,14 +119,28 @@ def some_of(source, population, least=0, most=3):
     return source.sample(population, min(source.randint(least, most), len(population)))
 
 
+def any_musts(source):
+    """What certificates must have, mostly nothing."""
+    names = sorted(some_of(source, [*VALUES], 1, 2)) if source.random() < 0.2 else []
+    return [f"{name} {source.choice(VALUES[name])}" if None not in VALUES[name] and source.random() < 0.5 else name
+            for name in names]
+
+
+def any_key_types(source):
+    """The key types that a department lists, mostly none."""
+    return source.sample([*CERTIFICATES], source.randint(1, 4)) if source.random() < 0.2 else ()
+
+
 def any_department(source, name):
     is_user = source.random() < 0.8
     if is_user and source.random() < 0.6:
-        return department(name, principals=RULES[:4], options=[*VALUES], extensions=EVERY_EXTENSION,
+        return department(name, principals=source.choice([RULES[:4], RULES[:4], NAME_RULES]), options=[*VALUES],
+                          musts=any_musts(source), extensions=EVERY_EXTENSION, key_types=any_key_types(source),
                           maxlife=source.choice([1000, LATEST]))
     return department(
         name, kind="user" if is_user else "host", admins=some_of(source, ["ana", "bob"]),
         principals=some_of(source, RULES, 1, 4), options=some_of(source, [*VALUES]) if is_user else (),
+        musts=any_musts(source) if is_user else (), key_types=any_key_types(source),
         extensions=some_of(source, EVERY_EXTENSION, 0, 6) if is_user else (),
         maxlife=source.choice([100, 1000, 3600, LATEST]))
 
@@ -129,6 +154,8 @@ def any_policy(source):
 PIECES = ["renew 1\nafter 1\nbefore 2\n", "revoke-range 2 1\n", f"rollover {key_line(0x11)} a comment\n", "issue web\n",
           f"issue web\nkeyid web/a\nkey {key_line(0x22)}\nprincipals a\nafter 1\nbefore 2\noption verify-required\n"
           "option source-address 10.0.0.0/8\nextensions permit-pty\n", "kind user\n", "kind host\n", "options \n",
+          "must verify-required\n", "must force-command\n", "must source-address 10.0.0.0/8\n", "must force-command \n",
+          "key-types ssh-rsa,ssh-ed25519\n", "key-types ssh-dss\n", "namespaces\n",
           "admins ana,ana\n", "principals\n", "principals *\n", "maxlife 0\n", "maxlife 01\n", "namespaces a,b\n",
           "extensions permit-pty,permit-pty\n", " # indented\n", "\r\n", "department A\n", "#", "x"]
 
@@ -175,6 +202,12 @@ def test_both_read_the_same_policies(request, sshstation, room):
     assert 200 < count < 1800
 
 
+def any_key(source):
+    """Mostly the usual key, or one that is nearly of small order, or one of any type."""
+    chance = source.random()
+    return {"key": source.choice(KEYS)} if chance < 0.15 else source.choice(OF_TYPES) if chance < 0.25 else {}
+
+
 def any_fields(source, serials):
     """The fields of a body of the profile."""
     kind = 1 if source.random() < 0.85 else 2
@@ -182,12 +215,12 @@ def any_fields(source, serials):
     options = [(name, source.choice(VALUES[name])) for name in sorted(some_of(source, [*VALUES]))] if kind == 1 else []
     return {
         "serial": source.choice(serials), "ca": CA if source.random() < 0.95 else source.choice(OTHERS), "kind": kind,
-        "key_id": source.choice(["web", "web", "db", "web2", "a", "b"]) + "/" + source.choice(["a", "b/c", "~!"]),
+        "key_id": source.choice(["web", "web", "db", "web2", "a", "b"]) + "/" + source.choice(NAMES),
         "principals": some_of(source, PRINCIPALS[:3] if source.random() < 0.8 else PRINCIPALS, 1, 2), "after": after,
         "before": after + source.choice([1, 50, 100, 101, 1000, 3600, 3601, 10 ** 6]),
         "options": options if source.random() < 0.5 else [],
         "extensions": sorted(some_of(source, EVERY_EXTENSION, 0, 3)) if kind == 1 and source.random() < 0.6 else [],
-        "nonce": bytes([source.randrange(3)]) * 32, **({"key": source.choice(KEYS)} if source.random() < 0.15 else {})}
+        "nonce": bytes([source.randrange(3)]) * 32, **any_key(source)}
 
 
 def spoiled(source, fields):
@@ -196,13 +229,16 @@ def spoiled(source, fields):
         "serial": [0, LAST_SERIAL + 1, LAST_SERIAL, 2 ** 64 - 1], "kind": [0, 3], "before": [0, LATEST + 1, LATEST],
         "key_id": ["web", "web/", "/a", "Web/a", "web/" + "x" * 65, "web/a b", "w" * 33 + "/a"],
         "principals": [[], ["alice", "alice"], ["a b"], [""], ["x" * 65], [f"p{it}" for it in range(17)], ["Alice"]],
-        "nonce": [bytes(31), b""], "key": [bytes(33)], "reserved": [b"x"],
+        "nonce": [bytes(31), b""], "key": [bytes(33), *(it["key"] for it in OF_NONE)], "reserved": [b"x"],
+        "type_name": [*(it.encode() for it in CERTIFICATES.values()), b"ssh-dss-cert-v01@openssh.com", b""],
         "ca": [b"", CA[:-1], CA + b"\0", CA.replace(b"519", b"518")],
         "options": [[it] for it in BAD_OPTIONS] + [[("verify-required", None)] * 2,
                                                    [("verify-required", None), ("force-command", "a")]],
         "extensions": [["permit-pty", "permit-X11-forwarding"], ["permit-pty"] * 2, ["force-command"], ["permit-x11"]]}
     for name in some_of(source, [*others], 0, 2):
         fields = fields | {name: source.choice(others[name])}
+    if source.random() < 0.2:
+        fields |= source.choice(OF_NONE)
     text = bytearray(body(**fields))
     match source.randrange(6):
         case 0:
@@ -330,6 +366,12 @@ def described(history, given):
             yield f"{history.bodies[place].hex()}\n  due {wanted}\n  got {got}"
 
 
+def additions_of(history):
+    """How many bodies are judged by a policy that has each of the additions."""
+    return collections.Counter(name for it in history.calls for name in additions_in(history.policies[it.policy])
+                               for _ in it.bodies)
+
+
 # What each of the answers begins with that a history may get.
 KINDS = {"sign", "refuse OtherCa", "refuse OtherSerial", "refuse SerialTaken", "refuse NoDepartment",
          "refuse OtherKind", "refuse NotPermitted", "refuse AlreadyEnded", "refuse TooFarAhead",
@@ -342,7 +384,7 @@ KINDS = {"sign", "refuse OtherCa", "refuse OtherSerial", "refuse SerialTaken", "
 @pytest.mark.timeout(36000)
 def test_the_program_answers_as_the_guard_in_python_does(request, sshstation, room):
     seed = int(request.config.option.hypothesis_seed)
-    given, seen, count = Given(sshstation, room), set(), 0
+    given, seen, count, additions = Given(sshstation, room), set(), 0, collections.Counter()
     while count < request.config.getoption("--judgements"):
         history = any_history(random.Random(f"{seed} {count}"))
         wanted, kept = due(history)
@@ -353,6 +395,9 @@ def test_the_program_answers_as_the_guard_in_python_does(request, sshstation, ro
         assert kept == rows, "what is kept"
         seen |= {" ".join(it.split()[:1] if it.startswith("sign ") else it.split()) for it in wanted}
         count += len(lines)
-    print(f"figure: {count} judgements, 0 differences")
+        additions += additions_of(history)
+    print(f"figure: {count} judgements, by policies with "
+          f"{', '.join(f'{name} {some}' for name, some in sorted(additions.items()))}")
     assert seen <= KINDS
     assert seen == KINDS or count < 50_000, "each kind of answer was due"
+    assert {*ADDITIONS} == {*additions} or count < 5_000, "each addition was there"

@@ -140,8 +140,8 @@ TAKEN = [
 
 
 @pytest.mark.parametrize(("name", "command", "helped", "written"), STATED)
-def test_help_and_formats_state_the_same_number(request, name, command, helped, written):
-    text = run([request.getfixturevalue(name), command, "--help"]).stdout.decode()
+def test_help_and_formats_state_the_same_number(program, sshstation, name, command, helped, written):
+    text = run([{"program": program, "sshstation": sshstation}[name], command, "--help"]).stdout.decode()
     numbers = re.findall(helped, text), re.findall(written, (TOP / "docs/FORMATS.md").read_text())
     assert ([numbers[0][0]], [numbers[1][0]]) == numbers
     assert numbers[0] == numbers[1]

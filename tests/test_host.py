@@ -9,7 +9,7 @@ import time
 import pytest
 
 from asking import department
-from running import PROGRAMS, left_out, loaded, run, until
+from running import CLIENT, PROGRAMS, left_out, loaded, run, until
 
 HOST = PROGRAMS / "server/vethlumi-host"
 SETTINGS = "KEYID=db/db.example.org\nPRINCIPALS=db.example.org\nLIFE={life}\nKEY={key}\n"
@@ -54,7 +54,7 @@ class Host:
 
 # ---- with an office and its station
 
-CLIENT = f'#!/bin/sh\nPYTHONPATH={PROGRAMS}/client exec /usr/bin/python3 -B -m vethlumi "$@"\n'
+AS_A_CLIENT = f'#!/bin/sh\nPYTHONPATH={CLIENT} exec /usr/bin/python3 -B -m vethlumi "$@"\n'
 
 
 @pytest.fixture
@@ -64,7 +64,7 @@ def host(served, station, front, room):
                       namespaces="", maxlife=2592000)
     assert 200 == served.post("root", "db", text).status
     station.guard.permit(text)
-    made = Host(room, CLIENT)
+    made = Host(room, AS_A_CLIENT)
     (made.etc / "host.toml").write_text(f'office = "{served.url}"\ncaller = "db"\n')
     return made
 
@@ -161,7 +161,7 @@ def test_what_is_not_keeps_the_old_one(given, room, key, more, why):
     certify(room, key, **more)
     old = given.present.read_bytes()
     status, told = given()
-    assert 1 == status and f"what came was left out: {why}" in told, told
+    assert 1 == status and f"rejected the new certificate: {why}" in told, told
     assert (old, False) == (given.present.read_bytes(), given.old.exists())
 
 
@@ -196,7 +196,8 @@ def test_what_cannot_be_put_in_place_costs_few_serials(given, room):
     (lambda room: (room / "given-cert.pub").write_text("none\n"), "host-cert.new.pub"),
     (lambda room: certify(room, "host.pub", days="always:forever"), "has no validity that ends"),
     (lambda room: run(["ssh-keygen", "-q", "-h", "-I", "db/db.example.org", "-V", "-1d:+10d", "-z", "7", "-s",
-                       room / "ca", room / "given.pub"], check=True), "what came was left out: it is for every host"),
+                       room / "ca", room / "given.pub"], check=True),
+     "rejected the new certificate: it is for every host"),
     (lambda room: (room / "cas.pub").write_text(""), "ssh-keygen can't read"),
 ], ids=["no certificate", "without an end", "without principals", "no file of CAs"])
 def test_what_cannot_be_checked_costs_few_serials(given, room, amiss, why):
@@ -270,7 +271,8 @@ def test_without_a_folder_of_its_own_it_says_so(given):
                                            (["now"], 2)], ids=str)
 def test_words_that_are_none_ask_for_nothing(given, room, words, status):
     done = run([HOST, *words], env=given.environment())
-    assert (status, b"vethlumi-host [--now | --reload]") == (done.returncode, (done.stdout + done.stderr)[:32])
+    usage = b"vethlumi-host [--now | --sign | --reload]"
+    assert (status, usage) == (done.returncode, (done.stdout + done.stderr).partition(b"\n")[0])
     assert not (room / "asked").exists()
 
 

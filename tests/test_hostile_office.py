@@ -21,7 +21,7 @@ import pytest
 
 from fetching import Web, response
 from recording import whole_request
-from running import PROGRAMS, TOP, preloaded, run
+from running import CLIENT, TOP, preloaded, run
 from test_vethlumi import POLICY, SIGNERS, Client
 
 # Bytes of memory, and seconds for a command that may wait for two: far above what it takes on a machine that does other
@@ -207,7 +207,7 @@ def line(tmp_path_factory):
 def often():
     """Does commands as `often.py` does: gives the status, seconds and bytes of memory of each."""
     words = ["/usr/bin/python3", "-B", TOP / "tests/often.py", 30 * PATIENCE]
-    with subprocess.Popen([str(it) for it in words], env=os.environ | {"PYTHONPATH": str(PROGRAMS / "client")},
+    with subprocess.Popen([str(it) for it in words], env=os.environ | {"PYTHONPATH": CLIENT},
                           stdin=subprocess.PIPE, stdout=subprocess.PIPE, text=True) as process:
         def do(commands):
             process.stdin.write(json.dumps(commands) + "\n")

@@ -56,9 +56,11 @@ def lists_of(most, *, least=0):
 FIELDS = {
     "a department's name": [("root", department(name)) for name in NAMES],
     "an administrator": [("root", department(admins=[name])) for name in NAMES],
+    "an administrator by name": [("root", department(admins=[name + "{name}"])) for name in ["", *NAMES]],
     "administrators": [("root", department(admins=it)) for it in lists_of(16)],
     "a principal of a department": [("root", department(principals=[it])) for it in LONG],
     "a rule": [("root", department(principals=[f"*{it[1:]}"])) for it in LONG[1:]],
+    "a rule for names": [("root", department(principals=[f"{{name}}@{it[1:]}"])) for it in LONG[1:]],
     "rules": [("root", department(principals=it)) for it in lists_of(16, least=1)],
     "a namespace": [("root", department(namespaces=[name])) for name in NAMES],
     "namespaces": [("root", department(namespaces=it)) for it in lists_of(8)],

@@ -1,6 +1,7 @@
 """Sign-on: `vethlumi login` and `logout`, before a provider and a registrar that are as they should be, or not."""
 import base64
 import contextlib
+import fcntl
 import json
 import os
 import pathlib
@@ -19,11 +20,11 @@ import urllib.request
 import pytest
 
 from fetching import response
-from running import free_port, is_listening, new_key, run, until
-from signing_on import CLIENT, Answering, Person, Provider, Registrar, as_json, make_cas, redirect
+from running import CLIENT, free_port, is_listening, new_key, run, until
+from signing_on import Answering, Person, Provider, Registrar, as_json, make_cas, redirect
 from test_hostile_office import ANSWERS, MEMORY, PATIENCE, STEERS, headed, often  # noqa: F401
 
-sys.path.append(str(CLIENT))
+sys.path += CLIENT.split(":")
 # Those of the hostile answers that say there is no certificate yet.
 NOT_THERE = ("refusal of gzip", "HTML 404")
 
@@ -192,10 +193,17 @@ def test_another_certificate_is_not_enough(ana, room, words):
     assert 0 == ana("login", "--if-needed")[0] and 1 == len(ana.windows())
 
 
+@pytest.mark.parametrize("kind", ["rsa", "ecdsa"])
+def test_a_certificate_of_another_key_type_is_enough(ana, room, kind):
+    run(["ssh-keygen", "-q", "-t", kind, "-N", "", "-f", room / kind], check=True)
+    run(["ssh-keygen", "-q", "-s", room / "ca", "-I", "people/ana", "-n", "ana", room / f"{kind}.pub"], check=True)
+    assert 0 == ana.agent.add(room / kind).returncode
+    assert 0 == ana("login", "--if-needed")[0] and [] == ana.windows()
+
+
 def test_other_keys_of_an_agent_do_not_matter(ana, room):
     for kind in ("rsa", "ecdsa"):
         run(["ssh-keygen", "-q", "-t", kind, "-N", "", "-f", room / kind], check=True)
-        run(["ssh-keygen", "-q", "-s", room / "ca", "-I", "people/ana", "-n", "ana", room / f"{kind}.pub"], check=True)
         assert 0 == ana.agent.add(room / kind).returncode
     assert (0, 0) == (ana("login", "--if-needed")[0], ana("login", "--if-needed")[0]) and 1 == len(ana.windows())
 
@@ -737,7 +745,7 @@ def test_what_is_no_certificate_and_no_serial(ana, registrar, said):
     registrar.changes = lambda answer: answer | said if said else {}
     status, out, told = ana("--wait", "5", "login")
     assert (3, "", []) == (status, out, ana.agent.keys())
-    assert "the registrar: what came is no certificate, and no serial of one" in told, told
+    assert "the registrar: the answer is neither a certificate nor the serial of one" in told, told
 
 
 def changed(line, at):
@@ -757,11 +765,11 @@ OTHERS = {
     "ended": ({"validity": "-1h:-1s"}, None, "Check this machine's clock"),
     "not yet valid": ({"validity": "+5m:+10h"}, None, "Check this machine's clock"),
     "a changed signature": ({}, lambda line: changed(line, -1), "the signature is false"),
-    "a changed validity": ({}, lambda line: changed(line, -150), "no certificate for this login"),
+    "a changed validity": ({}, lambda line: changed(line, -150), "a certificate for this login"),
     "another serial": ({"first": 1}, lambda line: line, "has another serial"),
-    "no line": ({}, lambda line: "hello\n", "no line of an Ed25519 certificate"),
-    "nothing": ({}, lambda line: "", "no line of an Ed25519 certificate"),
-    "a public key": ({}, lambda line: f"ssh-ed25519 {'A' * 68}\n", "no line of an Ed25519 certificate"),
+    "no line": ({}, lambda line: "hello\n", "the file has no line of a certificate"),
+    "nothing": ({}, lambda line: "", "the file has no line of a certificate"),
+    "a public key": ({}, lambda line: f"ssh-ed25519 {'A' * 68}\n", "the file has no line of a certificate"),
     "bad base64": ({}, lambda line: f"{line.split()[0]} \x1b[2J\n", "base64 is damaged"),
     "cut off": ({}, lambda line: f"{line.split()[0]} {line.split()[1][:100]}\n", "the bytes end too early"),
     "longer": ({}, lambda line: f"{line.split()[0]} {longer(line)}\n", "something follows the signature"),
@@ -784,7 +792,7 @@ def test_another_certificate_does_not_go_into_the_agent(ana, registrar, name, is
     registrar.certificate = lambda asked, who, serial: (change or str)(made(asked, who, serial + step))
     status, out, told = ana("login")
     assert (3, "", []) == (status, out, ana.agent.keys())
-    assert "what came is no certificate for this login: " in told and why in told and "\x1b" not in told, told
+    assert "the answer isn't a certificate for this login: " in told and why in told and "\x1b" not in told, told
 
 
 def test_a_certificate_for_another_key_does_not_go_into_the_agent(ana, registrar, room):
@@ -919,6 +927,20 @@ def test_what_a_browser_says_is_not_shown(ana):
     ana.browser.write_text('#!/bin/sh\necho rubbish\necho rubbish >&2\nexec curl -sL "$1"\n')
     status, out, told = ana("login")
     assert 0 == status and "rubbish" not in out + told
+
+
+@pytest.mark.parametrize("mode", [0o755, 0o740, 0o704])
+def test_whoever_can_read_a_folder_keeps_nobody_from_logging_in(ana, room, mode):
+    """They can lock the folder. What stands for them here is a lock of this process."""
+    folder = room / "readable"
+    folder.mkdir()
+    folder.chmod(mode)
+    handle = os.open(folder, os.O_RDONLY | os.O_DIRECTORY)
+    fcntl.flock(handle, fcntl.LOCK_EX)
+    try:
+        assert 0 == ana("--wait", "20s", "login", XDG_RUNTIME_DIR=str(folder))[0]
+    finally:
+        os.close(handle)
 
 
 @pytest.mark.parametrize("folder", ["missing", "others'", "relative"])

@@ -30,12 +30,12 @@ principals = ["{{name}}"]
 
 
 class Registrar:
-    """The registrar, as the caller ana. `url` is where it listens."""
+    """The registrar. `url` is where it listens."""
 
     def __init__(self, programs, front, issuer, folder):
         self.folder = folder
         (folder / "registrar.toml").write_text(SETTINGS.format(
-            url=front.url, certificate=front.certificate("ana"), authority=front.authority, issuer=issuer))
+            url=front.url, certificate=front.certificate("registrar"), authority=front.authority, issuer=issuer))
         words = ["serve", "--port", "0", "--settings", folder / "registrar.toml"]
         self.process = programs.begin([PROGRAMS / "registrar/vethlumi-registrar", *words], stderr=subprocess.PIPE)
         self.url = f"http://127.0.0.1:{int(self.process.stderr.readline().split()[1])}"
@@ -60,7 +60,8 @@ def signing(station):
 
 @pytest.fixture
 def alice(front, room, programs):
-    made = department("web", admins="ana", principals="alice,*@example.org", maxlife=86400)
+    front.make("caller", "registrar")
+    made = department("web", admins="registrar", principals="alice,*@example.org", maxlife=86400)
     assert 200 == front.session("root").post(f"{front.url}/v1/requests/web", data=made).status_code
     (room / "ca.pub").write_text(" ".join(front.office.ca.read_text().split()[:2]) + "\n")
     with Provider() as provider:

@@ -8,6 +8,7 @@ networks Python and ssh-keygen are asked at each run.
 """
 import base64
 import ipaddress
+import itertools
 import random
 import re
 import shutil
@@ -16,6 +17,8 @@ import pytest
 
 from asking import DIGEST, EXTENSIONS, KEY, LAST_SERIAL, LATEST, OPTIONS, OTHER_CA, exchange, post, string
 from running import TOP, applied, left_out, new_key, run
+from subject_keys import (CERTIFICATES, ED25519, KEYS, LINES, MISCOUNTED, MORE, NO_KEYS, P256, P384, RSA, SK_ED25519,
+                          line_of)
 
 pytestmark = pytest.mark.rows
 
@@ -39,6 +42,11 @@ USERS = ["department web", "kind user", "admins ana", "principals alice,*@exampl
          "extensions permit-X11-forwarding,permit-agent-forwarding,permit-pty", "maxlife 86400", "namespaces file,git"]
 HOSTS = ["department db", "kind host", "admins", "principals *.example.org", "options", "extensions", "maxlife 86400",
          "namespaces"]
+DEMANDING = ["department web", "kind user", "admins ana", "principals alice", "options", "must force-command /bin/true",
+             "must source-address 10.0.0.0/8", "must verify-required", "extensions",
+             "key-types sk-ssh-ed25519@openssh.com,ssh-rsa", "maxlife 86400", "namespaces"]
+TYPED = [*HOSTS[:6], "key-types ssh-ed25519", *HOSTS[6:]]
+BARE = [*USERS[:3], "principals alice,{name}", *USERS[4:7], "namespaces"]
 ISSUE = ["issue web", "keyid web/alice", f"key {KEY}", "principals alice", "after 1000", "before 2000", "extensions"]
 WITH_OPTION = [*ISSUE[:6], "option force-command /bin/true", "extensions"]
 WITH_TWO = [*ISSUE[:6], "option force-command a", "option verify-required", "extensions"]
@@ -55,7 +63,8 @@ EIGHT = ",".join("abcdefgh")
 LAST, BEHIND = LAST_SERIAL, LAST_SERIAL + 1
 
 # Each message with its bytes, as they were counted.
-WORKED = [(USERS, 191), (HOSTS, 100), (ISSUE, 162), (WITH_ALL, 317), (RENEWAL, 31), (DELIVERY, 205), (SERIAL, 16),
+WORKED = [(USERS, 191), (HOSTS, 100), (DEMANDING, 223), (TYPED, 122), (ISSUE, 162), (WITH_ALL, 317), (RENEWAL, 31),
+          (DELIVERY, 205), (SERIAL, 16),
           (RANGE, 18), (KEY_ID, 23), (ROLLOVER, 90), ([f"rollover {OTHER_KEY} the next key"], 103)]
 
 
@@ -79,6 +88,10 @@ NETWORKS = (["10.0.0.0/8", "0.0.0.0/0", "255.255.255.255/32", "192.168.2.0/23", 
 # Those that ssh-keygen takes all the same: leading zeros, three numbers, no size, IPv6, and more than eight of them.
 OF_SSH_KEYGEN = {"010.0.0.0/8", "10.0.0.0/08", "10.0.0/8", "10.0.0.0", "::/0", NETWORKS[1][-1]}
 
+# As OpenSSH's PROTOCOL.u2f and ssh-keygen -t name them.
+KEY_TYPES = ["ssh-ed25519", "sk-ssh-ed25519@openssh.com", "ecdsa-sha2-nistp256", "ecdsa-sha2-nistp384",
+             "ecdsa-sha2-nistp521", "sk-ecdsa-sha2-nistp256@openssh.com", "ssh-rsa"]
+
 UNKNOWN = ["permit-x11-forwarding", "permit-pty@example.org", "permit-x"]
 
 # A message, the place of a line from 0, lines with which the message is one, and lines with which the text is none.
@@ -92,6 +105,14 @@ ROWS = [
                 "principals " + "a" * 64],
      [*each("principals", ALPHABET[1]), "principals", "principals *", "principals **", "principals alice,alice",
       f"principals {SIXTEEN},q", "principals *" + "a" * 64, "principals " + "a" * 65]),
+    (USERS, 2, each("admins", ["{name}", "host-{name}", "ana,{name},-{name}", "a" * 31 + "{name}"]),
+     each("admins", ["{name}a", "{Name}", "{name", "a.{name}", "{name}{name}", "{name},{name}", "a" * 32 + "{name}"])),
+    (USERS, 3, each("principals", ["{name}.a", "{name}@a", "alice,{name}.a,{name}@a", "{name}." + "a" * 62]),
+     each("principals", ["{name}.", "{name}@", "{name}a", "{name}-a", "{name}.{name}", "{name}.A", "a{name}", "*{name}",
+                         "{Name}.a", "{name}.a,{name}.a", "{name}." + "a" * 63, "{name}"])),
+    (HOSTS, 3, each("principals", ["{name}", "{name}.example.org"]), each("principals", ["{name}*", "{}", "{name}x"])),
+    (BARE, 7, [], ["namespaces git"]),
+    (BARE, 3, ["principals {name}", "principals alice"], []),
     (USERS, 4, ["options", *each("options", OPTIONS), f"options {','.join(reversed(OPTIONS))}"],
      ["options force-command,force-command", "options Force-command", *each("options", [*EXTENSIONS, *UNKNOWN, ""])]),
     (USERS, 5, ["extensions", *each("extensions", EXTENSIONS), f"extensions {','.join(EXTENSIONS)}"],
@@ -100,6 +121,20 @@ ROWS = [
     (USERS, 7, ["namespaces", *each("namespaces", ALPHABET[0]), f"namespaces {EIGHT}", "namespaces " + "a" * 32],
      [*each("namespaces", ALPHABET[1]), f"namespaces {EIGHT},i", "namespaces git,git", "namespaces " + "a" * 33]),
     (HOSTS, 1, ["kind user"], []),
+    (HOSTS, 5, [], ["must force-command", "must verify-required", "must source-address 10.0.0.0/8"]),
+    (DEMANDING, 5, ["must force-command", "must force-command a  b ", "must force-command " + "a" * 200],
+     ["must force-command ", "must force-command " + "a" * 201, "must force-command a\tb", "must", "must ", "must permit-pty",
+      "must Force-command", "must  force-command", "option force-command a", "Must force-command", "must x y"]),
+    (DEMANDING, 6, ["must source-address", *each("must source-address", NETWORKS[0])],
+     [*each("must source-address", NETWORKS[1]), "must force-command", "must force-command b"]),
+    (DEMANDING, 7, [], ["must verify-required ", "must verify-required x", "must source-address", "must force-command"]),
+    (DEMANDING, 8, ["extensions permit-pty"], ["must verify-required", "must force-command", "key-types ssh-rsa"]),
+    (DEMANDING, 9, [*each("key-types", KEY_TYPES), f"key-types {','.join(KEY_TYPES)}", "key-types ssh-rsa,ssh-ed25519"],
+     ["key-types", *each("key-types", ["", "ssh-dss", "ssh-rsa,ssh-rsa", "ssh-rsa,", ",ssh-rsa", "ssh-rsa, ssh-ed25519",
+                                       "SSH-RSA", "rsa-sha2-256", *CERTIFICATES.values()]),
+      f"key-types {','.join([*KEY_TYPES, KEY_TYPES[0]])}", "key-type ssh-rsa", "must verify-required"]),
+    (DEMANDING, 10, [], ["key-types ssh-rsa", "must verify-required"]),
+    (TYPED, 6, ["key-types ecdsa-sha2-nistp256", "key-types sk-ssh-ed25519@openssh.com,ssh-ed25519"], ["key-types ssh-dss"]),
     (HOSTS, 4, [], ["options force-command"]),
     (HOSTS, 5, [], ["extensions permit-pty"]),
     (HOSTS, 7, [], ["namespaces git"]),
@@ -107,6 +142,16 @@ ROWS = [
     (ISSUE, 1, each("keyid", ["db/alice", "web/a/b~!", "web/" + "a" * 64]),
      each("keyid", ["web/", "/alice", "web", "Web/alice", "web/a b", "web/al\x7f", "web/" + "a" * 65])),
     (ISSUE, 2, [f"key {KEY} ", f"key {KEY} a comment"], ["key ssh-ed25519 AAAA", "key ", f"key {KEY} a\x01"]),
+    # Keys of all types, and what is none of its type.
+    (ISSUE, 2, [*each("key", LINES.values()), *(f"key {it} \xff b" for it in LINES.values()),
+                *each("key", itertools.starmap(line_of, MORE))],
+     [*each("key", itertools.starmap(line_of, NO_KEYS + MISCOUNTED)), *(f"key {it} a\x01" for it in LINES.values()),
+      *(f"key {kind} " for kind in LINES), *(f"key {it} {'a' * 1025}" for it in LINES.values()),
+      # Another type's blob, an unknown type, a certificate's, no padding, bits that stand for nothing, a tab.
+      f"key {line_of(P384, KEYS[P256], P256)}", f"key {line_of(SK_ED25519, KEYS[SK_ED25519], ED25519)}",
+      f"key {line_of('ssh-dss', [b'1', b'2', b'3', b'4'])}", f"key {line_of(CERTIFICATES[RSA], KEYS[RSA])}",
+      f"key {LINES[P256][:-1]}", f"key {LINES[P256][:-2]}5=", f"key {LINES[RSA]}====",
+      "key " + LINES[RSA].replace(" ", "\t"), "key ssh-rsa AAAA", f"key  {LINES[RSA]}"]),
     (ISSUE, 3, [*each("principals", ALPHABET[0]), f"principals {SIXTEEN}", "principals " + "a" * 64],
      [*each("principals", ALPHABET[1]), "principals", "principals *@example.org", "principals alice,alice",
       f"principals {SIXTEEN},q", "principals " + "a" * 65]),
@@ -152,8 +197,10 @@ def shown(line):
 
 
 # Lines that another message may have in their place, so that the first bad line is a later one: a department for hosts
-# has no options, and behind an option stands another or the extensions.
-LATER = {("department web", "kind host"): 5, ("issue web", "option verify-required"): 8}
+# has no options, one with {name} alone among its principals no namespaces, and behind an option stands another or the
+# extensions.
+LATER = {("department web", "kind host"): 5, ("department web", "principals {name}"): 8,
+         ("issue web", "option verify-required"): 8}
 
 
 def all_rows():

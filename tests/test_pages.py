@@ -33,10 +33,10 @@ PLACES = ("*.md", "docs/*.md", "examples/*.md", "programs/**/*.md", "crates/*/RE
 PAGES = sorted(str(page.relative_to(TOP)) for place in PLACES for page in TOP.glob(place))
 TEXTS = {page: (TOP / page).read_text() for page in PAGES}
 CRATES = re.findall(r"^(\w+):", (TOP / "crates.txt").read_text(), re.M)
-# What stands behind `sh` where a block is for one of several machines, or for some of them: test_boxes and
-# test_three_machines type it there.
-MACHINES = ("admin", "office", "station", "server", "client", "spare", "server client", "one", "two", "three",
-            "one two", "one two three")
+# What stands behind `sh` where a block is for one of several machines, for some of them, or for somebody at one of them:
+# tests of machines that are booted type it there.
+MACHINES = ("admin", "office", "station", "server", "client", "spare", "second", "server client", "one", "two", "three",
+            "one two", "one two three", "laptop", "ana")
 KINDS = ("sh", "console", "text", *(f"sh {it}" for it in MACHINES))
 
 # What isn't run here: a line, or the first line of a block that is left out whole. With why, what else shows it, and a
@@ -77,8 +77,11 @@ ELSEWHERE = {
     "cat /etc/vethlumi/alert":
         Elsewhere("it wants the units in service", "tests/machines/test_boxes.py", "etc/vethlumi/alert"),
 }
-# Pages of which another test runs the blocks of a shell. What README shows of them is that test's as well.
+# Pages of which another test runs the blocks of a shell.
 PAGES_ELSEWHERE = {"docs/OPERATING.md": "tests/test_operating.py"}
+
+# Pages that quote definitions, of which a line may begin with any word.
+OF_DEFINITIONS = ("docs/STATEMENT.md", "docs/PATH.md")
 
 LINK = re.compile(r"\[((?:[^\[\]]|\[[^\]]*\])*)\]\(([^()\s]+)\)")
 PATH = re.compile(r"`(?:\./)?((?:bench|crates|docs|examples|programs|tests|tools)/[\w./-]+)`")
@@ -150,7 +153,7 @@ def test_each_block_says_what_becomes_of_it(page):
             assert block.lines[0][:2] in ("$ ", "# "), f"{what}: it begins with a command"
             root = [it.command for it in steps(block.lines) if it.is_root][:1]
             assert [] == [it for it in root if it not in ELSEWHERE], f"{what}: what is for root is shown elsewhere"
-        elif block.kind == "text":
+        elif block.kind == "text" and page not in OF_DEFINITIONS:
             loose += [line.split()[0] for line in block.lines if line.strip()]
     programs = {line.split()[0] for line in [*lines_of(text), *ELSEWHERE] if line.strip()}
     assert [] == [it for it in loose if it in programs or is_program(it)]
@@ -315,16 +318,40 @@ def test_few_patterns_read_foreign():
         warnings.warn(f"many patterns that read foreign: {today}")
 
 
+LONGEST_CELL = 60
+
+
+def test_a_row_of_threats_is_read_at_a_glance():
+    """What is stopped and what isn't are two rows, rather than one of two hundred words."""
+    rows = [line for line in TEXTS["docs/THREATS.md"].splitlines() if line.startswith("| ")]
+    cells = [(len(cell.split()), row[:80]) for row in rows for cell in row.strip("| ").split(" | ")]
+    assert [] == [it for it in cells if it[0] > LONGEST_CELL]
+
+
+def test_what_was_measured_names_what_measures_it():
+    measured = TEXTS["docs/GROWING.md"].partition("\n## Measured\n")[2].partition("\n\n![")[0]
+    rows = re.findall(r"^\| (?!what \|)(.*) \| ([^|]*) \|$", measured, re.M)
+    assert len(rows) > 10
+    assert [] == [row for row, by in rows if not re.fullmatch("`(bench|tests)/[a-z_.]+`", by)]
+
+
 # ---- pages that a script makes
 
-def test_the_statement_can_be_made_and_says_of_which_commit_it_is():
+@pytest.mark.parametrize(("name", "contracts"), [("docs/STATEMENT.md", ("serve_one", "do_words", "run")),
+                                                 ("docs/PATH.md", ("serve_one",))])
+def test_a_page_of_contracts_can_be_made_and_says_of_which_commit_it_is(name, contracts):
     """The page is that of the last release, and not of the sources as they are. It is made of both alike."""
-    page = TEXTS["docs/STATEMENT.md"]
+    page = TEXTS[name]
     of_release = re.search(r"^This page is of commit ([0-9a-f]{7,40}, \d{4}-\d\d-\d\d)\.", page, re.M)
     assert of_release
-    made = script("tools/statement").written(of_release[1])
+    made = script("tools/statement").written(of_release[1])[name]
     assert headings(made) == headings(page)
-    assert of_release[0] in made and "pub fn respond" in made
+    assert of_release[0] in made
+    assert [] == [it for it in contracts if not re.search(rf"^pub fn {it}\b", made, re.M)]
+
+
+def test_the_path_of_a_request_is_short():
+    assert TEXTS["docs/PATH.md"].count("\n") <= 700
 
 
 def test_the_pictures_are_those_of_their_texts():

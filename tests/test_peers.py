@@ -1,7 +1,8 @@
 """Certificates of an office beside other people's programs than OpenSSH: Go's x/crypto/ssh, asyncssh and cryptography.
 
 One office issues the certificates, and the station signs them. Each peer reads them, and says for whom, where and
-when they are good. Then a user's and a host's are shown by two who connect.
+when they are good. Then a user's and a host's are shown by two who connect. The keys are of all seven types. Nobody has
+the private halves of the security keys, so these connect nowhere: test_key_types.py has logins with them.
 """
 import asyncio
 import base64
@@ -13,12 +14,13 @@ import time
 
 import asyncssh
 import pytest
-from cryptography.exceptions import InvalidSignature
+from cryptography.exceptions import InvalidSignature, UnsupportedAlgorithm
 from cryptography.hazmat.primitives import serialization
 
-from asking import EVERYTHING, EXTENSIONS, LATEST, OPTIONS, department, issue, post, revoke_keyid, revoke_serial
+from asking import EVERYTHING, EXTENSIONS, LATEST, OPTIONS, department, issue, post, revoke_keyid, revoke_serial, string
 from running import TOP, Office, new_key, run
 from stations import Guard, Station
+from subject_keys import CERTIFICATES, ED25519, LINES, P256, P384, P521, RSA, SK_ED25519, SK_P256
 
 pytestmark = pytest.mark.xdist_group("peers")
 
@@ -26,6 +28,9 @@ NOW = int(time.time())
 HOUR = {"after": NOW - 60, "before": NOW + 7200}
 USER, HOST = 1, 2
 
+# How ssh-keygen makes keys of the other types, and the types that it makes with a device alone.
+OTHERS = {P256: ("ecdsa", "-b", 256), P384: ("ecdsa", "-b", 384), P521: ("ecdsa", "-b", 521), RSA: ("rsa", "-b", 3072)}
+SECURITY = SK_ED25519, SK_P256
 # Each certificate by its name: what is asked for.
 ASKED = {
     "alice": dict(keyid="web/alice", principals="alice,deploy@example.org", extensions="permit-pty", **HOUR),
@@ -38,6 +43,9 @@ ASKED = {
     "late": dict(keyid="web/late", principals="alice", after=NOW + 100000, before=NOW + 200000),
     "host": dict(keyid="db/host", principals="localhost,a.example.org", **HOUR),
     "elsewhere": dict(keyid="db/elsewhere", principals="elsewhere.example.org", **HOUR),
+    **{kind: dict(keyid=f"web/{kind}", principals="alice", extensions="permit-pty", **HOUR)
+       for kind in (*OTHERS, *SECURITY)},
+    **{f"host-{kind}": dict(keyid=f"db/{kind}", principals="localhost", **HOUR) for kind in OTHERS},
 }
 SERIALS = {name: serial for serial, name in enumerate(ASKED, 1)}
 
@@ -55,20 +63,30 @@ class Made:
         return self.folder / name
 
 
+def key_of(folder, name):
+    """Makes the key of a certificate, and returns its public line."""
+    kind = name.removeprefix("host-")
+    if kind not in SECURITY:
+        return new_key(folder / name, None, *OTHERS.get(kind, ()))
+    (folder / f"{name}.pub").write_text(LINES[kind])
+    return LINES[kind]
+
+
 @pytest.fixture(scope="module")
 def made(program, sshstation, tmp_path_factory):
     folder = tmp_path_factory.mktemp("peers")
     office, other = (Office(program, folder / f"{it}.db") for it in ("office", "other"))
     lines = {}
-    web = department("web", principals="alice,bob,*@example.org", **EVERYTHING)
-    db = department("db", kind="host", principals="localhost,*.example.org")
+    web = department("web", principals="alice,bob,*@example.org", key_types=[*CERTIFICATES], **EVERYTHING)
+    db = department("db", kind="host", principals="localhost,*.example.org", key_types=[ED25519, *OTHERS])
     guard = Guard(sshstation, folder / "guard.db", office.ca, web + db)
     with office.serving() as served:
         for name, message in (("web", web), ("db", db)):
             assert 200 == served.post("root", name, message).status
         for name, words in ASKED.items():
-            key = new_key(folder / name)
-            assert f"issued {SERIALS[name]}" == served.post("root", name, issue(key=key, **words)).text.split("\n")[0]
+            key = key_of(folder, name)
+            answer = served.post("root", f"k{SERIALS[name]}", issue(key=key, **words)).text
+            assert f"issued {SERIALS[name]}" == answer.split("\n")[0]
         assert [*SERIALS.values()] == Station(guard, served.url, ["--key", office.ca_key]).sign()
         for name, serial in SERIALS.items():
             lines[name] = served.get(f"/v1/certs/{serial}").text.strip()
@@ -150,6 +168,9 @@ CHECKED = [
     (HOST_AT | {"name": "elsewhere", "of": "elsewhere.example.org:22"}, "no authorities for hostname"),
     (HOST_AT | {"Moment": NOW + 7200}, "cert has expired"),
     (HOST_AT | {"Revoked": [SERIALS["host"]]}, f"certificate serial {SERIALS['host']} revoked"),
+    *(({"name": kind}, "") for kind in (*OTHERS, *SECURITY)),
+    *(({"name": kind, "of": "bob"}, NOT_FOR.format("bob")) for kind in (*OTHERS, *SECURITY)),
+    *((HOST_AT | {"name": f"host-{kind}"}, "") for kind in OTHERS),
 ]
 
 
@@ -177,21 +198,27 @@ def test_a_key_without_certificate_goes_to_gos_fallback(made, go, kind, of, faul
     assert NOT_FOR.format("bob") in certificate["Fault"]
 
 
-def turned(line, place):
-    """The line of a certificate in which a bit of this byte is another."""
-    name, text, comment = line.split(" ")
-    data = bytearray(base64.b64decode(text))
+# Of which certificates a bit is changed, and where: in the last byte of these, or in the first one of the nonce. The
+# last byte of a security key is that of its application.
+CHANGED = [(name, what) for name in ("alice", *OTHERS, *SECURITY)
+           for what in ("nonce", "key", "serial", "principal", "signature")]
+
+
+def turned(made, name, what):
+    """The line of a certificate in which a bit is another."""
+    kind, text, comment = made.lines[name].split(" ")
+    data, words = bytearray(base64.b64decode(text)), ASKED[name]
+    key_id = data.index(string(words["keyid"].encode()))
+    principal = string(words["principals"].split(",")[-1].encode())
+    place = {"nonce": len(string(kind.encode())) + 4, "key": key_id - 13, "serial": key_id - 5,
+             "principal": data.index(principal, key_id) + len(principal) - 1, "signature": len(data) - 1}[what]
     data[place] ^= 1
-    return f"{name} {base64.b64encode(data).decode()} {comment}"
+    return f"{kind} {base64.b64encode(data).decode()} {comment}"
 
 
-# A bit of the nonce, of the key, of the serial, of the last principal's end, and of the signature.
-PLACES = 40, 80, 115, -200, -1
-
-
-@pytest.mark.parametrize("place", PLACES)
-def test_go_finds_that_a_certificate_was_changed(made, go, place):
-    it, = go([question(made, Line=turned(made.lines["alice"], place))])
+@pytest.mark.parametrize(("name", "what"), CHANGED)
+def test_go_finds_that_a_certificate_was_changed(made, go, name, what):
+    it, = go([question(made, Line=turned(made, name, what))])
     assert it["Fault"], "Go takes it"
 
 
@@ -220,6 +247,9 @@ CONNECTED = [
     ("fido", "alice", "host", "127.0.0.1", "", "unable to authenticate"),
     ("late", "alice", "host", "127.0.0.1", "", "unable to authenticate"),
     ("alice", "alice", "elsewhere", "127.0.0.1", "", NOT_FOR.format("localhost")),
+    *((kind, "alice", "host", "127.0.0.1", "", "") for kind in OTHERS),
+    *((kind, "bob", "host", "127.0.0.1", "", "unable to authenticate") for kind in OTHERS),
+    *(("alice", "alice", f"host-{kind}", "127.0.0.1", "", "") for kind in OTHERS),
 ]
 
 
@@ -264,10 +294,10 @@ def test_asyncssh_reads_what_was_asked_for(made, monkeypatch, name):
     assert asyncssh.import_public_key(made.authority) == it.signing_key
 
 
-@pytest.mark.parametrize("place", PLACES)
-def test_asyncssh_finds_that_a_certificate_was_changed(made, place):
+@pytest.mark.parametrize(("name", "what"), CHANGED)
+def test_asyncssh_finds_that_a_certificate_was_changed(made, name, what):
     with pytest.raises(asyncssh.KeyImportError):
-        asyncssh.import_certificate(turned(made.lines["alice"], place))
+        asyncssh.import_certificate(turned(made, name, what))
 
 
 async def connected(made, user, name, host, *, trusted=None, at="localhost", address="127.0.0.1"):
@@ -307,6 +337,9 @@ MET = [
     ("alice", "alice", "elsewhere", {}, asyncssh.HostKeyNotVerifiable),
     ("alice", "alice", "host", {"at": "127.0.0.1"}, asyncssh.HostKeyNotVerifiable),
     ("alice", "alice", "host", {"trusted": "other"}, asyncssh.HostKeyNotVerifiable),
+    *((kind, "alice", "host", {}, "hello") for kind in OTHERS),
+    *((kind, "bob", "host", {}, asyncssh.PermissionDenied) for kind in OTHERS),
+    *(("alice", "alice", f"host-{kind}", {}, "hello") for kind in OTHERS),
 ]
 
 
@@ -326,7 +359,7 @@ def test_asyncssh_client_and_server_connect(made, user, name, host, words, wante
 BEHIND_BODY, SIGNATURE = 4 + 83, 64
 
 
-def is_verified(made, line, authority):
+def is_verified(line, authority):
     """Whether the signature of a certificate is the CA's, by the key that cryptography reads in the CA's line."""
     data = base64.b64decode(line.split(" ")[1])
     try:
@@ -336,18 +369,29 @@ def is_verified(made, line, authority):
     return True
 
 
-def raw(key):
-    return key.public_bytes(serialization.Encoding.Raw, serialization.PublicFormat.Raw)
+def key_in(line):
+    """The key that cryptography reads in a line, of a key or of a certificate, as a line of the key."""
+    key = serialization.load_ssh_public_key(line.encode())
+    return key.public_bytes(serialization.Encoding.OpenSSH, serialization.PublicFormat.OpenSSH).decode()
 
 
 @pytest.mark.parametrize("name", ASKED)
 def test_cryptography_verifies_each_certificate(made, name):
     """Debian 12's cryptography 38 reads the key in a certificate, and has no call that verifies one whole."""
-    line, key = made.lines[name], (made.folder / f"{name}.pub").read_bytes()
-    assert raw(serialization.load_ssh_public_key(key)) == raw(serialization.load_ssh_public_key(line.encode()))
-    assert (True, False) == (is_verified(made, line, made.authority), is_verified(made, line, made.other))
+    assert [True, False] == [is_verified(made.lines[name], it) for it in (made.authority, made.other)]
+    if name not in SECURITY:
+        key = (made.folder / f"{name}.pub").read_text()
+        assert key.split()[:2] == key_in(made.lines[name]).split()
 
 
-@pytest.mark.parametrize("place", PLACES)
-def test_cryptography_finds_that_a_certificate_was_changed(made, place):
-    assert not is_verified(made, turned(made.lines["alice"], place), made.authority)
+@pytest.mark.parametrize("name", SECURITY)
+def test_cryptography_does_not_read_a_security_key(made, name):
+    """That of Debian 12, 38.0.4, knows no such type, alone or in a certificate."""
+    for line in (LINES[name], made.lines[name]):
+        with pytest.raises(UnsupportedAlgorithm):
+            key_in(line)
+
+
+@pytest.mark.parametrize(("name", "what"), CHANGED)
+def test_cryptography_finds_that_a_certificate_was_changed(made, name, what):
+    assert not is_verified(turned(made, name, what), made.authority)

@@ -171,7 +171,7 @@ def test_it_asks_before(leaving):
     status, out, told = office.client("leave", "ana")
     assert (2, f"people/ana/{ANA}\noperators/ana/{ANA}\n", []) == (status, out, office.revoked())
     question = "Revoke 2 key IDs permanently, with 1 certificate that can still be used?"
-    assert f"{question} Nobody can be asked here: give --yes" in told
+    assert f"{question} Not a terminal. Pass --yes to confirm." in told
     for answer, due in ((b"n\n", 1), (b"y\n", 0)):
         main, of_client = pty.openpty()
         asking = subprocess.Popen(office.client.words("leave", "ana"), env=office.client.environment(), stdin=of_client,

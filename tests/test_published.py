@@ -21,7 +21,7 @@ from fronts import has_ipv6
 from publishing import HIGHEST, OTHER_CA, Signer, bitmaps, is_signed, key_line, krl, parted, statement
 from recording import getting, statuses, whole_request
 from running import PROGRAMS, free_port, is_listening, left_out, preloaded, run, until, write_secret
-from stations import Lists, Station, begin_agent, new_guard, stopped
+from stations import Lists, Station, begin_agent, locked, new_guard, stopped
 
 pytestmark = [pytest.mark.front, pytest.mark.xdist_group("published")]
 
@@ -552,8 +552,11 @@ def test_a_guard_that_was_not_begun_publishes_nothing(make_site):
 
 
 def test_what_the_guard_meets_is_said(site):
+    """The guard names its fault, and the station its file."""
+    with locked(site.lists.db) as why:
+        assert (1, [], [f"station: the list isn't published: sshstation: Device: {why}"]) == site.station().once()
     site.lists.db.rename("elsewhere")
-    said = ["station: the list isn't published: sshstation: NotAGuard"]
+    said = [f"station: the list isn't published: sshstation: NotAGuard: {site.lists.db}: No such file or directory"]
     assert (1, [], said) == site.station().once()
 
 
@@ -762,7 +765,8 @@ def test_a_front_before_the_front_gives_the_same(site, make_front):
                 f"{site.front.authority}/ca.crt; proxy_ssl_name localhost; proxy_cache pages; proxy_method GET; "
                 'proxy_pass_request_body off; proxy_set_header Content-Length "";')
     near = site.front
-    site.front = make_front(near.port, edits=[("dav_methods PUT;", settings)])
+    behind = "\n            max_ranges"
+    site.front = make_front(near.port, edits=[(f"dav_methods PUT;{behind}", settings + behind)])
     assert site.file.read_bytes() == site.front.session().get(f"{site.front.url}/published").content
     assert (0, []) == site.fetch()
     site.front.ask(putting(b"false"), "station")
@@ -789,7 +793,8 @@ def test_a_full_disk_keeps_the_old_file(make_site, make_front, room):
     site.begin_with(site.old)
     with small_disk(room / "disk", kilobytes=256) as fill:
         (room / "disk/body").mkdir()
-        front = make_front(site.office.port, edits=[("root .;", f"root {room}/disk;"), (
+        front = make_front(site.office.port, edits=[(
+            "33562624;\n            root .;", f"33562624;\n            root {room}/disk;"), (
             "client_body_temp_path body;", f"client_body_temp_path {room}/disk/body;")])
         site.front, site.file = front, room / "disk/published"
         try:

@@ -12,6 +12,7 @@ from asking import (CA, LATEST, OTHER_CA, deliver, department, exchange, issue, 
                     revoke_range, revoke_serial, rollover)
 from running import TOP, Office, refusals
 from stations import new_station
+from subject_keys import LINES
 
 pytestmark = pytest.mark.rows
 
@@ -48,6 +49,14 @@ ROWS = [
     ("ana", asked(extensions="permit-pty"), 14),
     ("ana", asked(after=NOW - 1000, before=NOW), 15),
     ("ana", asked("web/three"), 16),
+    # A key of another type is one more thing that the department doesn't permit.
+    *[("ana", asked(key=it), 14) for kind, it in LINES.items() if kind != "ssh-ed25519"],
+    ("bob", asked(key=LINES["ssh-rsa"]), 10),
+    ("root", asked("none/x", key=LINES["ssh-rsa"]), 11),
+    ("ana", asked("db/x", department="web", key=LINES["ssh-rsa"]), 13),
+    ("ana", asked(after=NOW - 1000, before=NOW, key=LINES["ssh-rsa"]), 14),
+    ("ana", asked("web/three", key=LINES["ssh-rsa"]), 14),
+    ("ana", asked(key=LINES["ssh-rsa"].replace("AAAA", "AAAB", 1)), 7),
     ("bob", again(1), 10),
     ("ana", again(99), 10),
     ("ana", again(1, before=NOW + 86401), 14),

@@ -8,7 +8,8 @@ that is opened again and again; and so once more, with each request at another m
 reports, each certificate and its body have to be the same, and SQLite has to find the rows in the file that the office
 in Python has.
 
-`--steps 20000` asks more than the thousand exchanges of the check, and `--hypothesis-seed` the same ones as before.
+`--steps 20000` asks more than the five thousand exchanges of the check, and `--hypothesis-seed` the same ones as
+before. bench/histories asks a hundred thousand.
 """
 import collections
 import contextlib
@@ -22,13 +23,14 @@ from hypothesis import HealthCheck, Phase, settings
 from hypothesis import strategies as some
 from hypothesis.stateful import RuleBasedStateMachine, initialize, precondition, rule, run_state_machine_as_test
 
-from asking import (CA, LAST_SERIAL, LATEST, deliver, department, exchange, get, issue, key_blob, key_line, post, renew,
-                    revoke_keyid, revoke_range, revoke_serial, rollover)
+from asking import (ADDITIONS, CA, LAST_SERIAL, LATEST, additions_in, deliver, department, exchange, get, issue,
+                    key_blob, key_line, post, renew, revoke_keyid, revoke_range, revoke_serial, rollover)
 from plain_office import REFUSALS, PlainOffice
 from running import ROWS, Office, applied, worked
+from subject_keys import LINES
 
-# A history has so many steps at most, and twenty or more by the mean.
-MOST_STEPS, MEAN_STEPS = 50, 20
+# A history has so many steps at most. Some have several exchanges: by the mean a history has these or more.
+MOST_STEPS, MEAN_EXCHANGES = 50, 30
 DEPARTMENT, _ = worked("the-department-of-the-trial-office")
 
 # Rows whose requests have heads that are no good ones. The office in Python reads none of these.
@@ -61,11 +63,28 @@ DEPARTMENTS = some.sampled_from(["web", "web", "web2", "web-2", "db"])
 KEY_IDS = some.builds("{}/{}".format, DEPARTMENTS, some.sampled_from(["a", "b", "c/d", "x"]))
 PRINCIPALS = some.sampled_from(["alice", "alice,bob", "x@example.org", "@example.org", "b.example.org"])
 RULES = some.sampled_from(["alice,bob,*@example.org", "*.example.org", "alice"])
+NAMES = some.sampled_from(["ana", "ana", "ana/laptop", "bob", "root", "x/ana", "/ana"])
+NAME_RULES = some.sampled_from(["{name}@example.org", "{name}", "{name}.example.org,alice", "{name},root",
+                                "*@example.org,{name}@example.org"])
+NAMED = some.sampled_from(["ana@example.org", "ana@example.org", "ana", "root", "bob", "bob@example.org", "alice",
+                           "ana.example.org", "ana,ana@example.org", "@example.org"])
 ENDS = some.sampled_from([(1000, 2000), (1000, 2000), (1500, 2500), (0, 1000), (2000, 1000), (1000, 90000)])
 COMMAND = "force-command /bin/true"
 OPTIONS = some.sampled_from([(), (), (COMMAND,), ("verify-required", COMMAND), (COMMAND, COMMAND)])
+# What certificates must have, of which one list isn't in its order, what they have, and the types of their keys.
+MUSTS = some.sampled_from([
+    (), (COMMAND,), ("force-command",), ("source-address 10.0.0.0/8,192.0.2.0/24",),
+    ("source-address", "verify-required"), ("force-command /bin/false", "verify-required"),
+    ("verify-required", "force-command"), ("verify-required x",)])
+DEMANDED = some.sampled_from([
+    (), (COMMAND,), ("source-address 10.1.0.0/16",), ("source-address 10.0.0.0/7",), (COMMAND, "verify-required"),
+    ("source-address 192.0.2.1/32,10.0.0.0/8",), ("verify-required", "source-address 10.0.0.0/8,11.0.0.0/8"),
+    ("verify-required", COMMAND, "source-address 192.0.2.0/24")])
+TYPES = some.sampled_from([
+    (), (), ("ssh-ed25519", "ecdsa-sha2-nistp256"), ("sk-ssh-ed25519@openssh.com",), ("ssh-dss",)])
 EXTENSIONS = some.sampled_from(["", "permit-pty", "permit-pty,permit-X11-forwarding", "permit-user-rc"])
-SUBJECTS = some.sampled_from([key_line(0x22), key_line(0x23, "box")])
+SUBJECTS = some.sampled_from(3 * [key_line(0x22), key_line(0x23, "box")] + [
+    f"{LINES['ecdsa-sha2-nistp256']} box", LINES["sk-ssh-ed25519@openssh.com"]])
 CAS = some.integers(0x11, 0x1a).map(key_line)
 OTHERS = some.sampled_from(["issue web\n", "deliver 9\n", "revoke-range 3 2\n", "revoke-serial 0\n", "", "renew 1\n"])
 PAGES = some.sampled_from(["pending", "krl", "signers", "table", "cas", "departments", "certs/0", "certs/01", "keys"])
@@ -103,8 +122,9 @@ class Registers(RuleBasedStateMachine):
     """A history of exchanges, which the office in Python answers at once, and the program at the end."""
     program = failed = None
     count = itertools.count()
-    # How many exchanges there were, and how often each kind of answer.
-    asked, kinds = 0, collections.Counter()
+    # How many exchanges there were, how often each kind of answer, and how many messages about a department that has
+    # each of the additions.
+    asked, kinds, additions = 0, collections.Counter(), collections.Counter()
 
     @initialize(last=some.sampled_from([LAST_SERIAL, LAST_SERIAL, 5, 12]), piece=some.sampled_from([1000, 17]),
                 count=some.sampled_from([0, 3, 4]), cas=some.sampled_from([0, 0, 7]))
@@ -130,7 +150,17 @@ class Registers(RuleBasedStateMachine):
 
     def send(self, to, message):
         caller, key, moment, nonce = to
+        about = self.department_of(message)
+        self.additions.update(additions_in(about.text()) if about else [])
         self.ask(post(caller, key, message), moment, nonce)
+
+    def department_of(self, message):
+        """The department of which a certificate is asked for, renewed or revoked, if it is there."""
+        word, _, rest = message.partition("\n")[0].partition(" ")
+        if word in ("renew", "revoke-serial"):
+            found = self.office.certificates.get(int(rest))
+            rest = found and found.asked.department
+        return self.office.departments.get(rest) if word in ("issue", "renew", "revoke-serial") else None
 
     def serial(self, before):
         return max(1, self.office.next() - before)
@@ -159,6 +189,52 @@ class Registers(RuleBasedStateMachine):
         self.send(("root", key, 1000, nonce), issue(key_id, after=1000, before=2000))
         self.send(("root", key[::-1], 1000, nonce), issue(
             key_id, principals=principals, after=1000, before=2000, options=options, extensions=extensions))
+
+    # Callers who may be meant by the names in key IDs.
+    FROM_NAMES = some.tuples(
+        some.sampled_from(["ana", "ana", "host-ana", "bob", "host-", "root"]), KEYS, MOMENTS, NONCES)
+
+    @rule(to=FROM_ROOT, name=DEPARTMENTS, rules=NAME_RULES,
+          admins=some.sampled_from(["{name}", "host-{name}", "bob,{name}", "ana-{name}"]),
+          spaces=some.sampled_from([(), (), ("git",)]))
+    def put_department_of_names(self, to, name, admins, rules, spaces):
+        self.send(to, department(name, admins=admins, principals=rules, maxlife=86400, namespaces=spaces))
+
+    @rule(to=FROM_NAMES, of=DEPARTMENTS, name=NAMES, principals=NAMED, ends=ENDS)
+    def ask_by_name(self, to, of, name, principals, ends):
+        self.send(to, issue(f"{of}/{name}", principals=principals, after=ends[0], before=ends[1]))
+
+    @rule(nonce=NONCES, key=KEYS, of=DEPARTMENTS, caller=some.sampled_from(["ana", "host-ana", "bob"]),
+          rules=NAME_RULES, principals=NAMED)
+    def live_by_name(self, nonce, key, of, caller, rules, principals):
+        """A department of names, a certificate in it, its signature, and its renewal and revocation by callers."""
+        self.send(("root", key, 1000, nonce), department(
+            of, admins="host-{name},{name}", principals=rules, maxlife=86400))
+        self.send((caller, f"{key}1", 1000, nonce), issue(f"{of}/ana", principals=principals, after=1000, before=2000))
+        self.deliver_what_waits(("station", f"{key}2", 1000, nonce), 9) if self.office.waiting() else None
+        self.send((caller, f"{key}3", 1000, nonce), renew(self.serial(1), after=1000, before=2000))
+        self.send((caller, f"{key}4", 1000, nonce), revoke_serial(self.serial(1)))
+
+    @rule(nonce=NONCES, key=KEYS, of=DEPARTMENTS, options=DEMANDED, musts=MUSTS, types=TYPES, subject=SUBJECTS,
+          listed=some.sampled_from([(), ("force-command", "source-address", "verify-required")]))
+    def live_with_demands(self, nonce, key, of, options, musts, types, subject, listed):
+        """A department with options that must be and types of keys, a certificate in it, its signature and its renewal,
+        after which the department demands nothing or something else."""
+        self.send(("root", key, 1000, nonce), department(
+            of, options=listed, musts=musts, key_types=types, maxlife=86400))
+        self.send(("ana", f"{key}1", 1000, nonce), issue(
+            f"{of}/d", key=subject, options=options, after=1000, before=2000))
+        self.deliver_what_waits(("station", f"{key}2", 1000, nonce), 9) if self.office.waiting() else None
+        self.send(("root", f"{key}3", 1000, nonce), department(of, options=listed, musts=musts[:1], maxlife=86400))
+        self.send(("ana", f"{key}4", 1000, nonce), renew(self.serial(1), after=1000, before=2000))
+
+    @rule(to=FROM_NAMES, before=BEFORE, ends=ENDS)
+    def renew_by_name(self, to, before, ends):
+        self.send(to, renew(self.serial(before), after=ends[0], before=ends[1]))
+
+    @rule(to=FROM_NAMES, before=BEFORE)
+    def revoke_by_name(self, to, before):
+        self.send(to, revoke_serial(self.serial(before)))
 
     @rule(to=FROM_ANA, before=BEFORE, ends=ENDS)
     def renew_one(self, to, before, ends):
@@ -260,13 +336,15 @@ def test_registers_answer_alike(request, program, room):
     class Machine(Registers):
         pass
 
-    Machine.program, Machine.kinds = program, collections.Counter()
+    Machine.program, Machine.kinds, Machine.additions = program, collections.Counter(), collections.Counter()
     steps = request.config.getoption("--steps")
     run_state_machine_as_test(Machine, settings=settings(
-        max_examples=max(1, steps // MEAN_STEPS), stateful_step_count=MOST_STEPS, deadline=None,
+        max_examples=max(1, steps // MEAN_EXCHANGES), stateful_step_count=MOST_STEPS, deadline=None,
         database=None, suppress_health_check=HealthCheck.all(), print_blob=False,
         phases=(Phase.generate, Phase.shrink)))
-    print(f"figure: {Machine.asked} exchanges, {sum(Machine.kinds.values())} answers to messages")
+    print(f"figure: {Machine.asked} exchanges, {sum(Machine.kinds.values())} answers to messages, of departments with "
+          f"{', '.join(f'{name} {count}' for name, count in sorted(Machine.additions.items()))}")
     if steps >= 1000:
         assert steps <= Machine.asked
+        assert {*ADDITIONS} == {*Machine.additions}, "each addition was there"
         assert set() == KINDS - {*Machine.kinds} - (RARE if steps < 20_000 else set()), "each kind of answer was due"

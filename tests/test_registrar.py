@@ -4,6 +4,7 @@ import base64
 import concurrent.futures
 import hashlib
 import http.client
+import io
 import json
 import os
 import shutil
@@ -17,10 +18,12 @@ from asking import department, key_line
 from providers import (CI, JOBS, OPERATORS, PEOPLE, SETTINGS, Inside, Provider, Registrar, StandIn, new_key, new_line,
                        tag, words)
 from running import PROGRAMS, run, said, until
-from vethlumi_registrar import logins
+from vethlumi_common.trail import record_of
+from vethlumi_registrar import logins, service
 from vethlumi_registrar.lines import Busy, Lines
-from vethlumi_registrar.settings import BadSettings, read_settings, settings_of
-
+from vethlumi_registrar.settings import read_settings, settings_of
+from vethlumi_signon.rights import tag_of
+from vethlumi_signon.settings import BadSettings
 
 
 @pytest.fixture
@@ -77,7 +80,7 @@ def test_a_login_becomes_an_issue(registrar, provider, office):
 
 def test_the_tag_is_of_issuer_and_subject_alone():
     """By sha256sum and base32: printf 'https://login.example.org\\n1234'."""
-    assert "ok76kvlxr4tzgdr6" == logins.tag_of("https://login.example.org", "1234")
+    assert "ok76kvlxr4tzgdr6" == tag_of("https://login.example.org", "1234")
 
 
 def test_request_ids_are_hashes_of_what_they_are_of():
@@ -202,6 +205,34 @@ def test_a_name_is_taken_byte_for_byte(registrar, provider, office, name):
         assert (403, "BadName") == (status, answer["error"]) and [] == office.messages()
 
 
+# By `{name}` of one department, names with what another template adds: to jobs, to nobody, and to a name that is none.
+@pytest.mark.parametrize("name, gets", [
+    ("site@jobs", None), ("build@ci", None), ("ana@people", "ana@people"), ("@jobs", "@jobs"), ("jobs", "jobs"),
+    ("site@jobs@jobs", None), ("site@jobs.example", "site@jobs.example")])
+def test_no_name_gives_what_a_template_gives_to_another_name(make_registrar, provider, office, name, gets):
+    every = department("people", admins="registrar", principals="{name}", extensions=["permit-pty"], maxlife=36060)
+    office.office.settle("root", "every-name", every.encode(), 0, b"")
+    line = new_line()
+    status, answer = make_registrar().post(provider.log_in(line, name, groups=[]), line)
+    if gets:
+        assert 200 == status and [gets] == principals(office)
+    else:
+        assert (403, "BadName") == (status, answer["error"]) and [] == office.messages()
+
+
+def test_nobody_is_called_as_another_one_of_two_templates(make_registrar, provider, office):
+    """As docs/SIGNON.md has them: ana@people would open what ana may open."""
+    text = SETTINGS.replace('principals = ["{{name}}"]', 'principals = ["{{name}}", "{{name}}@people"]')
+    both = department("people", admins="registrar", principals="{name},{name}@people", extensions=["permit-pty"],
+                      maxlife=36060)
+    office.office.settle("root", "two-templates", both.encode(), 0, b"")
+    registrar, line = make_registrar(text=text), new_line()
+    assert 200 == registrar.post(provider.log_in(line, "ana", groups=[]), line)[0]
+    assert ["ana,ana@people"] == principals(office)
+    status, answer = registrar.post(provider.log_in(line, "ana@people", groups=[]), line)
+    assert (403, "BadName") == (status, answer["error"]) and 1 == len(office.messages())
+
+
 @pytest.mark.parametrize("name", [None, 7, True, ["ana"], {"name": "ana"}], ids=str)
 def test_a_name_is_a_text(registrar, provider, name):
     line = new_line()
@@ -309,6 +340,13 @@ def test_whoever_comes_again_while_the_office_is_away_is_not_kept_out(make_regis
     assert [503] * 4 == [registrar.post(token, line)[0] for _ in range(4)]
     office.answer = None
     assert [200, 200, 429] == [registrar.post(token, line)[0] for _ in range(3)]
+
+
+def test_what_the_office_refuses_counts(make_registrar, provider, office):
+    """An account that was revoked asks the office no more often than others."""
+    registrar, line = make_registrar(more="[limits]\ncertificates = 1\nrequests = 3"), new_line()
+    token, office.answer = provider.log_in(line), OFFICES["KeyIdRevoked"][0]
+    assert [403, 403, 403, 429] == [registrar.post(token, line)[0] for _ in range(4)]
 
 
 def test_the_memory_of_people_has_an_end(monkeypatch):
@@ -479,11 +517,13 @@ def test_a_line_says_who_got_what(registrar, provider):
     name = f"people/ana/{tag(provider.issuer, 'subject of ana')}"
     wanted = {"from": "192.0.2.7", "method": "POST", "path": "/v1/login", "department": "people",
               "issuer": provider.issuer, "subject": "subject of ana", "issued": now, "name": "ana", "groups": ["ops"],
-              "keyid": name, "principals": ["ana", "ops@group"], "serial": 1, "status": 200}
+              "keyid": name, "principals": ["ana", "ops@group"], "serial": 1, "status": 200,
+              "source": "registrar", "event": "sign-on", "outcome": "accepted"}
     assert wanted == {it: found[it] for it in wanted}
     (registrar.journal.parent / "key.pub").write_text(line)
     assert found["key"] == run(["ssh-keygen", "-l", "-f", "key.pub"]).stdout.decode().split()[1]
     assert {"at", "request", "ms", "ms_office"} == {*found} - {*wanted} - {"key"}
+    assert found == record_of(json.dumps(found))
 
 
 def test_a_refusal_says_why_in_the_journal_alone(registrar, provider):
@@ -491,7 +531,62 @@ def test_a_refusal_says_why_in_the_journal_alone(registrar, provider):
     _, answer = registrar.post(provider.log_in(line, nonce="x"), line)
     _, other = registrar.post(provider.log_in(line, exp=1), line)
     assert answer == other and "nonce" not in str(answer)
-    assert ["token: the nonce isn't that of this key", "token: ended"] == [it["why"] for it in registrar.lines(2)]
+    lines = registrar.lines(2)
+    assert ["token: the nonce isn't that of this key", "token: ended"] == [it["why"] for it in lines]
+    # And the audit trail has it.
+    assert lines == [record_of(json.dumps(it)) for it in lines]
+    assert [("sign-on", "refused", "BadToken")] * 2 == [(it["event"], it["outcome"], it["reason"]) for it in lines]
+
+
+def test_only_logins_are_of_the_audit_trail(registrar):
+    for path in ("/v1/settings", "/v1/certificates/1", "/none"):
+        registrar.ask("GET", path)
+    assert [None] * 3 == [record_of(json.dumps(it)) for it in registrar.lines(3)]
+
+
+def test_strangers_keep_no_login_out_of_the_journal(make_registrar, provider, monkeypatch):
+    """journald drops lines, whoever's they are, if there are too many. So what needs no token that is believed gets a
+    room of its own: here 2000 bytes, and none that grows."""
+    monkeypatch.setattr(service, "ROOM_AT_ONCE", 2000)
+    monkeypatch.setattr(service, "ROOM_A_SECOND", 0)
+    registrar = make_registrar()
+    strange, line = [("GET", "/v1/certificates/77"), ("GET", "/v1/settings"), ("POST", "/v1/login")], new_line()
+    for method, path in strange * 20:
+        registrar.ask(method, path)
+    for key in (new_line(), new_line()):
+        registrar.post(provider.log_in(line, exp=1), key)
+    assert 403 == registrar.post(provider.log_in(line, "Ana"), line)[0]
+    before = [json.loads(it) for it in registrar.journal.read_text().splitlines()]
+    # A line that still fits may follow a longer one that didn't.
+    said, issued = sum(it.get("left_out", 0) for it in before), int(time.time()) - 1
+    assert 1700 < registrar.journal.stat().st_size <= 2000
+    assert 200 == registrar.post(provider.log_in(line, iat=issued), line)[0]
+    assert 409 == registrar.post(provider.log_in(line, "ben", sub="subject of ana", iat=issued), line)[0]
+    login, refused = registrar.lines()[len(before):]
+    assert (200, 63 - len(before) - said) == (login["status"], login["left_out"])
+    assert ("KeyReused", "ben") == (refused["error"], refused["name"]) and "left_out" not in refused
+
+
+def test_the_journal_has_room_again_later():
+    now, file = [1000.0], io.StringIO()
+    made, record = service.Journal(file, lambda: now[0]), {"path": "x" * 980}
+    length = len(json.dumps(record)) + 1
+    for _ in range(2000):
+        made.write(record, False)
+    count = (1 << 20) // length
+    assert count * length == len(file.getvalue())
+    now[0] += 1
+    made.write(record, False)
+    made.write(record, False)
+    now[0] += 1
+    made.write(record, False)
+    assert [2000 - count, 1] == [json.loads(it)["left_out"] for it in file.getvalue().splitlines()[count:]]
+
+
+def test_a_group_that_a_token_has_often_stands_once_in_the_line(registrar, provider):
+    line = new_line()
+    assert 200 == registrar.post(provider.log_in(line, groups=["ops", "dba"] * 200), line)[0]
+    assert ["ops", "dba"] == registrar.lines(1)[0]["groups"]
 
 
 # ---- HTTP
@@ -718,7 +813,7 @@ def test_check_says_what_settings_mean(room):
 def test_the_example_has_good_settings(room):
     (room / "key.pem").touch(0o600)
     text = (PROGRAMS / "registrar/registrar.toml").read_text()
-    for it in ("registrar.pem", "ca.crt"):
+    for it in ("registrar.pem", "ca.crt", "enrol.jwks"):
         text = text.replace(f"/etc/vethlumi/registrar/{it}", f"{room}/key.pem")
     assert 0 == check(text)[0]
 

@@ -8,10 +8,9 @@ import time
 import pytest
 
 from asking import department
-from providers import OPERATORS, PEOPLE, SETTINGS, Provider, Registrar, new_key, new_line, tag
-from running import fingerprint, free_port, run, until
+from providers import LOGINS, OPERATORS, PEOPLE, Provider, new_key, new_line, registrar_behind, tag
+from running import fingerprint, run, until
 from running import new_key as new_pair
-from stations import new_station
 
 
 @pytest.fixture
@@ -23,21 +22,8 @@ def provider():
 @pytest.fixture
 def behind(front, sshstation, provider, room):
     """A registrar between a front and its office, and a station that signs. `post` asks the front, as clients do."""
-    front.make("caller", "registrar")
-    policy = PEOPLE + OPERATORS
-    for text in (PEOPLE, OPERATORS):
-        assert 200 == front.session("root").post(f"{front.url}/v1/requests/{text.split()[1]}", data=text).status_code
-    port = free_port()
-    front.configure(("unix:/run/vethlumi-registrar.sock", f"127.0.0.1:{port}"))
-    front.reload()
-    trusted = front.authority / "ca.crt"
-    settings = SETTINGS.replace('caller = "registrar"', f'certificate = "{{more}}"\ncacert = "{trusted}"')
-    settings = settings.replace("{more}\n[provider", "[provider").partition("[workloads")[0]
-    made = Registrar(room, front.url, provider.issuer, text=settings, more=front.certificate("registrar"), port=port)
-    made.url, made.trusted = front.url, str(front.authority / "ca.crt")
-    made.front, made.office = front, front.office
-    made.station = new_station(sshstation, front.office, front.url, policy=policy, trusted=front.authority / "ca.crt",
-                               certificate=front.certificate("station"))
+    made = registrar_behind(front, sshstation, room, provider.issuer, LOGINS, [PEOPLE, OPERATORS])
+    made.office = front.office
     yield made
     made.end()
 
@@ -135,7 +121,7 @@ def test_however_often_it_is_killed_each_person_gets_one_certificate(behind, pro
         token = provider.log_in(lines[name], name, groups=[])
         found[name] = log_in_until_served(behind, token, lines[name], is_over)
 
-    threads = [threading.Thread(target=one, args=(name,)) for name in people]
+    threads = [threading.Thread(target=one, args=(name,), daemon=True) for name in people]
     for it in threads:
         it.start()
     for _ in range(kills):

@@ -13,12 +13,14 @@ from cryptography.hazmat.primitives import hashes, serialization
 from cryptography.hazmat.primitives.asymmetric import ec
 from cryptography.hazmat.primitives.asymmetric.utils import decode_dss_signature
 
+from forging import decoded, meaning, mutation
 from providers import CLIENT_ID, Provider, audience_of, encoded, hashed_by, new_key, new_line, nonce_of, public, signed
 from asking import key_line
-from vethlumi_registrar import keys as of_keys
-from vethlumi_registrar.keys import Keys, NoProvider
-from vethlumi_registrar.settings import Issuer
-from vethlumi_registrar.tokens import BadToken, verify
+from running import until
+from vethlumi_signon import keys as of_keys
+from vethlumi_signon.keys import Keys, NoProvider
+from vethlumi_signon.settings import Issuer
+from vethlumi_signon.tokens import BadToken, verify
 
 NOW = 1_800_000_000
 LINE = key_line(0x22)
@@ -115,7 +117,7 @@ FORGED = {
     "no iat": with_claims(iat=None), "no nonce": with_claims(nonce=None), "another nonce": with_claims(nonce="M"),
     "nonce a list": lambda it: signed(good(it, nonce=[nonce_of(LINE)]), EC), "no sub": with_claims(sub=None),
     "sub a number": with_claims(sub=7), "sub empty": with_claims(sub=""),
-    "signature changed": changed(lambda h, c, s: f"{h}.{c}.{s[:-2]}AA"),
+    "signature changed": changed(lambda h, c, s: f"{h}.{c}.{s[:9]}{'B' if s[9] == 'A' else 'A'}{s[10:]}"),
     "claims changed": lambda it: (lambda h, c, s: f"{h}.{encoded(good(it, sub='root'))}.{s}")(
         *signed(good(it), EC).split(".")),
     "JSON serialization": changed(lambda h, c, s: json.dumps({"payload": c, "signatures": [
@@ -171,10 +173,6 @@ def by_another_curve(claims):
     key = serialization.load_pem_private_key(P384.export_to_pem(private_key=True, password=None), None)
     numbers = decode_dss_signature(key.sign(text.encode(), ec.ECDSA(hashes.SHA256())))
     return f"{text}.{encoded(b''.join(it.to_bytes(48) for it in numbers))}"
-
-
-def decoded(part):
-    return base64.urlsafe_b64decode(part + "=" * (-len(part) % 4))
 
 
 def beyond(letter):
@@ -285,6 +283,10 @@ FORMS = {
         "aud": audience_of(LINE), "azp": "107517467455664443765", "email": "1-compute@developer.gserviceaccount.com",
         "email_verified": True, "exp": NOW + 3600, "iat": NOW, "iss": "{iss}", "sub": "107517467455664443765",
         "google": {"compute_engine": {"instance_id": "152986662232938449", "instance_name": "web1"}}}),
+    "AWS, a role's": ({"typ": "JWT"}, {
+        "aud": audience_of(LINE), "sub": "arn:aws:iam::123456789012:role/web", "iss": "{iss}", "exp": NOW + 300,
+        "iat": NOW, "jti": "a5b9e1c2-5d3f-4a7b-8c9d-0e1f2a3b4c5d", "https://sts.amazonaws.com/": {
+            "aws_account": "123456789012", "ec2_instance_source_vpc": "vpc-0a", "principal_tags": {"env": "live"}}}),
 }
 
 
@@ -298,63 +300,22 @@ def test_tokens_in_the_forms_of_issuers_are_believed(provider, people, form):
         verify(token, issuer, people[1], base64.b64decode(new_line().split()[1]), NOW)
 
 
+# What Azure signs for a machine: its audience is that of an application, which somebody registers by hand.
+AZURE = {"aud": "api://vethlumi", "iss": "{iss}", "iat": NOW, "nbf": NOW, "exp": NOW + 86400, "aio": "E2Z",
+         "appid": "1-2", "appidacr": "2", "idp": "{iss}", "oid": "8f1c-4d", "rh": "0.A", "sub": "8f1c-4d",
+         "tid": "9a-1", "uti": "q1b2", "ver": "1.0",
+         "xms_mirid": "/subscriptions/1/resourcegroups/a/providers/Microsoft.Compute/virtualMachines/web"}
+
+
+def test_a_token_that_is_for_no_key_and_has_no_number_counts_nowhere(provider, people):
+    """That of Azure has `uti`, and no `jti`: nothing says that it was used before."""
+    unbound, bound = (issuer_of(provider, ("RS256",), **it) for it in ({"audience": "api://vethlumi"}, {}))
+    for more, is_good in (({}, False), ({"jti": "q1b2"}, True)):
+        token = signed(AZURE | {"iss": provider.issuer} | more, RSA, typ="JWT", x5t="abc")
+        assert [is_good, False] == [is_believed(token, it, people[1]) for it in (unbound, bound)]
+
+
 # ---- random changes
-
-ALPHABET = string.ascii_letters + string.digits + "-_"
-
-
-def edit(text, chance):
-    """A text with one or two random edits of its letters."""
-    for _ in range(chance.choice([1, 1, 1, 2])):
-        at = chance.randrange(len(text) + 1)
-        letter = chance.choice(chance.choice([ALPHABET, ALPHABET, ".=+/ \n\x00é"]))
-        text = chance.choice([
-            lambda: text[:at] + letter + text[at + 1:], lambda: text[:at] + letter + text[at:],
-            lambda: text[:at] + text[at + 1:], lambda: text[:at] + text[at:at + 4].swapcase() + text[at + 4:],
-            lambda: text[:at], lambda: text[at:], lambda: text[:at] + text[at:at + 9] + text[at:]])()
-    return text
-
-
-def changed_value(value, chance):
-    """A value of JSON with one change somewhere within."""
-    if isinstance(value, dict) and value and chance.random() < 0.9:
-        name = chance.choice([*value])
-        kept = {it: value[it] for it in value if it != name}
-        return chance.choice([lambda: value | {name: changed_value(value[name], chance)}, lambda: kept,
-                              lambda: kept | {name.upper(): value[name]}, lambda: value | {"admin": True}])()
-    return chance.choice([None, True, 0, -1, NOW, 2 ** 63, 1e300, "", "root", [value], {"a": value}, [],
-                          f"{value} ", str(value)[:-1], str(value) + "x", value and [value, "x"]])
-
-
-def mutation(tokens, chance):
-    """A random change of a good token: of its text, its bytes, its JSON, or its parts, by those of others."""
-    token = chance.choice(tokens)
-    parts = token.split(".")
-    at = chance.randrange(3)
-    data = decoded(parts[at])
-
-    def with_part(new):
-        return ".".join(new if number == at else it for number, it in enumerate(parts))
-
-    def of_bits():
-        bit = chance.randrange(8 * len(data))
-        return with_part(encoded((int.from_bytes(data) ^ 1 << bit).to_bytes(len(data))))
-
-    def of_value():
-        value = changed_value(json.loads(data), chance) if at < 2 else bytes(chance.choices(range(256), k=len(data)))
-        return with_part(encoded(value))
-
-    return chance.choice([
-        lambda: edit(token, chance), of_bits, of_value,
-        lambda: with_part(chance.choice(tokens).split(".")[at]), lambda: with_part(parts[chance.randrange(3)]),
-        lambda: with_part(encoded(edit(data.decode("latin-1"), chance).encode())),
-    ])()
-
-
-def meaning(token):
-    """The decoded header, claims and signature of a token, read as leniently as can be."""
-    parts = [base64.urlsafe_b64decode("".join(it for it in part if it in ALPHABET) + "==") for part in token.split(".")]
-    return [json.loads(it) for it in parts[:2]] + parts[2:]
 
 
 def test_no_random_change_of_a_good_token_is_believed(provider, people, request):
@@ -556,6 +517,27 @@ def test_one_fetch_serves_all_who_come_at_once(own):
         it.join()
     assert {True: 17, False: 23} == {it: found.count(it) for it in (True, False)}
     assert 1 == pages(own)
+
+
+def test_strangers_who_wait_keep_nobody_out_whose_key_is_known(own):
+    """The keys are fetched again each five minutes. A provider that is slow then is waited for by sixteen logins, and
+    anybody can make up a token of an unknown key."""
+    key, is_over = own.keys[0], threading.Event()
+    assert own.believes(key)
+    own.before = lambda handler: is_over.wait(60) and None
+    own.clock.now += of_keys.FRESH
+    threads = [threading.Thread(target=lambda: own.believes(new_key("b"))) for _ in range(1 + of_keys.MOST_WAITING)]
+    for it in threads:
+        it.start()
+    until(lambda: of_keys.MOST_WAITING == own.known.waiting)
+    assert own.believes(key)
+    with pytest.raises(NoProvider, match="many wait"):
+        verify(signed(good(own), new_key("c")), issuer_of(own, client=CLIENT_ID), own.known, BLOB, NOW)
+    own.clock.now += of_keys.KEPT - of_keys.FRESH
+    assert not own.believes(key)
+    is_over.set()
+    for it in threads:
+        it.join()
 
 
 def test_keys_of_a_file_need_no_network(own, room):

@@ -123,7 +123,8 @@ def test_the_changelog_has_the_version_of_the_packages():
 
 def test_each_package_has_the_pages_to_which_its_own_page_leads(release):
     """Readable as they are, and byte for byte those of docs."""
-    due = {it: TOP / "docs" / it for it in ("DRILLS.md", "GLOSSARY.md", "INSTALLING.md", "OPERATING.md")}
+    pages = ("DAILY", "DRILLS", "GLOSSARY", "INSTALLING", "OPERATING", "SIGNON")
+    due = {f"{it}.md": TOP / f"docs/{it}.md" for it in pages}
     for name, file in release.items():
         if name.endswith(".deb"):
             files = run(["dpkg-deb", "--fsys-tarfile", file], check=True).stdout

@@ -11,6 +11,7 @@ import re
 import shutil
 import tempfile
 import threading
+import time
 
 import pytest
 
@@ -46,6 +47,8 @@ class Keys:
         signed.unlink(missing_ok=True)
         self.run("--local-user", key, "--clearsign", "--output", signed, release)
         release.with_name("Release.gpg").unlink(missing_ok=True)
+        # apt asks only for what is newer, in whole seconds, than what it has.
+        os.utime(signed, 2 * (time.time() + 5,))
 
 
 @pytest.fixture(scope="module")
@@ -208,6 +211,20 @@ def test_a_repository_is_replaced_by_a_later_one(room, keys, packages):
     assert sorted(it.name for it in packages[1:]) == sorted(it.name for it in (room / "apt/pool").rglob("*.deb"))
     assert ["apt"] == [it.name for it in room.iterdir()]
     assert {"dists", "pool", "vethlumi.asc"} == {it.name for it in (room / "apt").iterdir()}
+
+
+@pytest.mark.parametrize("ends", ["exit 1", "kill -TERM $PPID; sleep 1; exit 1"], ids=["a fault", "a signal"])
+def test_a_repository_is_not_lost_on_its_way_out(room, keys, packages, ends):
+    """The new one can't be put in place, once the old one is out of the way."""
+    assert 0 == make(room / "apt", keys, packages[0]).returncode
+    before = (room / "apt/dists/stable/InRelease").read_bytes()
+    (room / "bin").mkdir()
+    (room / "bin/mv").write_text(f'#!/bin/sh\ncase $2 in */made) {ends} ;; esac\nexec {shutil.which("mv")} "$@"\n')
+    (room / "bin/mv").chmod(0o755)
+    words = [REPOSITORY, "--out", room / "apt", "--key", keys.first, packages[1]]
+    done = run(words, env=keys.environment | {"PATH": f"{room}/bin:{os.environ['PATH']}"})
+    assert 0 != done.returncode and before == (room / "apt/dists/stable/InRelease").read_bytes()
+    assert ["apt", "bin"] == sorted(os.listdir(room))
 
 
 def test_everybody_may_read_a_repository(room, keys, packages):

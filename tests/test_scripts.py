@@ -43,15 +43,20 @@ PYTHON = sorted(str(it.relative_to(TOP)) for folder in ("examples", "programs/*"
 @pytest.mark.parametrize("name", [it for it in PYTHON if not it.startswith("debian/")])
 def test_a_script_of_python_runs_no_module_that_somebody_has_put_there(room, name):
     """Neither from the script's folder nor from PYTHONPATH: some of them have a private key, or are run by root."""
-    copied = shutil.copy(TOP / name, room)
+    place, common = room / "place", room / "common"
+    place.mkdir()
+    copied = shutil.copy(TOP / name, place)
     for it in (PROGRAMS / "setup").glob("*.py"):
-        shutil.copy(it, room)
-    for it in ("station/vethlumi_station", "registrar/vethlumi_registrar", "client/vethlumi"):
-        shutil.copytree(PROGRAMS / it, room / it.rpartition("/")[2])
-    for it in ("argparse", "datetime", "hashlib", "subprocess"):
-        (room / f"{it}.py").write_text("print('planted')\nraise SystemExit(9)\n")
+        shutil.copy(it, place)
+    for it in ("station/vethlumi_station", "registrar/vethlumi_registrar", "client/vethlumi", "common/vethlumi_common",
+               "signon/vethlumi_signon"):
+        shutil.copytree(PROGRAMS / it, place / it.rpartition("/")[2])
+    shutil.copytree(PROGRAMS / "common", common)
+    for it in ("argparse", "datetime", "hashlib", "re", "subprocess"):
+        for folder in (place, common):
+            (folder / f"{it}.py").write_text("print('planted')\nraise SystemExit(9)\n")
     assert 9 == run(["/usr/bin/python3", "-B", copied, "--help"]).returncode, "it would be run"
-    done = run([copied, "--help"], env=os.environ | {"PYTHONPATH": str(room)})
+    done = run([copied, "--help"], env=os.environ | {"PYTHONPATH": str(place)})
     assert (0, run([TOP / name, "--help"]).stdout) == (done.returncode, done.stdout)
 
 

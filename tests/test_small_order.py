@@ -10,10 +10,10 @@ import sys
 import pytest
 
 from fetching import Web, response, script
-from running import PROGRAMS, run
+from running import CLIENT, run
 from test_vethlumi import Client
 
-sys.path.insert(0, str(PROGRAMS / "client"))
+sys.path[:0] = CLIENT.split(":")
 from vethlumi import formats  # noqa: E402
 
 P = 2 ** 255 - 19

@@ -3,6 +3,7 @@
 What a guard answers of a body is compared in test_guard, and what the station around the program does in test_station.
 Digests are those of hashlib, the fingerprint is that of FORMATS, and the texts of help are those that clap 4 writes.
 """
+import base64
 import contextlib
 import errno
 import itertools
@@ -20,8 +21,9 @@ import asking
 import running
 from asking import (CA, LAST_SERIAL, LATEST, PRIME, SMALL_ORDER_KEYS, SMALL_ORDER_YS, batch, department, digest_of,
                     encoded, key_blob)
-from running import preloaded, run
-from stations import init
+from running import new_key, preloaded, run
+from stations import EVERY_EXTENSION, init
+from subject_keys import CERTIFICATES, ED25519, KEYS, LINES, MORE, NO_KEYS
 
 pytestmark = pytest.mark.rows
 
@@ -425,6 +427,61 @@ def test_a_key_for_which_everybody_can_sign_is_not_permitted(guard, room, keys, 
 def test_a_key_of_small_order_is_refused_in_the_order_of_the_numbers(guard, room, of, answer):
     put(room, a=body(**{"key": SMALL_ORDER_KEYS[2]} | of))
     assert (0, f"refuse {answer}\n", "") == guard.judge("a")
+
+
+@pytest.mark.parametrize("kind", [it for it in KEYS if it != ED25519])
+def test_a_key_of_another_type_is_not_permitted(guard, room, kind):
+    of = {"type_name": CERTIFICATES[kind].encode(), "key": KEYS[kind]}
+    put(room, a=body(**of), other=body(**of | {"keyid": "other/alice"}), host=body(**of | {"kind": 2}),
+        ended=body(**of | {"after": 1, "before": 2}))
+    lines = "".join(f"refuse {it}\n" for it in ("NotPermitted", "NoDepartment", "OtherKind", "NotPermitted"))
+    assert (0, lines, "") == guard.judge("a", "other", "host", "ended")
+    assert [] == guard.bodies()
+
+
+def test_a_certificate_of_ssh_keygen_for_each_type_is_read(sshstation, room):
+    """Each is the body of ssh-keygen's certificate: for Ed25519 it is approved, and for another type it is a body that
+    the policy doesn't permit."""
+    ca = new_key("ca")
+    (room / "ca.pub").write_text(f"{ca}\n")
+    (room / "policy").write_text(department(extensions=EVERY_EXTENSION))
+    made = Guard(sshstation)
+    assert 0 == made.run(*INIT)[0]
+    for serial, line in enumerate(LINES.values(), 1):
+        (room / f"{serial}.pub").write_text(f"{line} a comment\n")
+        run(["ssh-keygen", "-q", "-s", "ca", "-I", "web/alice", "-n", "alice", "-z", serial, "-V", "-1m:+1h",
+             f"{serial}.pub"], check=True)
+        name, certificate, *_ = (room / f"{serial}-cert.pub").read_text().split(" ")
+        data = base64.b64decode(certificate)[:-87]
+        assert [*LINES][serial - 1] == line.split()[0] and data[4:].startswith(name.encode())
+        (room / f"body{serial}").write_bytes(data)
+    status, out, err = made.judge(*(f"body{serial}" for serial in range(1, len(LINES) + 1)))
+    answers = [it if it.startswith("refuse") else it.split()[0] for it in out.splitlines()]
+    assert (0, "") == (status, err)
+    assert {kind: "sign" if kind == ED25519 else "refuse NotPermitted" for kind in LINES} == dict(zip(LINES, answers))
+
+
+def cases(keys, answer):
+    return [(CERTIFICATES[kind].encode(), key, answer) for kind, key in keys]
+
+
+@pytest.mark.parametrize("type_name, key, answer", [
+    *cases(MORE, "NotPermitted"), *cases(NO_KEYS, "NotABody BadKey"),
+    *((it, [bytes([0x22]) * 32], "NotABody WrongType") for it in (
+        b"", b"ssh-ed25519", b"ssh-dss-cert-v01@openssh.com", b"ssh-rsa-cert-v00@openssh.com"))])
+def test_a_key_has_the_one_form_of_its_type(guard, room, type_name, key, answer):
+    put(room, a=body(type_name=type_name, key=key))
+    assert (0, f"refuse {answer}\n", "") == guard.judge("a")
+
+
+@pytest.mark.parametrize("kind", KEYS)
+def test_a_body_that_is_cut_is_none(guard, room, kind):
+    data = body(type_name=CERTIFICATES[kind].encode(), key=KEYS[kind])
+    ends = [it for it in range(len(data)) if it < 120 or it % 37 == 0]
+    put(room, **{f"body{it}": data[:it] for it in ends})
+    status, out, err = guard.judge(*(f"body{it}" for it in ends))
+    assert (0, "") == (status, err)
+    assert dict.fromkeys(ends, "refuse NotABody Truncated") == dict(zip(ends, out.splitlines()))
 
 
 def test_what_was_approved_for_a_key_of_small_order_is_signed_again(guard, room):

@@ -4,7 +4,7 @@ import subprocess
 
 import pytest
 
-from running import TOP
+from running import TOP, loaded
 
 FILES = {
     "crates/low/specs/Shapes.antt": """\
@@ -108,3 +108,37 @@ def test_what_is_counted_and_the_toolchains_names(statement):
 def test_a_function_that_is_not_there_is_named(statement):
     done = statement("high::subtract")
     assert (1, "", "tools/statement: high::subtract: no such function\n") == (done.returncode, done.stdout, done.stderr)
+
+
+# ---- the page
+
+@pytest.fixture
+def script():
+    return loaded(TOP / "tools/statement")
+
+
+def test_a_body_that_begins_with_record_is_no_definition(script, tmp_path):
+    first = "-- of a number\nabbrev pub box_of : ℕ → Box\nbox_of n =\n    record { side = n }"
+    second = "abbrev pub one : ℕ\none = 1"
+    (tmp_path / "Boxes.antt").write_text(f"{first}\n\n{second}\n")
+    script.TOP = tmp_path
+    assert {"box_of": first, "one": second} == script.pieces("Boxes.antt")
+
+
+def test_what_is_cited_once_comes_below_its_citer(script):
+    """`a` cites b and c, b cites c and d, and d, of another file, cites e. Only c is cited twice."""
+    a, b, c = (script.Definition("crates/x/specs/Near.antt", name, f"abbrev {name}") for name in "abc")
+    d, e = (script.Definition("crates/x/specs/Far.antt", name, f"abbrev {name}") for name in "de")
+    found = {a: [b, c], b: [c, d], c: [], d: [e], e: []}
+    below = script.nested(found, {*found})
+    assert [(a, 0), (b, 1), (d, 2), (e, 3)] == [*script.tree(a, below)] and [(c, 0)] == [*script.tree(c, below)]
+    due = ["abbrev a", "  abbrev b", "    -- from crates/x/specs/Far.antt\n    abbrev d", "      abbrev e"]
+    assert "\n\n".join(due) == script.shown_tree(a, below)
+
+
+def test_what_another_part_shows_is_not_followed(script):
+    a, b, c, d = (script.Definition("crates/x/specs/X.antt", name, f"abbrev {name}") for name in "abcd")
+    found = {a: [b, c], b: [d], c: [], d: []}
+    assert {a, c} == script.reached_without(found, [a], {b})
+    assert {a, b, c, d} == script.reached_without(found, [a], set())
+    assert {a, c, d} == script.reached_without(found, [a, d], {b})

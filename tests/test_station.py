@@ -1,9 +1,11 @@
 """The station and the guard beside the CA's key: a false office, an old backup, keys in a token and in an agent, a
 rollover, and a guard that is killed. What is signed is tried with ssh-keygen and sshd."""
 import base64
+import concurrent.futures
 import contextlib
 import getpass
 import math
+import multiprocessing
 import os
 import pathlib
 import random
@@ -23,11 +25,13 @@ import pytest
 
 from asking import (LAST_SERIAL, LATEST, blob_of, body, department, digest_of, issue, key_blob, lasting, revoke_keyid,
                     revoke_range, rollover, string)
-from fetching import Web, response, silent
-from recording import whole_request
+from fetching import Web, folder_of_nobody, response, silent
+from publishing import krl, section
+from recording import posting, whole_request
 from running import PROGRAMS, free_port, is_listening, preloaded, run, until, write_secret
-from stations import (EVERY_EXTENSION, EVERY_OPTION, Guard, Lists, Station, begin_agent, new_guard, new_station, part,
-                      stopped)
+from stations import (EVERY_EXTENSION, EVERY_OPTION, Guard, Lists, Station, begin_agent, children, locked, new_guard,
+                      new_station, part, stopped)
+from subject_keys import CERTIFICATES, KEYS
 
 WEB = department("web", principals="alice", extensions="permit-pty")
 
@@ -63,9 +67,9 @@ def certificate_of(served, serial, name):
 
 class Sshd:
     """An sshd that trusts CAs, by a file of their lines, and lets in whoever has a certificate for the principal alice
-    or root."""
+    or root. It may have more lines of settings."""
 
-    def __init__(self, programs, room, cas):
+    def __init__(self, programs, room, cas, *more):
         self.port = free_port()
         self.log = room / "sshd.log"
         run(["ssh-keygen", "-q", "-t", "ed25519", "-N", "", "-f", room / "host"], check=True)
@@ -74,18 +78,23 @@ class Sshd:
         (room / "sshd_config").write_text(
             f"ListenAddress 127.0.0.1\nPort {self.port}\nHostKey {room}/host\nTrustedUserCAKeys {room}/trusted\n"
             f"AuthorizedPrincipalsFile {room}/principals\nAuthorizedKeysFile none\nPasswordAuthentication no\n"
-            f"KbdInteractiveAuthentication no\nPidFile none\nStrictModes no\nUsePAM no\nLogLevel VERBOSE\n")
+            f"KbdInteractiveAuthentication no\nPidFile none\nStrictModes no\nUsePAM no\nLogLevel VERBOSE\n"
+            + "".join(f"{it}\n" for it in more))
         if not os.getuid():
             pathlib.Path("/run/sshd").mkdir(exist_ok=True)
         programs.begin(["/usr/sbin/sshd", "-D", "-f", room / "sshd_config", "-E", self.log])
         until(lambda: is_listening(self.port))
 
-    def grants(self, name):
-        """Whether it lets in whoever has this key and the certificate beside it."""
-        words = ["ssh", "-F", "none", "-i", name, "-o", f"CertificateFile={name}-cert.pub", "-o", "BatchMode=yes",
+    def login(self, key, certificate, *more, **environment):
+        """What comes of a login with this key and this certificate, and with more words of ssh."""
+        words = ["ssh", "-F", "none", *more, "-i", key, "-o", f"CertificateFile={certificate}", "-o", "BatchMode=yes",
                  "-o", "IdentitiesOnly=yes", "-o", "StrictHostKeyChecking=no", "-o", "UserKnownHostsFile=/dev/null",
                  "-p", self.port, f"{getpass.getuser()}@127.0.0.1", "echo", "granted"]
-        return run(words, env=os.environ | {"SSH_AUTH_SOCK": ""}).stdout == b"granted\n"
+        return run(words, env=os.environ | {"SSH_AUTH_SOCK": ""} | environment)
+
+    def grants(self, name):
+        """Whether it lets in whoever has this key and the certificate beside it."""
+        return self.login(name, f"{name}-cert.pub").stdout == b"granted\n"
 
 
 @pytest.fixture
@@ -169,6 +178,29 @@ class WaitingOffice(FalseOffice):
             self.was_asked.set()
             self.may_answer.wait(60)
         super().finish_request(peer, address)
+
+
+class ListingOffice(FalseOffice):
+    """One that has a list of what is revoked, and takes what is published. At requests with the beginning `hangs_at` it
+    hangs."""
+
+    def __init__(self, bodies, data, hangs_at=None):
+        super().__init__(bodies)
+        self.list, self.hangs_at, self.hangs, self.published = data, hangs_at, False, []
+
+    def finish_request(self, peer, address):
+        begun = peer.recv(16, socket.MSG_PEEK)
+        if self.hangs_at and begun.startswith(self.hangs_at):
+            self.hangs = True
+            time.sleep(600)
+        if begun.startswith(b"PUT "):
+            self.published.append(whole_request(peer))
+            peer.sendall(response(b"", "204 No Content"))
+        elif begun.startswith(b"GET /v1/krl "):
+            whole_request(peer)
+            peer.sendall(response(self.list))
+        else:
+            super().finish_request(peer, address)
 
 
 class KeepingOffice(FalseOffice):
@@ -289,8 +321,24 @@ def test_a_body_under_another_serial_uses_none_up(alone):
     assert [] == alone.bodies()
 
 
-def test_a_body_says_its_serial_if_it_is_long_enough(alone):
-    serial_of, text = part("guard").serial_of, body(7, ca=alone.blob)
+def test_a_body_of_another_digest_uses_no_serial_up(alone):
+    """The guard isn't asked about it, although it would approve it."""
+    said = ["station: not signed: 1, its body has another digest than the one that is pending: 1"]
+    assert (1, [], said, []) == shown(alone, {1: body(ca=alone.blob)}, [(1, NOBODY)])
+    assert [] == alone.bodies()
+
+
+def test_a_validity_may_begin_no_later_than_the_station_is_told(alone):
+    text = body(ca=alone.blob, after=int(time.time()) + 600, before=int(time.time()) + 1200)
+    said = ["station: not signed: 1, refused as TooFarAhead: 1"]
+    assert (1, [], said, []) == shown(alone, {1: text}, ahead=0)
+    assert (0, ["signed 1"], []) == shown(alone, {1: text}, ahead=3600)[:3]
+
+
+@pytest.mark.parametrize("kind", KEYS)
+def test_a_body_says_its_serial_if_it_is_long_enough(kind):
+    serial_of = part("guard").serial_of
+    text = body(7, ca=key_blob(0x11), key=KEYS[kind], type_name=CERTIFICATES[kind].encode())
     whole = text.index((7).to_bytes(8, "big")) + 8
     assert {None} == {serial_of(text[:size]) for size in range(whole)}
     assert {7} == {serial_of(text[:size]) for size in range(whole, len(text) + 1)}
@@ -371,20 +419,34 @@ def test_short_lines_take_no_more_memory_than_long_ones(alone):
 @pytest.mark.slow
 @pytest.mark.timeout(1500)
 def test_the_memory_of_the_unit_suffices_for_as_many_rows_as_are_read(alone, programs):
-    """Each has a reason of its own, of which a false office makes up as many as it likes: that takes the most. Beside
-    the station there is room for a guard with a million certificates, of which docs/GROWING.md has the size, and for
-    ssh-keygen."""
+    """Each has a reason of its own, of which a false office makes up as many as it likes: that takes the most. Here
+    they are made up without asking it, which would take twice as long. Beside the station there is room for a
+    guard with a million certificates, of which docs/GROWING.md has the size, and for ssh-keygen."""
     with FalseOffice({}) as web:
         web.rows = "".join(f"{place % 9 + 1} {place:064x}\n" for place in range(1_001_625))
         station = Station(alone, web.url, alone.key)
-        station.change("body = self.office.body(serial, connection)\n",
-                       'raise OSError(3 * " ".join(digest[it:it + 8] for it in range(0, 64, 8)))\n')
+        station.change("self.fetching.do(future, self.fetch, row, body)\n",
+                       'future.set_exception(OSError(3 * " ".join(row[it:it + 8] for it in range(2, 66, 8))))\n')
         process = station.begin(programs, stderr=subprocess.DEVNULL)
         web.begins_rounds(3, seconds=1400)
         [peak] = re.findall(r"^VmHWM:\s+(\d+) kB$", pathlib.Path(f"/proc/{process.pid}/status").read_text(), re.M)
     unit = (PROGRAMS / "units/office-station@.service").read_text()
     [limit] = re.findall(r"^MemoryMax=(\d+)G$", unit, re.M)
     assert (int(peak) << 10) + 372_000_000 + part("limits").MOST_MEMORY < int(limit) << 30
+
+
+def test_a_report_that_takes_long_is_made_less_often(monkeypatch):
+    """That of a million rows takes seconds. It gets a tenth of a round's time, however slow the machine is."""
+    rounds, clock = part("rounds"), [0.0]
+    monkeypatch.setattr(rounds, "time", types.SimpleNamespace(monotonic=lambda: clock[0]))
+    for taken, pause in ((0, 5), (0.5, 5), (0.75, 7.5), (2, 20)):
+        def left():
+            clock[0] += taken
+            return {}
+        station = types.SimpleNamespace(left_by_reason=left, is_whole=True, left={},
+                                        said=types.SimpleNamespace(say=lambda *_: True))
+        rounds.Station.report(station)
+        assert pause == station.silent_until - clock[0]
 
 
 # An answer with a chunk of fewer than no bytes, at which Python's http.client raises a ValueError.
@@ -581,7 +643,7 @@ def test_a_long_signature_says_what_was_refused(alone, programs):
 
 
 @pytest.mark.slow
-def test_what_was_refused_is_said_before_a_list_is_published(alone, programs, sshstation):
+def test_what_was_refused_is_said_while_a_list_is_published(alone, programs, sshstation):
     """A front may make that last for minutes. The first list comes at once, and the second body while the next list is
     not due yet."""
     class Slow(FalseOffice):
@@ -601,7 +663,7 @@ def test_what_was_refused_is_said_before_a_list_is_published(alone, programs, ss
         process = station.begin(programs, "--publish-every", "1")
         said = b"station: the list isn't published: 404 refused 17 UnknownSerial\n"
         assert said == next_line(process.stderr)
-        assert re.match(rb"station: not signed: [12], refused as NotPermitted: 1", next_line(process.stderr, 30))
+        assert re.match(rb"station: not signed: [1-3], refused as NotPermitted: 1", next_line(process.stderr, 30))
 
 
 class Dripping(Web):
@@ -677,12 +739,12 @@ def test_a_name_is_looked_up(alone):
 OFTEN_AT_THE_END = """
 import random, signal, sys, time
 sys.path.insert(0, sys.argv[1])
-from vethlumi_station import ending as station
+from vethlumi_common import deadlines
 ends = [0, 0]
 for _ in range(5000):
     end = time.perf_counter() + 0.0003 + random.uniform(-5e-6, 20e-6)
     try:
-        station.at_most(0.0003, lambda: [None for _ in iter(lambda: time.perf_counter() < end, False)])
+        deadlines.at_most(0.0003, lambda: [None for _ in iter(lambda: time.perf_counter() < end, False)])
         ends[0] += 1
     except OSError:
         ends[1] += 1
@@ -694,8 +756,36 @@ print(*(it > 0 for it in ends))
 def test_an_alarm_at_the_end_of_what_is_limited_is_no_other_fault():
     """In a process of its own, where no test has an alarm. Those that come as the work ends come at each of its steps.
     """
-    done = run([sys.executable, "-c", OFTEN_AT_THE_END, PROGRAMS / "station"])
+    done = run([sys.executable, "-c", OFTEN_AT_THE_END, PROGRAMS / "common"])
     assert (0, b"True True\n", b"") == (done.returncode, done.stdout, done.stderr)
+
+
+LOST_ALARM = """
+import sys, time
+sys.path.insert(0, sys.argv[1])
+from vethlumi_common import deadlines
+
+class Deleted:
+    def __del__(self):
+        time.sleep(2)
+
+def work():
+    Deleted()
+    time.sleep(60)
+
+begun = time.monotonic()
+try:
+    deadlines.at_most(0.1, work)
+except OSError as fault:
+    print(fault, time.monotonic() - begun < 30)
+"""
+
+
+def test_an_alarm_that_is_lost_comes_again():
+    """Python loses what it raises while it deletes an object."""
+    done = run([sys.executable, "-c", LOST_ALARM, PROGRAMS / "common"])
+    assert (0, b"not within 0.1 seconds True\n") == (done.returncode, done.stdout)
+    assert b"Overdue" in done.stderr
 
 
 def test_what_is_another_text_each_time_is_left_out():
@@ -839,6 +929,29 @@ def test_what_was_refused_holds_up_nothing_new(alone, programs):
         assert ["station: not signed: 2, refused as NotPermitted: 1-2"] == errors
 
 
+def test_the_pause_before_a_next_try_grows_to_a_minute(monkeypatch):
+    rounds = part("rounds")
+    monkeypatch.setattr(rounds, "time", types.SimpleNamespace(monotonic=lambda: 100))
+    for tries, pause in ((0, 1), (1, 2), (5, 32), (6, 60), (9, 60), (10 ** 6, 60)):
+        station = types.SimpleNamespace(left={}, tries=lambda row: tries)
+        rounds.Station.leave(station, "7 row", "a reason", None)
+        assert {"7 row": (tries + 1, 100 + pause, "a reason", None)} == station.left
+
+
+def test_an_address_whose_way_is_gone_is_not_left_out(monkeypatch):
+    """Only one of a kind to which this machine never had a way."""
+    module, ways = part("addresses"), {"127.0.0.1"}
+    monkeypatch.setattr(module, "has_route", lambda address: address in ways)
+    found, routed = module.numeric("127.0.0.1", 9) + module.numeric("::1", 9), set()
+    assert ["127.0.0.1"] == module.fronts_at(found, routed)
+    ways.add("::1")
+    assert ["127.0.0.1", "::1"] == module.fronts_at(found, routed)
+    ways.remove("::1")
+    assert ["127.0.0.1", "::1"] == module.fronts_at(found, routed)
+    ways.clear()
+    assert ["127.0.0.1", "::1"] == module.fronts_at(found, set()), "without any way all are tried"
+
+
 def test_a_body_of_another_ca_is_left_alone(alone, room):
     other = key_blob(0x12)
     (room / "others.pub").write_text(
@@ -862,6 +975,19 @@ def test_the_office_says_why_a_delivery_is_refused(alone):
     with RefusingOffice({1: body(ca=alone.blob)}) as web:
         said = ["station: the signature of 1 isn't taken: 409 refused 19 Revoked",
                 "station: not signed: 1, its signature isn't taken: 409 refused 19 Revoked: 1"]
+        assert (1, [], said) == Station(alone, web.url, alone.key).once()
+
+
+@pytest.mark.parametrize("answer", ["", "signed 2\n", "signed 1", "signed 1\n\n", "signed 10\n"])
+def test_another_answer_to_a_delivery_than_its_own_is_none(alone, answer):
+    class Answering(FalseOffice):
+        def answer_to(self, delivery):
+            return response(answer.encode())
+
+    with Answering({1: body(ca=alone.blob)}) as web:
+        why = f"the answer to the delivery is {answer}".replace("\n", "?")
+        said = [f"station: the signature of 1 isn't taken: {why}",
+                f"station: not signed: 1, its signature isn't taken: {why}: 1"]
         assert (1, [], said) == Station(alone, web.url, alone.key).once()
 
 
@@ -964,6 +1090,16 @@ def test_an_approval_of_another_body_signs_nothing(alone, line):
         assert [] == web.delivered
         station.runs_in_place_of("sshstation", answering(f"sign 1 {digest_of(made)}"))
         assert (0, ["signed 1"], []) == station.once(), "it takes the right line"
+
+
+def test_half_an_answer_of_a_guard_signs_nothing(alone):
+    """One that was killed may have printed it before its commit."""
+    made = body(ca=alone.blob)
+    with FalseOffice({1: made}) as web:
+        station = Station(alone, web.url, alone.key)
+        station.runs_in_place_of("sshstation", f"read -r line; printf 'sign 1 {digest_of(made)}'")
+        assert (1, [], ["station: the guard has ended with status 0"]) == station.once()
+        assert [] == web.delivered
 
 
 def test_a_guard_judges_what_is_signed(alone):
@@ -1240,6 +1376,78 @@ def test_a_guard_that_cannot_judge_ends_the_station(alone, spoil, why):
     assert (1, [], f"sshstation: {why}") == (status, out, errors[0])
 
 
+def in_place_of(path, put):
+    path.unlink()
+    put(path)
+
+
+@pytest.mark.parametrize("spoil, fault, why", [
+    (lambda guard: guard.policy.unlink(), "File", "{guard.policy}: No such file or directory"),
+    (lambda guard: in_place_of(guard.policy, lambda it: it.mkdir()), "File", "{guard.policy} is no regular file"),
+    (lambda guard: in_place_of(guard.policy, lambda it: it.symlink_to("gone")), "File",
+     "{guard.policy} is a link to gone: No such file or directory"),
+    (lambda guard: guard.permit(f"{'#' * 1023}\n" * 1024 + "\n"), "File",
+     "{guard.policy} has 1048577 bytes, and a policy at most 1048576"),
+    (lambda guard: guard.permit("department web\n"), "BadPolicy 2", None),
+    (lambda guard: guard.db.rename("elsewhere"), "NotAGuard", "{guard.db}: No such file or directory"),
+    (lambda guard: os.link(guard.db, "another"), "Device", "{guard.db} has 2 names, and a guard's file only one"),
+    (lambda guard: in_place_of(pathlib.Path(f"{guard.db}-wal"), lambda it: it.mkdir()), "Device",
+     "{guard.db}-wal is no regular file"),
+], ids=["no policy", "a folder", "a link", "a long policy", "a bad policy", "no guard", "two names", "no log"])
+def test_it_is_said_which_file_a_guard_cannot_use(alone, programs, spoil, fault, why):
+    """The guard names its fault, and the station the file, once: with --once, and if it would go on."""
+    spoil(alone)
+    said = [f"sshstation: {fault}", *([f"station: {why.format(guard=alone)}"] if why else [])]
+    with Web(response(b"")) as web:
+        station = Station(alone, web.url, alone.key)
+        assert (1, [], said) == station.once()
+        process = station.begin(programs)
+        assert 1 == process.wait(60)
+    assert [*said, "station: the guard has ended with status 1"] == process.stderr.read().decode().splitlines()
+
+
+def test_the_longest_policy_is_one_that_a_guard_reads(alone):
+    alone.permit(WEB + "\n" + "#" * (1048574 - len(WEB)) + "\n")
+    assert 1048576 == alone.policy.stat().st_size
+    with Web(response(b"")) as web:
+        assert (0, [], []) == Station(alone, web.url, alone.key).once()
+
+
+def test_it_is_said_who_has_locked_the_guard_s_file(alone):
+    with Web(response(b"")) as web, locked(alone.db) as why:
+        assert (1, [], ["sshstation: Device", f"station: {why}"]) == Station(alone, web.url, alone.key).once()
+
+
+def seen_by_nobody(look, *words):
+    """What a function of the station says to a user without rights."""
+    def become_nobody():
+        os.setgroups([])
+        os.setresgid(65534, 65534, 65534)
+        os.setresuid(65534, 65534, 65534)
+    with concurrent.futures.ProcessPoolExecutor(1, multiprocessing.get_context("fork"), become_nobody) as pool:
+        return pool.submit(look, *words).result(60)
+
+
+@pytest.mark.root
+@pytest.mark.parametrize("is_database, can", [(False, "read"), (True, "read and write")])
+def test_it_is_said_whose_file_the_station_s_user_cannot_use(is_database, can):
+    """A file that root has edited may be root's afterwards. Set-up gives the unit's files the mode 600."""
+    look = part("files").unusable_database if is_database else part("files").unusable
+    rest = () if is_database else (False,)
+    with folder_of_nobody() as folder:
+        file = pathlib.Path(folder, "file")
+        file.touch(0o600)
+        assert f"nobody can't {can} {file}: it belongs to root, and has mode 600" == seen_by_nobody(look, file, *rest)
+        shutil.chown(file, "nobody")
+        assert "" == seen_by_nobody(look, file, *rest)
+        shutil.chown(folder, "root")
+        said = seen_by_nobody(look, file, *rest)
+        assert (f"nobody can't write in {folder}, where {file} needs a log" if is_database else "") == said
+        os.chmod(folder, 0o700)
+        said = seen_by_nobody(look, file, *rest)
+        assert f"{file} can't be reached: nobody may not enter {folder}" == said
+
+
 def test_a_guard_that_hangs_ends_the_station(alone, programs):
     with FalseOffice({1: body(ca=alone.blob)}, []) as web:
         station = Station(alone, web.url, alone.key)
@@ -1367,6 +1575,18 @@ def test_a_front_of_another_authority_gets_nothing(front, sshstation, room):
     assert (0, [], []) == Station(guard, front.url, key, trusted=front.authority / "ca.crt", **how).once()
 
 
+@pytest.mark.front
+def test_a_front_of_another_name_gets_nothing(alone, make_front):
+    """Its certificate is by the authority, for the name of another machine."""
+    with FalseOffice({1: body(ca=alone.blob)}) as web:
+        front = make_front(web.port, address="127.0.0.2")
+        station = Station(alone, f"https://127.0.0.2:{front.port}", alone.key,
+                          certificate=front.certificate("station"), trusted=front.authority / "ca.crt")
+        status, out, errors = station.once()
+        assert (1, [], 1, []) == (status, out, len(errors), web.requests)
+        assert "CERTIFICATE_VERIFY_FAILED" in errors[0] and "IP address mismatch" in errors[0]
+
+
 def test_a_station_ends_with_its_guard(asked, programs):
     def is_guard(pid):
         with contextlib.suppress(OSError):
@@ -1377,10 +1597,6 @@ def test_a_station_ends_with_its_guard(asked, programs):
     os.kill(guard, signal.SIGKILL)
     assert 1 == process.wait(60)
     assert b"station: the guard has ended with status -9\n" == process.stderr.read()
-
-
-def children(pid):
-    return [int(it) for it in pathlib.Path(f"/proc/{pid}/task/{pid}/children").read_text().split()]
 
 
 @pytest.mark.slow
@@ -1404,21 +1620,194 @@ def test_a_station_that_is_killed_signs_all_the_same(asked, programs):
     assert digests == {serial: digest for serial, digest, *_ in asked.guard.bodies()}
 
 
-@pytest.mark.front
-def test_a_front_says_when_to_look(front, sshstation, programs):
-    """At once, however long the station would wait otherwise. What the front says is a hint alone: it looks a second
-    later, too."""
+@pytest.fixture
+def listening(front, sshstation, programs):
+    """A station that looks for certificates when a front says so, and else after a day. It has looked once."""
+    def begin(*addresses):
+        station = new_station(sshstation, front.office, front.url, policy=WEB, ahead=3600,
+                              certificate=front.certificate("station"), trusted=front.authority / "ca.crt")
+        if addresses:
+            station.resolve(*addresses)
+        # Nor does it look often in the minute after one has come.
+        station.change("FOR_A_WHILE, LONG_ANSWER, TIMES_AS_LONG, LONGEST_INTERVAL = 0.02, 60,",
+                       "FOR_A_WHILE, LONG_ANSWER, TIMES_AS_LONG, LONGEST_INTERVAL = 0.02, 0,")
+        process = station.begin(programs, "--interval", "86400")
+        until(lambda: children(process.pid))
+        time.sleep(2)
+        return process
+
     assert 200 == front.served.post("root", "web", WEB).status
     new_key("alice")
-    station = new_station(sshstation, front.office, front.url, policy=WEB, ahead=3600,
-                          certificate=front.certificate("station"), trusted=front.authority / "ca.crt")
-    process = station.begin(programs, "--interval", "86400")
-    ana = front.session("ana")
+    return begin
+
+
+def asks_by(front, process, number):
+    """Somebody asks by a front, and the station signs."""
+    message = issue("web/alice", key=pathlib.Path("alice.pub").read_text().strip(), **lasting(3600))
+    assert 200 == front.ask(posting(f"/v1/requests/r{number}", message.encode()), "ana").status
+    assert f"signed {number}\n".encode() == next_line(process.stdout)
+
+
+@pytest.mark.front
+def test_a_front_says_when_to_look(front, listening):
+    """However long the station would wait otherwise."""
+    process = listening()
     for number in range(1, 4):
-        message = issue("web/alice", key=pathlib.Path("alice.pub").read_text().strip(), **lasting(3600))
-        assert 200 == ana.post(f"{front.url}/v1/requests/r{number}", data=message.encode()).status_code
-        assert f"signed {number}\n".encode() == next_line(process.stdout)
+        asks_by(front, process, number)
     assert 0 == stopped(process)[0]
+
+
+@pytest.mark.front
+def test_each_front_of_a_name_says_when_to_look(front, make_front, listening):
+    """Each knows of its own messages alone. One that is away keeps nobody from hearing of the other's."""
+    second = make_front(front.served.port, address="127.0.0.2", beside=front)
+    process = listening("127.0.0.1", "127.0.0.2")
+    for number, it in enumerate((front, second, second, front), 1):
+        asks_by(it, process, number)
+    second.end()
+    asks_by(front, process, 5)
+    second.begin()
+    asks_by(second, process, 6)
+    assert 0 == stopped(process)[0]
+
+
+@pytest.mark.front
+@pytest.mark.alone
+@pytest.mark.parametrize("edits, is_often", [
+    ([], False), ([("location = /v1/messages {", "location = /v1/nothing {")], True),
+], ids=["both say it", "one doesn't"])
+def test_the_office_is_asked_often_unless_each_front_says_when_to_look(alone, make_front, programs, edits, is_often):
+    """20 times a second, and once a second otherwise."""
+    with FalseOffice({}) as web:
+        first = make_front(web.port)
+        make_front(web.port, address="127.0.0.2", beside=first, edits=edits)
+        station = Station(alone, first.url, alone.key, certificate=first.certificate("station"),
+                          trusted=first.authority / "ca.crt")
+        station.resolve("127.0.0.1", "127.0.0.2")
+        station.begin(programs)
+        web.begins_rounds(5)
+        time.sleep(2)
+        before = len(web.requests)
+        time.sleep(4)
+        assert is_often == (len(web.requests) - before > 20)
+
+
+@pytest.fixture
+def listing(alone, sshstation, room):
+    """The guard of a station that publishes lists, with the office's list, which is approved."""
+    alone.list, alone.lists = krl(3, [1, 2, 9], ca=alone.blob), Lists(sshstation, "lists.db", alone.ca)
+    (room / "first").write_bytes(alone.list)
+    assert alone.lists.state("first", "--begin").startswith("list ")
+    return alone
+
+
+def hanging(name, program):
+    """Lines of the shell that hang in the place of ssh-keygen, or of the guard of lists."""
+    others = f'[ "$1" = list ] || exec {program} "$@"\n' if name == "sshstation" else ""
+    return f"{others}echo $$ >hangs\nexec sleep 600"
+
+
+@pytest.mark.alone
+@pytest.mark.parametrize("where", ["ssh-keygen", "sshstation", "GET /v1/krl ", "PUT /published "])
+def test_certificates_are_signed_beside_a_list_that_hangs(listing, programs, room, where):
+    """Whatever is slow about it: each new one has been delivered within a second."""
+    is_program = "/" not in where
+    with ListingOffice({serial: body(serial, ca=listing.blob) for serial in range(1, 21)}, listing.list,
+                       None if is_program else where.encode()) as web:
+        web.shows([])
+        station = Station(listing, web.url, listing.key, lists=listing.lists)
+        if is_program:
+            station.runs_in_place_of(where, hanging(where, listing.program))
+        process = station.begin(programs, "--publish-every", "1")
+        until(lambda: web.hangs or (room / "hangs").exists())
+        for serial in web.bodies:
+            begun = time.monotonic()
+            web.shows([serial])
+            until(lambda: len(web.delivered) >= serial)
+            assert time.monotonic() - begun < 1
+        os.killpg(process.pid, signal.SIGKILL)
+        assert b"published" not in process.stdout.read()
+
+
+# What a guard of lists states that isn't of the list that it was given: only the comparison with that tells.
+FALSE_STATEMENTS = {"another digest": lambda digest: f"list {NOBODY} 3 1000",
+                    "another version": lambda digest: f"list {digest} 4 1000",
+                    "a line more": lambda digest: f"list {digest} 3 1000\nlist {digest} 3 1000",
+                    "no moment": lambda digest: f"list {digest} 3"}
+
+
+@pytest.mark.parametrize("text", FALSE_STATEMENTS.values(), ids=FALSE_STATEMENTS)
+def test_a_statement_of_another_list_is_not_signed(listing, room, text):
+    def states(text):
+        station.runs_in_place_of("sshstation", f'[ "$1" = list ] || exec {listing.program} "$@"\ncat {room}/stated')
+        (room / "stated").write_text(f"{text}\n")
+
+    with ListingOffice({}, listing.list) as web:
+        station = Station(listing, web.url, listing.key, lists=listing.lists)
+        states(text(digest_of(listing.list)))
+        said = ["station: the list isn't published: what sshstation prints is no statement of this list"]
+        assert (1, [], said, []) == (*station.once(), web.published)
+        states(f"list {digest_of(listing.list)} 3 1000")
+        assert (0, ["published 3"], [], 1) == (*station.once(), len(web.published)), "it takes the right one"
+
+
+def test_a_guard_of_lists_that_hangs_is_given_up(listing):
+    with ListingOffice({}, listing.list) as web:
+        station = Station(listing, web.url, listing.key, lists=listing.lists)
+        station.change("LONGEST_READING = 20, 60, 30, 120, 60", "LONGEST_READING = 20, 60, 30, 2, 60")
+        station.runs_in_place_of("sshstation", hanging("sshstation", listing.program))
+        status, out, errors = station.once()
+        assert (1, [], 1, []) == (status, out, len(errors), web.published)
+        assert errors[0].startswith("station: the list isn't published: Command '['sshstation', 'list'")
+
+
+def test_a_ca_of_lists_that_is_named_later_counts(listing, programs, room):
+    other, cas = key_blob(0x12), room / "cas.pub"
+    cas.write_text(listing.ca.read_text())
+    listing.lists.cas = [cas]
+    with ListingOffice({}, krl(4, [1, 2, 9], ca=listing.blob, more=section(other, [7]))) as web:
+        process = Station(listing, web.url, listing.key, lists=listing.lists).begin(programs, "--publish-every", "1")
+        assert b"station: the list isn't published: refused as OtherCa\n" == next_line(process.stderr)
+        (room / "new.pub").write_text(listing.ca.read_text() + f"ssh-ed25519 {base64.b64encode(other).decode()} new\n")
+        (room / "new.pub").rename(cas)
+        assert b"published 4\n" == next_line(process.stdout)
+        assert 0 == stopped(process)[0]
+
+
+def test_a_station_that_ends_lets_the_guard_of_lists_end(listing, programs, room):
+    """Which is in the middle of its file, also if the signal is sent to it as well, and a second time."""
+    with ListingOffice({}, listing.list) as web:
+        station = Station(listing, web.url, listing.key, lists=listing.lists)
+        station.notes_the_end_of_a_guard("import time; time.sleep(3 * (sys.argv[1] == 'list'))")
+        process = station.begin(programs)
+        until(lambda: is_begun(process, b"list"))
+        for _ in range(2):
+            os.killpg(process.pid, signal.SIGTERM)
+        assert (0, b"", b"") == (process.wait(60), process.stdout.read(), process.stderr.read())
+    assert ["0", "0"] == station.ended.read_text().split()
+
+
+def is_begun(process, word):
+    """Whether a thread of a station has begun a program with this word."""
+    begun = [it for task in pathlib.Path(f"/proc/{process.pid}/task").iterdir()
+             for it in contents(task / "children").decode().split()]
+    return any(word in contents(pathlib.Path(f"/proc/{it}/cmdline")).split(b"\0") for it in begun)
+
+
+def test_a_station_that_ends_kills_ssh_keygen(listing, programs, room):
+    with ListingOffice({}, listing.list) as web:
+        station = Station(listing, web.url, listing.key, lists=listing.lists)
+        station.runs_in_place_of("ssh-keygen", hanging("ssh-keygen", None))
+        process = station.begin(programs)
+        until(lambda: (room / "hangs").exists() and (room / "hangs").read_text().endswith("\n"))
+        process.send_signal(signal.SIGTERM)
+        assert (0, b"", b"") == (process.wait(20), process.stdout.read(), process.stderr.read())
+    until(lambda: not is_running(int((room / "hangs").read_text())))
+
+
+def is_running(pid):
+    """Whether there is a process of this number that hasn't ended. Nobody may wait for it yet."""
+    return contents(pathlib.Path(f"/proc/{pid}/stat")).rpartition(b")")[2].split()[:1] not in ([], [b"Z"])
 
 
 @pytest.mark.parametrize("sign, status, to_all", [
@@ -1441,7 +1830,7 @@ def test_a_station_that_is_told_to_end_lets_its_guard_end(alone, programs, sign,
             with contextlib.suppress(ProcessLookupError):
                 (os.killpg if to_all else os.kill)(process.pid, sign)
         assert status == process.wait(60)
-        assert "0" == station.ended.read_text()
+        assert "0\n" == station.ended.read_text()
         assert not log.exists() or log.stat().st_size < page
         assert b"" == process.stderr.read()
 
@@ -1676,7 +2065,8 @@ def test_an_agent_that_is_started_again_is_asked_again(make_office, sshstation, 
         assert re.match(rb"station: not signed: 1, .*No such file", next_line(process.stderr))
         begin_agent(programs, room / "agent")
         run(["ssh-add", "-q", "ca"], env=os.environ | agent, check=True)
-        assert b"signed 2\n" == process.stdout.readline()
+        # A round that had begun when the pending rows changed signs the first once more.
+        assert any(b"signed 2\n" == process.stdout.readline() for _ in range(2))
         assert 0 == stopped(process)[0]
 
 

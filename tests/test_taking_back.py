@@ -51,7 +51,6 @@ class Machine:
             monkeypatch.setattr(module, "LIST", self.state)
         for name, it in (("start", self.start), ("fetch_list", (self.state / "revoked.krl").touch)):
             monkeypatch.setattr(self.common, name, it)
-        monkeypatch.setattr(self.server, "settle_sshd", lambda _: None)
         monkeypatch.setattr(self.common.Steps, "units", lambda *_: None)
         monkeypatch.setattr(self.client, "SETTINGS", room / "ssh_config")
         monkeypatch.setattr(self.client, "KNOWN_HOSTS", self.etc / "known_hosts")
@@ -80,7 +79,7 @@ class Machine:
         """Types vethlumi-server-setup with `--ca` for these CAs, and with keys before the bundle. Returns its plan."""
         given = self.given(named)
         steps = self.common.Steps(given, "vethlumi-server-setup")
-        self.server.trust_steps(steps, self.server.trust_of(given, self.parts(before)), False)
+        self.server.trust_steps(steps, self.server.trust_of(given, self.parts(before)), lambda: None)
         steps.carry_out()
         return [it for it, _ in steps.steps]
 

@@ -60,7 +60,7 @@ def test_each_unit_of_a_volume_is_enabled_by_the_page_and_disabled_again():
     enabled = {word for words in re.findall(r"^systemctl enable --now (.*)$", page, re.M) for word in words.split()}
     [disabled] = re.findall(r"^leave\(\) \{\n.*\n  for it in (.*); do$", script, re.M)
     assert 4 == len(wanted) and wanted <= enabled and wanted <= {*disabled.split()}
-    assert "programs/volume/*.{service,timer} /etc/systemd/system" in page
+    assert "programs/volume/*.{service,timer} \\\n  /etc/systemd/system" in page
 
 
 @pytest.mark.parametrize("unit", SERVICES)
@@ -117,16 +117,33 @@ def test_a_timer_is_as_the_pages_say(unit, every, later, page, says):
     assert says in " ".join((TOP / page).read_text().split())
 
 
+def test_root_signs_for_a_host_and_copies_for_sshd():
+    """The step between them, which reads the network, has no right to the host's key."""
+    unit, steps = "vethlumi-host.service", ("ExecStartPre", "ExecStart", "ExecStartPost")
+    assert [["+/usr/local/bin/vethlumi-host --sign"], ["/usr/local/bin/vethlumi-host"],
+            ["+/usr/local/bin/vethlumi-host --reload"]] == [settings(unit, it) for it in steps]
+
+
 @pytest.mark.parametrize("unit", ["office.service", "office-door.service"])
 def test_what_is_for_this_machine_alone_reaches_no_address(unit):
     assert (["any"], ["localhost"]) == (settings(unit, "IPAddressDeny"), settings(unit, "IPAddressAllow"))
 
 
+# What root's own jobs need: to read what belongs to other users, and to become them; or to give a file to a group.
+OF_BACKUPS = "CAP_DAC_READ_SEARCH CAP_DAC_OVERRIDE CAP_CHOWN CAP_FOWNER CAP_SETUID CAP_SETGID"
+RIGHTS = {"office-front.service": "CAP_NET_BIND_SERVICE", "office-backup.service": OF_BACKUPS,
+          "office-station-backup.service": OF_BACKUPS, "office-front-tls.service": "CAP_CHOWN CAP_FOWNER"}
+
+
 @pytest.mark.parametrize("unit", SERVICES)
 def test_only_the_front_has_a_right_of_root(unit):
-    rights = ["CAP_NET_BIND_SERVICE"] if unit == "office-front.service" else []
-    assert (rights or [""]) == settings(unit, "CapabilityBoundingSet")
-    assert rights == settings(unit, "AmbientCapabilities")
+    """And the jobs that root runs by a timer, which have no network."""
+    assert [RIGHTS.get(unit, "")] == settings(unit, "CapabilityBoundingSet")
+    is_front = unit == "office-front.service"
+    assert ([RIGHTS[unit]] if is_front else []) == settings(unit, "AmbientCapabilities")
+    if unit in RIGHTS and not is_front:
+        assert (["yes"], ["AF_UNIX"], []) == tuple(settings(unit, it) for it in (
+            "PrivateNetwork", "RestrictAddressFamilies", "User"))
 
 
 def test_each_connection_of_the_front_may_have_two_files_open():
@@ -149,5 +166,6 @@ def test_sysusers_makes_the_users_of_the_units(room):
     (room / "etc").mkdir()
     run(["systemd-sysusers", f"--root={room}", UNITS / "sysusers.conf"])
     made = {line.split(":")[0] for line in (room / "etc/passwd").read_text().splitlines()}
-    assert {user for unit in SERVICES for user in settings(unit, "User")} == made
+    # sshd runs vethlumi-principals as one more.
+    assert {user for unit in SERVICES for user in settings(unit, "User")} | {"office-principals"} == made
     assert 0 == os.stat(room / "etc/passwd").st_uid

@@ -15,9 +15,8 @@ import pytest
 
 from asking import department, issue
 from fetching import Web, response
-from running import PROGRAMS, free_port, run, until
+from running import CLIENT, PROGRAMS, free_port, loaded, new_key, run, until
 
-CLIENT = PROGRAMS / "client"
 POLICY = """# people
 department web
 kind user
@@ -57,7 +56,7 @@ class Client:
 
     def environment(self):
         kept = {name: value for name, value in os.environ.items() if not name.startswith(("VETHLUMI", "XDG"))}
-        return kept | {"HOME": str(self.home), "PYTHONPATH": str(CLIENT), "COLUMNS": "100",
+        return kept | {"HOME": str(self.home), "PYTHONPATH": CLIENT, "COLUMNS": "100",
                        "PATH": f"{self.home}/bin:{os.environ['PATH']}"}
 
     def __call__(self, *words, given=b""):
@@ -149,6 +148,16 @@ def test_a_certificate_is_asked_for_shown_renewed_and_revoked(clients, station, 
     assert {"1": "signed", "2": "revoked"} == states
 
 
+@pytest.mark.parametrize("words, due", [
+    ([], ["permit-X11-forwarding", "permit-agent-forwarding", "permit-pty"]),
+    (["--extensions", "permit-pty"], ["permit-pty"]), (["--extensions", ""], []),
+], ids=["all of the department", "one", "none"])
+def test_which_extensions_a_certificate_gets(clients, alice, words, due):
+    """Whoever says that there are none gets none, and not those of the department."""
+    assert 4 == clients["ana"]("--wait", "1", "request", "web/alice", alice, *words)[0]
+    assert due == clients["ana"].json("show", 1)[0]["extensions"]
+
+
 @pytest.mark.parametrize("what, hit", [("1", ["1"]), ("1-2", ["1", "2"]), ("web/alice", ["1"])])
 def test_what_is_revoked(clients, alice, what, hit):
     for key_id in ("web/alice", "web/ally"):
@@ -161,7 +170,7 @@ def test_it_asks_before_it_revokes(clients, alice):
     assert 4 == clients["ana"]("--wait", "1", "request", "web/alice", alice)[0]
     root = clients["root"]
     status, out, told = root("revoke", "1")
-    assert 2 == status and "give --yes" in told and "web/alice" in out
+    assert 2 == status and "Pass --yes" in told and "web/alice" in out
     for answer, due in ((b"n\n", 1), (b"y\n", 0)):
         main, of_client = pty.openpty()
         asking = subprocess.Popen(root.words("revoke", "1"), env=root.environment(), stdin=of_client,
@@ -185,7 +194,7 @@ def test_it_says_that_a_key_id_ends_before_it_asks(clients, served, alice):
     root = clients["root"]
     until(lambda: "revoked" == root.json("certs")[-1]["state"])
     status, _, told = root("revoke", "web/alice")
-    assert 2 == status and told.index("web/alice can never be used again") < told.index("Nobody can be asked")
+    assert 2 == status and told.index("web/alice can never be used again") < told.index("Not a terminal")
     assert ["1", "3"] == re.findall(r"^    vethlumi revoke (\S+)$", told, re.M)
     for other in ("1", "1-3"):
         assert "never" not in root("revoke", other)[2]
@@ -481,7 +490,7 @@ def test_a_certificate_for_another_key_is_not_taken(clients, station, signed, ro
             peer.sendall(response(b"issued 1\ndigest " + 64 * b"0" + b"\n" if is_post else line))
     with Other(None) as web:
         status, out, told = Client(room / "home", web.url, caller="ana")("request", "web/alice", "bob.pub")
-    assert 3 == status and "another key" in told and not pathlib.Path("bob-cert.pub").exists()
+    assert 3 == status and "a different key" in told and not pathlib.Path("bob-cert.pub").exists()
 
 
 # ---- reports
@@ -528,7 +537,7 @@ def test_status_list_and_signers(clients, station, signed, front):
 FIGURE = re.compile(r'# (HELP|TYPE) [a-z_]+ .+|[a-z_]+(\{[a-z]+="[a-z]+"(,[a-z]+="[a-z]+")*\})? [0-9.e-]+')
 
 
-def test_figures_of_an_office(clients, station, signed, alice):
+def test_figures_of_an_office(clients, station, signed, alice, front):
     """By a reader's certificate. One certificate is signed, one waits, and one is revoked."""
     ana, watch = clients["ana"], clients["watch"]
     for name in ("web/zoe", "web/late"):
@@ -544,6 +553,10 @@ def test_figures_of_an_office(clients, station, signed, alice):
     assert ("1", "1", str(100000 - 3), str(2 ** 63 - 3)) == tuple(got[f"office_{it}"] for it in (
         'certificates_valid{kind="user"}', "list_version", "serials_left", "list_versions_left"))
     assert abs(time.time() - float(got["office_list_changed_timestamp_seconds"])) < 120
+    for of, file in {"front": front.authority / "server.crt", "client": front.certificate("watch")}.items():
+        ends = run(["openssl", "x509", "-noout", "-enddate", "-in", file], check=True).stdout.decode().strip()
+        moment = run(["date", "-d", ends.partition("=")[2], "+%s"], check=True).stdout.decode().strip()
+        assert moment == got[f'office_tls_ends_timestamp_seconds{{of="{of}"}}']
     # Since its first second, which is a minute before the request.
     assert 60 <= int(got["office_pending_since_seconds"]) < 180
 
@@ -579,7 +592,7 @@ def test_a_department_is_compared_and_sent(clients, station, signed, room):
 
 
 @pytest.mark.parametrize("text, fault", [
-    ("department web\n", "line 1: a department has eight lines"),
+    ("department web\n", "line 1: the department ends before its line `kind ..`"),
     (POLICY + POLICY, "a second department of the name web"),
     (POLICY.replace("kind user", "kin user"), "'kin user' is no line `kind ..`"), (POLICY[:-1], "no line feed"),
     ("# nothing\n", "has no department"),
@@ -609,6 +622,23 @@ def test_a_rollover(clients, room):
 
 
 # ---- doctor
+
+def test_doctor_looks_at_the_host_certificate_that_sshd_shows(room, monkeypatch):
+    """The one that set-up has sshd show, which vethlumi-host renews."""
+    monkeypatch.syspath_prepend(CLIENT.split(":")[1])
+    monkeypatch.syspath_prepend(CLIENT.split(":")[0])
+    from vethlumi import doctor
+    assert str(loaded(PROGRAMS / "setup/vethlumi-server-setup").HOST_CERTIFICATE) == doctor.OF_THIS_HOST
+    new_key(room / "ca")
+    new_key(room / "host")
+    run(["ssh-keygen", "-q", "-s", room / "ca", "-h", "-I", "hosts/a", "-n", "a.example.org", "-V", "-1h:+10m",
+         room / "host.pub"], check=True)
+    monkeypatch.setattr(doctor, "CERTIFICATES", (str(room / "*-cert.pub"),))
+    for shown, advice in ((room / "host-cert.pub", "journalctl -u vethlumi-host says why"), ("", "vethlumi renew ")):
+        monkeypatch.setattr(doctor, "OF_THIS_HOST", str(shown))
+        [found] = doctor.local_findings(3600)
+        assert "ok" != found.state and found.advice.startswith(advice)
+
 
 def test_doctor_finds_what_is_well_and_what_is_not(clients, signed, front, served):
     root = clients["root"]
@@ -756,13 +786,13 @@ def test_an_outbox_that_others_can_write_is_not_used(room):
 # ---- words and settings
 
 @pytest.mark.parametrize("words, told", [
-    (["nothing"], "No such command"), (["request", "alice", "alice.pub"], "no key ID of the form DEPARTMENT/NAME"),
+    (["nothing"], "No such command"), (["request", "alice", "alice.pub"], "expected DEPARTMENT/NAME"),
     (["request", "web/alice", "none.pub"], "does not exist"),
     (["request", "web/alice", "alice"], "has to end with .pub"),
-    (["request", "web/alice", "policy", "--out", "cert"], "no Ed25519 public key"),
+    (["request", "web/alice", "policy", "--out", "cert"], "no public key of a type"),
     (["rollover", "damaged.pub", "--yes"], "no Ed25519 public key"),
     (["request", "web/alice", "alice.pub", "--life", "1y"], "no length of time"), (["get", "0"], "not in the range"),
-    (["revoke", "alice", "--yes"], "has no line of an Ed25519 certificate"), (["revoke", "zoe", "--yes"], "no serial"),
+    (["revoke", "alice", "--yes"], "has no line of a certificate"), (["revoke", "zoe", "--yes"], "no serial"),
     (["--wait", "soon", "status"], "no length of time"), (["show", "none"], "No such file"),
 ])
 def test_bad_words_end_with_2(clients, alice, words, told):
@@ -808,9 +838,10 @@ def test_what_ssh_keygen_makes_is_read_as_ssh_keygen_shows_it(room, alice):
     run(["ssh-keygen", "-q", "-t", "ed25519", "-N", "", "-f", "ca"], check=True)
     run(["ssh-keygen", "-q", "-s", "ca", "-I", "web/alice", "-n", "alice,bob", "-z", "7", "-V", "20300101:20310101",
          "-O", "clear", "-O", "force-command=/bin/true", "-O", "permit-pty", alice], check=True)
-    script = ("import sys; sys.path.insert(0, sys.argv[1]); from vethlumi.formats import Certificate; import json; "
-              "print(json.dumps(Certificate.of_line(open(sys.argv[2]).read()).as_record()))")
-    record = json.loads(run(["/usr/bin/python3", "-B", "-c", script, CLIENT, "alice-cert.pub"], check=True).stdout)
+    script = ("import sys; from vethlumi.formats import Certificate; import json; "
+              "print(json.dumps(Certificate.of_line(open(sys.argv[1]).read()).as_record()))")
+    record = json.loads(run(["/usr/bin/python3", "-B", "-c", script, "alice-cert.pub"], check=True,
+                            env=os.environ | {"PYTHONPATH": CLIENT}).stdout)
     said = shown("alice-cert.pub")
     assert said["Principals"] == record["principals"] and said["Extensions"] == record["extensions"]
     assert {"force-command": "/bin/true"} == record["options"] and said["Serial"] == record["serial"]

@@ -1,6 +1,6 @@
 """The client without Debian's package: the wheel of a release, and programs/client, in a Python environment of its own.
 
-No wheels of other projects can be fetched here, so these environments see Debian's modules for what the client requires.
+No wheels of other projects can be fetched here, so these environments see Debian's modules for what the client needs.
 """
 import json
 import os
@@ -20,6 +20,9 @@ from running import PROGRAMS, TOP, left_out, run
 pytestmark = pytest.mark.timeout(900)
 
 NATIVE = "/usr/bin/python3"
+# What the wheel has: its own, and what it shares with other programs.
+MODULES = "vethlumi", "vethlumi_common"
+PLACE = {it: PROGRAMS / folder for it, folder in zip(MODULES, ("client", "common"))}
 # Nothing of Debian's is found by its name.
 EMPTY = {"PATH": "/nonexistent", "LC_ALL": "C.UTF-8", "TERM": "dumb"}
 
@@ -66,9 +69,9 @@ def user(room, vethlumi):
 
 def test_the_wheel_says_what_it_requires(vethlumi):
     """Each module that the client imports and Python doesn't have, and none else."""
-    imported = {it.split(".")[0] for file in (PROGRAMS / "client/vethlumi").glob("*.py")
+    imported = {it.split(".")[0] for name in MODULES for file in (PLACE[name] / name).glob("*.py")
                 for it in re.findall(r"^ *(?:import|from) ([\w.]+)", file.read_text(), re.M)}
-    due = imported - {*sys.stdlib_module_names, "vethlumi"}
+    due = imported - {*sys.stdlib_module_names, *MODULES}
     script = "import importlib.metadata as m; print(m.requires('vethlumi'), m.version('vethlumi'))"
     done = run([vethlumi.with_name("python"), "-I", "-c", script], check=True).stdout.decode()
     assert due == {*re.findall(r"'([a-z]+) ?\(?>=", done)}
@@ -79,13 +82,13 @@ def test_the_wheel_says_what_it_requires(vethlumi):
 
 def test_the_wheel_has_all_that_the_client_has(vethlumi):
     """Byte for byte, and it is the wheel's that runs, wherever it is called from."""
-    script = "import vethlumi; print(vethlumi.__path__[0])"
-    folder = pathlib.Path(run([vethlumi.with_name("python"), "-I", "-c", script]).stdout.decode().strip())
-    assert vethlumi.parent.parent in folder.parents
-
     def files(place):
         return {it.name: it.read_bytes() for it in place.iterdir() if it.is_file()}
-    assert files(PROGRAMS / "client/vethlumi") == files(folder)
+    for name in MODULES:
+        script = f"import {name}; print({name}.__path__[0])"
+        folder = pathlib.Path(run([vethlumi.with_name("python"), "-I", "-c", script]).stdout.decode().strip())
+        assert vethlumi.parent.parent in folder.parents
+        assert files(PLACE[name] / name) == files(folder)
 
 
 def test_the_command_explains_itself(user):
@@ -194,7 +197,7 @@ def test_places_on_macos_are_those_of_platformdirs(user):
 
 SYNCED = """
 import errno, fcntl, os, sys
-from vethlumi import files
+from vethlumi_common import files
 called = []
 os.fsync = lambda handle: called.append("fsync")
 def full(handle, what):

@@ -65,7 +65,10 @@ def without(names, chosen, given):
     with tempfile.TemporaryDirectory(prefix="mends-") as folder:
         top = pathlib.Path(folder)
         for part in PARTS:
-            (shutil.copytree if (TOP / part).is_dir() else shutil.copy)(TOP / part, top / part)
+            if (TOP / part).is_dir():
+                shutil.copytree(TOP / part, top / part)
+            else:
+                shutil.copy(TOP / part, top / part)
         program = given.program
         for name in names:
             program = take_out(chosen[name], top, program)

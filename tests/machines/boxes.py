@@ -1,8 +1,8 @@
 #!/usr/bin/python3
 """Boxes: machines of Debian 12, each with a systemd of its own, for tests of units and of pages.
 
-    tests/machines/boxes.py prepare           makes the folder that every box starts from, unless it is there. This
-                                              takes some minutes
+    tests/machines/boxes.py prepare           makes the folder that every box starts from, unless it is there, and that
+                                              of a fleet. This takes some minutes
     tests/machines/boxes.py prepare volume    makes that of boxes with a volume, too
     tests/machines/boxes.py folder            prints where the first is: $OFFICE_BOXES, or /var/cache/sshoffice-boxes
 
@@ -10,6 +10,7 @@ The boxes of a `Rack` have a network of their own. They run in namespaces that e
 however it ends: then the kernel ends every box, and their files, which are in memory, are gone.
 """
 import contextlib
+import ctypes
 import fcntl
 import hashlib
 import itertools
@@ -24,18 +25,26 @@ import uuid
 
 FOLDER = pathlib.Path(os.environ.get("OFFICE_BOXES", "/var/cache/sshoffice-boxes"))
 RELEASE = "bookworm"
-PACKAGES = """systemd systemd-sysv dbus libpam-systemd iproute2 procps logrotate cron nginx-light openssh-client
-python3-requests python3-cffi-backend python3-cryptography
+PACKAGES = """systemd systemd-sysv dbus libpam-systemd iproute2 procps logrotate cron nginx-light libnginx-mod-http-js
+openssh-client python3-requests python3-cffi-backend python3-cryptography
 openssh-server openssl curl sqlite3 python3 ca-certificates""".split()
-# Boxes of an office on a volume start from a folder of their own, which the first test that needs it makes.
+# What our packages depend on.
+NEEDED = """python3-click python3-rich nginx libnginx-mod-http-js curl sqlite3 openssl logrotate openssh-client
+python3-requests python3-cryptography python3-jwt python3-platformdirs python3-waitress""".split()
+# Boxes of a fleet have that already, and what Ansible needs on both sides. They start from a folder of their own, which
+# the first test that needs it makes.
+OF_FLEET = FOLDER.with_name(f"{FOLDER.name}-fleet"), [*PACKAGES, *NEEDED, "python3-apt", "ansible-core"]
+# So do boxes of an office on a volume.
 OF_VOLUME = (FOLDER.with_name(f"{FOLDER.name}-ceph"),
-             [*PACKAGES, "ceph", "ceph-mds", "ceph-fuse", "libnginx-mod-http-js"])
+             [*PACKAGES, "ceph", "ceph-mds", "ceph-fuse"])
 TOOLS = "debootstrap systemd-nspawn unshare nsenter ip mount".split()
 ENVIRONMENT = {"PATH": "/usr/local/sbin:/usr/local/bin:/usr/sbin:/usr/bin:/sbin:/bin", "HOME": "/root", "USER": "root",
                "LANG": "C.UTF-8", "TZ": "UTC"}
 DOMAIN = "example.org"
 # Debian's own timers of which one may come due in any test, and then has apt's lock, or fails for want of a network.
 TIMERS_OFF = ("apt-daily", "apt-daily-upgrade", "dpkg-db-backup")
+# What setns(2) is told of a network. Python has it from 3.12 on.
+CLONE_NEWNET = 0x40000000
 # With this status systemd-nspawn says that the box wants to be started again.
 REBOOT = 133
 NETWORK = "[Match]\nName=host0\n[Network]\nAddress={}/24\nLinkLocalAddressing=no\nIPv6AcceptRA=no\n"
@@ -149,9 +158,11 @@ def remove_group(folder, seconds=5.0):
     """Removes the folder of a control group that has ended. The kernel keeps it for a moment after its last process."""
     end = time.monotonic() + seconds
     while folder.exists() and time.monotonic() < end:
-        for it in [*sorted(folder.rglob("*/"), key=lambda it: -len(it.parts)), folder]:
-            with contextlib.suppress(OSError):
-                it.rmdir()
+        # Somebody else may remove the same folders.
+        with contextlib.suppress(FileNotFoundError):
+            for it in [*sorted(folder.rglob("*/"), key=lambda it: -len(it.parts)), folder]:
+                with contextlib.suppress(OSError):
+                    it.rmdir()
         time.sleep(0.02)
 
 
@@ -161,6 +172,15 @@ def remove_old_groups():
         for it in place.glob("sshoffice-box-*"):
             if not pathlib.Path("/proc", it.name.split("-")[2]).exists():
                 remove_group(it, 0.1)
+
+
+def allow_many_boxes():
+    """A box's systemd and D-Bus take five or so of the system's inotify instances, which all count as root's. By default
+    there are 128, and a box that gets none of them never ends its boot."""
+    limit = pathlib.Path("/proc/sys/fs/inotify/max_user_instances")
+    with contextlib.suppress(OSError):
+        if int(limit.read_text()) < 4096:
+            limit.write_text("4096")
 
 
 def children(pid):
@@ -185,6 +205,13 @@ def wait_until(is_so, what, seconds=180):
     raise AssertionError(f"not within {seconds} s: {what}")
 
 
+def enter_network(namespace):
+    """Has this thread, and no other one, be in the network of an open file of /proc."""
+    libc = ctypes.CDLL(None, use_errno=True)
+    if libc.setns(namespace.fileno(), CLONE_NEWNET):
+        raise OSError(ctypes.get_errno(), os.strerror(ctypes.get_errno()))
+
+
 # ---- boxes
 
 class Rack:
@@ -197,6 +224,7 @@ class Rack:
         self.boxes = {}
         self.numbers = itertools.count(2)
         remove_old_groups()
+        allow_many_boxes()
         words = ["unshare", "--mount", "--net", "--pid", "--fork", "--mount-proc", "sh", "-c", KEEPER, "sh", self.room]
         self.keeper = subprocess.Popen(words, stdin=subprocess.PIPE, stdout=subprocess.PIPE, stderr=subprocess.PIPE,
                                        env=ENVIRONMENT)
@@ -361,6 +389,16 @@ class Box:
     def words(self, *words):
         return ["nsenter", "-t", str(self.init), "-a", "--", *words]
 
+    @contextlib.contextmanager
+    def network(self):
+        """Has this thread, and what it begins meanwhile, be in the box's network, with the files of this machine."""
+        with open("/proc/thread-self/ns/net") as own, open(f"/proc/{self.init}/ns/net") as network:
+            enter_network(network)
+            try:
+                yield
+            finally:
+                enter_network(own)
+
     def run(self, command, check=True, timeout=400):
         """Runs a command of bash as root. Its standard output and faults are one text."""
         done = subprocess.run(self.words("bash", "-euo", "pipefail", "-c", f"cd; {command}"), stdin=subprocess.DEVNULL,
@@ -406,14 +444,16 @@ class Box:
 
 
 class Shell:
-    """A shell of root in a box, which keeps its folder and its variables from one text of commands to the next."""
+    """A shell of a user in a box, which keeps its folder and its variables from one text of commands to the next."""
 
     MARK = "---- these commands have ended ----"
 
-    def __init__(self, box):
-        self.box, self.count = box, itertools.count(1)
-        self.running = subprocess.Popen(box.words("bash", "-euo", "pipefail"), stdin=subprocess.PIPE,
-                                        stdout=subprocess.PIPE, stderr=subprocess.STDOUT, env=ENVIRONMENT)
+    def __init__(self, box, user="root"):
+        self.box, self.user, self.count = box, user, itertools.count(1)
+        words = ["bash", "-euo", "pipefail"] if user == "root" else [
+            "runuser", "-u", user, "--", "env", f"HOME=/home/{user}", f"USER={user}", "bash", "-euo", "pipefail"]
+        self.running = subprocess.Popen(box.words(*words), stdin=subprocess.PIPE, stdout=subprocess.PIPE,
+                                        stderr=subprocess.STDOUT, env=ENVIRONMENT)
         self.send("cd")
 
     def send(self, line):
@@ -422,7 +462,8 @@ class Shell:
 
     def run(self, commands):
         """Runs a text of commands, and returns what they print. A command that fails ends the shell."""
-        path = f"root/.commands-{next(self.count)}"
+        # Any user may read it, and it is in nobody's folder.
+        path = f"srv/commands-{self.user}-{next(self.count)}"
         self.box.write(path, commands)
         self.send(f". /{path} </dev/null\necho; echo '{self.MARK}'")
         said = []
@@ -451,6 +492,7 @@ def main():
         case ["prepare", *more] if more in ([], ["volume"]):
             try:
                 print(prepare())
+                print(prepare(*OF_FLEET))
                 if more:
                     print(prepare(*OF_VOLUME))
             except CannotBoot as reason:

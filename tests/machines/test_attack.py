@@ -15,7 +15,7 @@ import pytest
 from asking import SMALL_ORDER_KEYS, issue, key_line, lasting
 from running import left_out
 # With its fixtures, which boot the machines as the page leaves them.
-from test_packages import MACHINES, Fleet, base, installed, is_up, marked, on_boxes, packages
+from test_packages import MACHINES, Fleet, base, installed, is_up, marked, on_boxes, packages, request
 
 FRONT = "https://office.example.org:8443"
 # Where each machine has the attacker's program.
@@ -64,7 +64,7 @@ class Attacked(Fleet):
 CACERT = {"client": ".config/vethlumi/ca.crt", "server": "/etc/vethlumi/ca.crt", "office": "/etc/vethlumi/front/ca.crt"}
 ADMIN_PEM, HOST_PEM = ".config/vethlumi/admin.pem", "/etc/vethlumi/host.pem"
 ROOT_PEM = "/var/lib/vethlumi-authority/root.pem"
-LEAVER = "people/leaver"
+LEAVER = "people/alice/leaver"
 
 
 @pytest.fixture(scope="module")
@@ -76,8 +76,7 @@ def attacked(base, installed, packages, tmp_path_factory):
         boxes.wait_until(lambda: is_up(fleet), "the office answers")
         for it in ("guest", "leaver"):
             fleet.boxes["client"].run(
-                f"ssh-keygen -q -t ed25519 -N '' -f {it}; vethlumi request people/{it} {it}.pub --principals alice "
-                "--extensions permit-pty", timeout=300)
+                f"ssh-keygen -q -t ed25519 -N '' -f {it}; {request(it)}", timeout=300)
         boxes.wait_until(lambda: "granted" == fleet.login("leaver"), "the server grants a login")
         yield fleet
 
@@ -106,18 +105,18 @@ def test_nobody_gets_a_certificate_for_a_key_that_everybody_can_use(attacked):
     itself, since the client doesn't. The office issues it, and the guard has none signed."""
     client, station = attacked.boxes["client"], attacked.boxes["station"]
     client.write("root/everybody.pub", key_line(SMALL_ORDER_KEYS[0]) + "\n")
-    told = client.run("vethlumi request people/everybody everybody.pub --principals alice", False)
+    told = client.run(request("everybody"), False)
     assert 2 == told.returncode and "everybody has a valid signature for this key" in told.stdout
     serials = []
     for number, key in enumerate(SMALL_ORDER_KEYS):
         status, text = attacked.post("client", ADMIN_PEM, f"small-{number}", issue(
-            f"people/everybody-{number}", key=key_line(key), **lasting(3600), extensions="permit-pty"))
+            f"people/alice/{number}", key=key_line(key), principals="alice@people", **lasting(3600),
+            extensions="permit-pty"))
         assert (200, "issued") == (status, text.split()[0])
         serials.append(text.split()[1])
     assert 14 == len({*serials})
     # What comes after these is signed, so the station has been asked for them, too.
-    client.run("ssh-keygen -q -t ed25519 -N '' -f later; vethlumi request people/later later.pub --principals alice",
-               timeout=300)
+    client.run(f"ssh-keygen -q -t ed25519 -N '' -f later; {request('later')}", timeout=300)
     assert {(409, "NotSigned")} == {(status, text.split()[2]) for status, text in (
         attacked.ask("client", ADMIN_PEM, f"/v1/certs/{it}") for it in serials)}
     boxes.wait_until(lambda: "refused as NotPermitted" in station.says("journalctl -o cat -u office-station@first"),
@@ -131,7 +130,7 @@ def test_the_user_who_reads_the_network_becomes_no_ca(attacked, flooded):
     certificate of this CA, as root and as alice."""
     client, server = attacked.boxes["client"], attacked.boxes["server"]
     client.run("ssh-keygen -q -t ed25519 -N '' -f mallory-ca; ssh-keygen -q -t ed25519 -N '' -f mallory; "
-               "ssh-keygen -q -s mallory-ca -I mallory -n root,alice -V -1h:+1d mallory.pub")
+               "ssh-keygen -q -s mallory-ca -I people/alice -n root,alice,alice@people -V -1h:+1d mallory.pub")
     trusted = server.says("cat /etc/vethlumi/trusted-cas")
     server.write("srv/mallory-ca.pub", (client.files / "root/mallory-ca.pub").read_bytes())
     for command in ("cat /srv/mallory-ca.pub >cas.pub", "cat /srv/mallory-ca.pub >>cas.pub",
@@ -238,11 +237,16 @@ def test_a_server_reads_nobody_s_access_and_has_no_right_of_others(attacked, flo
     department = attacked.boxes["station"].says("head -n 8 /etc/vethlumi/station/first.policy")
     for number, message in enumerate((
             issue("people/mallory", key=key, **lasting(3600)),
-            issue("server-example-org/a", department="people", key=key), "revoke-keyid people/guest\n",
+            issue("people/host-server", key=key, principals="alice@people", **lasting(3600)),
+            issue("hosts/client", key=key, principals="client.example.org", **lasting(3600)),
+            issue("hosts/server", key=key, principals="client.example.org", **lasting(3600)),
+            issue("hosts/a", department="people", key=key), "revoke-keyid people/alice/guest\n",
             "revoke-serial 2\n", "revoke-range 1 9\n", "renew 2\nafter 1\nbefore 2\n", f"rollover {key}\n",
             f"{department}\n")):
         status, text = attacked.post("server", HOST_PEM, f"mallory-{number}", message)
-        assert status in (400, 403) and "refused" in text, (message, text)
+        # Of its own name it may ask, in a department of all people, too, but gets no principal of another's.
+        due = [409] if re.search("^keyid (people/host-server|hosts/server)$", message, re.M) else [400, 403]
+        assert status in due and "refused" in text, (message, text)
     # Its own certificate it renews as before.
     assert "granted" == attacked.login("guest")
 
@@ -250,18 +254,19 @@ def test_a_server_reads_nobody_s_access_and_has_no_right_of_others(attacked, flo
 @marked(*on_boxes)
 def test_neither_a_caller_nor_a_server_makes_the_list_so_long_that_logins_hang(attacked, flooded):
     """Each revokes key IDs that nobody has, as fast as the front takes them: every one makes the list longer for good.
-    The server gets 30 of them, the caller 2,000, and then one and ten a minute. What root revokes meanwhile is refused
-    soon, and other logins go on."""
+    The caller gets 2,000 of them, and then ten a minute. The server sends 30, and then one a minute, all of which the
+    office refuses: in a department of all hosts it revokes no key ID. What root revokes meanwhile is refused soon, and
+    other logins go on."""
     before, of_caller = flooded()
-    of_server = attacked.attack("server", "flood", FRONT, CACERT["server"], HOST_PEM, "server-example-org", "200")
+    of_server = attacked.attack("server", "flood", FRONT, CACERT["server"], HOST_PEM, "hosts", "200")
     # Some of the server's 30 were used up by the test before.
-    assert 1 <= of_server["200"] <= 31 + of_server["seconds"] / 60, of_server
+    assert 1 <= of_server["403"] <= 31 + of_server["seconds"] / 60, of_server
     # And the caller may have sent up to ten others.
     assert 1990 <= of_caller["200"] <= 2001 + of_caller["seconds"] / 6, of_caller
-    for it in (of_server, of_caller):
-        assert {"200", "429", "seconds"} == {*it}, it
+    for status, it in (("403", of_server), ("200", of_caller)):
+        assert {status, "429", "seconds"} == {*it}, it
     # Each key ID takes its own bytes and four more: the department, a slash, and a name of 64 letters.
-    longer = 75 * of_caller["200"] + 87 * of_server["200"] + 4 + len(LEAVER)
+    longer = 75 * of_caller["200"] + 4 + len(LEAVER)
     boxes.wait_until(lambda: attacked.bytes_of_list() >= before + longer, "the list has them")
     # And the list's first section of key IDs takes five, beside a CA's key.
     assert attacked.bytes_of_list() <= before + longer + 100

@@ -5,6 +5,7 @@ packages that ours depend on, as it would fetch them: the boxes reach no other m
 import argparse
 import contextlib
 import fcntl
+import functools
 import gzip
 import hashlib
 import json
@@ -32,7 +33,7 @@ from releasing import packed
 from running import PROGRAMS, TOP, command, left_out, loaded, run
 
 PAGE = TOP / "docs/INSTALLING.md"
-NAMES = ["vethlumi-office", "vethlumi-front", "vethlumi-station", "vethlumi-client", "vethlumi-registrar"]
+NAMES = [f"vethlumi-{it}" for it in ("common", "office", "front", "station", "client", "registrar")]
 MACHINES = ("station", "office", "server", "client")
 # The one on which the page begins, which has the packages.
 ADMIN = "admin"
@@ -83,7 +84,8 @@ def make_older(package):
     folder = package.with_name("older")
     run(["dpkg-deb", "-R", package, folder], check=True)
     control = folder / "DEBIAN/control"
-    control.write_text(control.read_text().replace("\nVersion: 1.0.0\n", f"\nVersion: {OLDER}\n"))
+    text = control.read_text().replace("\nVersion: 1.0.0\n", f"\nVersion: {OLDER}\n")
+    control.write_text(text.replace("vethlumi-common (>= 1.0.0)", f"vethlumi-common (>= {OLDER})"))
     run(["dpkg-deb", "-Znone", "-b", folder, package.parent / package.name.replace("1.0.0", OLDER)], check=True)
     shutil.rmtree(folder)
 
@@ -150,9 +152,10 @@ def test_each_file_is_as_it_stands_there(unpacked):
 def test_alerts_look_at_metrics_that_there_are():
     text = "".join((PROGRAMS / f"client/vethlumi/{it}.py").read_text() for it in ("figures", "reports"))
     printed = {f"office_{it}" for it in re.findall(r'"([a-z_]+)", "[A-Z]', text)}
-    printed |= {*re.findall(r"^# TYPE (\w+) gauge$", (TOP / "programs/server/fetch-list").read_text(), re.M)}
+    for it in ("server/fetch-list", "setup/backing_up.py", "setup/vethlumi-front-tls"):
+        printed |= {*re.findall(r"^# TYPE (\w+) gauge$", (PROGRAMS / it).read_text(), re.M)}
     rules = re.findall(r"^ +expr: (.*)$", (TOP / "programs/client/alerts.yml").read_text(), re.M)
-    assert 11 == len(rules) and {"office_up", "office_list_taken"} < printed
+    assert 14 == len(rules) and {"office_up", "office_list_taken"} < printed
     assert set() == {it for rule in rules for it in re.findall(r"\boffice_\w+", rule)} - printed
 
 
@@ -165,6 +168,11 @@ HEALTHY = {
     'node_textfile_mtime_seconds{file="/var/lib/prometheus/node-exporter/other.prom"}': "0+0x90",
     "office_list_stated_timestamp_seconds": "0+60x90", "office_list_taken": "1+0x90",
     "office_list_bytes": "1000000+0x90", "office_list_version": "7+8x90",
+    'office_tls_ends_timestamp_seconds{of="front"}': "2597400+0x90",
+    'office_tls_ends_timestamp_seconds{of="client"}': "2597400+0x90",
+    # After 80 minutes there are exactly 20 days, and two days, left.
+    'office_issued_tls_ends_timestamp_seconds{of="ana.pem"}': "1732800+0x90",
+    'office_backup_timestamp_seconds{of="office"}': "-168000+0x90",
 }
 MTIME = 'node_textfile_mtime_seconds{file="/var/lib/prometheus/node-exporter/office.prom"}'
 # What is otherwise, and which alerts are raised.
@@ -174,8 +182,11 @@ ALERTS = [
     ({"office_serials_left": "99999+0x90"}, ["FewSerialsLeft"]), ({"office_cas": "7+0x90"}, ["ManyCAs"]),
     ({"office_list_versions_left": "99999+0x90"}, ["FewListVersionsLeft"]),
     ({"office_answer_seconds": "11+0x90"}, ["SlowOffice"]),
+    ({'office_tls_ends_timestamp_seconds{of="front"}': "2596000+0x90"}, ["CertificateEnds"]),
     ({"office_list_stated_timestamp_seconds": "0+0x90"}, ["StaleList"]),
     ({"office_list_taken": "0+0x90"}, ["RefusedList"]),
+    ({'office_issued_tls_ends_timestamp_seconds{of="ana.pem"}': "1728000+0x90"}, ["TlsEnds"]),
+    ({'office_backup_timestamp_seconds{of="office"}': "-172800+0x90"}, ["NoBackup"]),
     ({"office_list_bytes": "1000001+0x90"}, ["LongList"]), ({"office_list_version": "7+9x90"}, ["ListGrows"]),
 ]
 
@@ -200,7 +211,7 @@ def promtool(tmp_path_factory):
 def test_prometheus_raises_the_alerts(promtool, room, otherwise, due):
     """After 80 minutes."""
     rules = TOP / "programs/client/alerts.yml"
-    assert b"SUCCESS: 11 rules found" in run([promtool, "check", "rules", rules], check=True).stdout
+    assert b"SUCCESS: 14 rules found" in run([promtool, "check", "rules", rules], check=True).stdout
     raised = {"expr": 'count by (alertname) (ALERTS{alertstate="firing"})', "eval_time": "80m",
               "exp_samples": [{"labels": f'{{alertname="{it}"}}', "value": 1} for it in due]}
     series = [{"series": name, "values": values} for name, values in (HEALTHY | otherwise).items()]
@@ -214,6 +225,8 @@ def test_prometheus_raises_the_alerts(promtool, room, otherwise, due):
 def test_each_program_that_a_unit_names_is_in_a_package(unpacked):
     named = {it for unit in (unpacked / "lib/systemd/system").iterdir()
              for it in re.findall(r"/usr/(?:local/)?bin/[\w-]+", unit.read_text())}
+    # Each Debian system has that one.
+    named.remove("/usr/bin/find")
     assert [] == sorted(it for it in named if not (unpacked / it.lstrip("/")).exists())
 
 
@@ -232,8 +245,8 @@ def test_each_command_has_a_manual_page_with_its_options(unpacked):
 
 def help_of(unpacked, command, *words):
     environment = os.environ | {"PYTHONPATH": str(unpacked / "usr/lib/python3/dist-packages"), "COLUMNS": "80"}
-    # These look only where their packages would be.
-    python = ["/usr/bin/python3", "-B"] if command.name in ("vethlumi", "vethlumi-registrar") else []
+    # Those in Python look only where their packages would be.
+    python = ["/usr/bin/python3", "-B"] if command.read_bytes().startswith(b"#!/usr/bin/python3") else []
     return run([*python, command, *words, "--help"], env=environment, check=True).stdout.decode()
 
 
@@ -413,7 +426,7 @@ def test_no_client_gets_the_private_key_of_an_earlier_one(room, authority, first
     do, fault = authority
     do(*first)
     files = {it.name: it.read_bytes() for it in (room / "authority").glob("*.*")}
-    with pytest.raises(fault, match="is another one's already"):
+    with pytest.raises(fault, match="is already in use by another client"):
         do(*later)
     assert files == {it.name: it.read_bytes() for it in (room / "authority").glob("*.*")}
     assert [] == do(*first)
@@ -553,6 +566,33 @@ def test_the_last_set_up_says_whose_list_counts(room, monkeypatch):
     assert 2 * [office + "LIST_FROM=--unsigned --ca mine\n"] == [settings(it) for it in (False, True)]
 
 
+SYSTEMCTL = """#!/bin/sh
+case $1 in
+  is-active) echo {active}; echo active ;;
+  is-enabled) echo {enabled}; echo enabled ;;
+  *) echo "$@" >>{room}/done ;;
+esac
+"""
+
+
+@pytest.mark.parametrize("active, enabled, is_changed, due", [
+    ("active", "enabled", False, []), ("active", "enabled", True, ["reload-or-restart a b"]),
+    ("inactive", "enabled", False, ["enable --now a b"]), ("failed", "enabled", True, ["enable --now a b"]),
+    ("active", "disabled", False, ["enable --now a b"]), ("active", "disabled", True, ["enable --now a b"])])
+def test_a_unit_of_a_set_up_runs_now_and_after_a_boot(room, monkeypatch, active, enabled, is_changed, due):
+    """The first of two units is in this state. One that runs and isn't enabled would be gone after the next boot."""
+    (room / "bin").mkdir()
+    (room / "bin/systemctl").write_text(SYSTEMCTL.format(active=active, enabled=enabled, room=room))
+    (room / "bin/systemctl").chmod(0o755)
+    monkeypatch.setenv("PATH", f"{room}/bin:{os.environ['PATH']}")
+    steps = load("setting_up.py").Steps(None, "vethlumi-server-setup")
+    steps.changed |= {"a file"} if is_changed else set()
+    steps.units("a", "b")
+    for _, do in steps.steps:
+        do()
+    assert due == ((room / "done").read_text().splitlines() if (room / "done").exists() else [])
+
+
 @pytest.mark.parametrize("host, name", [("db.example.org", "db-example-org"), ("DB", "db"), ("a_b", None),
                                         (f"{15 * 'a'}.example.org", f"{15 * 'a'}-example-org"),
                                         (f"{16 * 'a'}.example.org", None), ("192.0.2.7", "192-0-2-7")])
@@ -569,9 +609,7 @@ def test_the_name_of_a_host(host, name):
 def test_the_policy_that_a_station_begins_with(sshstation, room):
     """The guard reads it, and each host may ask for its own name alone."""
     station, office = load("vethlumi-station-setup"), load("vethlumi-office-setup")
-    words = argparse.Namespace(policy=None, department="people", admins="admin,ana", principals="alice",
-                               host=["db.example.org", "web.example.org"])
-    text = station.policy_of(words)
+    text = station.policy_of(policy_words(admins="admin,ana", host=["db.example.org", "web.example.org"]))
     (room / "policy").write_text(text)
     assert 0 == run([sshstation, "policy", room / "policy"]).returncode
     departments = office.policies.departments_of(text)
@@ -581,6 +619,66 @@ def test_the_policy_that_a_station_begins_with(sshstation, room):
     for bad in (text + "namespaces\n", text.partition("\n")[2]):
         with pytest.raises(office.Fault):
             office.policies.departments_of(bad)
+
+
+def test_the_departments_that_set_up_makes_are_for_everybody(sshstation, room):
+    """People and the hosts of a domain, each in their own names. A host of another domain has one of its own."""
+    station = load("vethlumi-station-setup")
+    (room / "policy").write_text(text := station.policy_of(policy_words(
+        principals=None, domain="example.org", host=["db.example.org", "web.example.net"])))
+    told = run([sshstation, "policy", room / "policy"])
+    assert (0, b"people\nhosts\nweb-example-net\n") == (told.returncode, told.stdout), told.stderr
+    assert text.startswith("""department people
+kind user
+admins admin,{name}
+principals {name}@people
+options
+extensions permit-pty
+maxlife 86400
+namespaces
+
+department hosts
+kind host
+admins host-{name}
+principals {name}.example.org
+options
+extensions
+maxlife 2592000
+namespaces
+
+department web-example-net
+kind host
+admins host-web-example-net
+principals web.example.net
+""")
+    # Another department's people have its name, and who is listed is listed alone.
+    for words, due in (({"department": "staff"}, "admins admin,{name}\nprincipals {name}@staff\n"),
+                       ({"admins": "registrar"}, "admins registrar\nprincipals {name}@people\n"),
+                       ({"principals": "alice"}, "admins admin\nprincipals alice\n")):
+        assert due in station.policy_of(policy_words(**{"principals": None} | words))
+
+
+@pytest.mark.parametrize("domain, is_one", [
+    ("example.org", True), ("org", True), ("a-b.c", True), (62 * "a", True), (63 * "a", False), ("", True),
+    (".example.org", False), ("example.org.", False), ("exa mple", False), ("*.org", False), ("a@b", False),
+    ("a,b", False), ("-a", False), ("a\n", False)])
+def test_a_domain_of_hosts(sshstation, room, domain, is_one):
+    station = load("vethlumi-station-setup")
+    with contextlib.nullcontext() if is_one else pytest.raises(station.BadWords, match="no domain: "):
+        (room / "policy").write_text(station.policy_of(policy_words(domain=domain)))
+        assert 0 == run([sshstation, "policy", room / "policy"]).returncode
+    with pytest.raises(station.BadWords, match="--domain makes the department hosts, so"):
+        station.policy_of(policy_words(department="hosts", domain="example.org"))
+
+
+@pytest.mark.parametrize("given, is_told", [
+    ({}, False), ({"domain": "example.org"}, False), ({"domain": "example.net"}, True),
+    ({"host": ["db.example.org"]}, False), ({"host": ["db.example.org", "db.example.net"]}, True),
+    ({"host": ["web.example.net"]}, False), ({"principals": "alice"}, True)])
+def test_a_policy_that_is_not_what_the_options_say_is_told(given, is_told):
+    station = load("vethlumi-station-setup")
+    text = station.policy_of(policy_words(principals=None, domain="example.org", host=["web.example.net"]))
+    assert is_told == station.is_another(policy_words(**{"principals": None} | given), text)
 
 
 @pytest.fixture
@@ -599,7 +697,7 @@ def keeping(room, monkeypatch):
     (room / "first.db").touch()
 
     def do(first=None):
-        given = argparse.Namespace(yes=True, name="first", policy=None, principals=None, host=[], first=first)
+        given = station_words(first=first)
         steps = station.setting_up.Steps(given, "vethlumi-station-setup")
         station.key_steps(given, steps, lambda kind: room / f"first.{kind}")
         steps.carry_out()
@@ -661,8 +759,7 @@ def test_the_guard_of_a_second_ca_begins_where_somebody_says(room, keeping, monk
     (room / "bundle").write_text("[office]\nhttps://a\n")
 
     def do(first=None, bundle=None):
-        given = argparse.Namespace(yes=True, name="second", policy=None, principals=None, host=[], first=first,
-                                   bundle=bundle)
+        given = station_words(name="second", first=first, bundle=bundle)
         station.do(given, station.setting_up.Steps(given, "vethlumi-station-setup"))
         return [words[words.index("--first") + 1] for words in made]
     with pytest.raises(station.Fault, match="with --first N: N is the serial from which the office uses this CA"):
@@ -682,7 +779,7 @@ def test_a_station_may_be_connected_in_the_run_that_makes_its_key(room, keeping,
     station, _ = keeping
     monkeypatch.setattr(station.setting_up, "put_database", lambda *_: None)
     (room / "list-cas").write_text("another\n")
-    given = argparse.Namespace(yes=True, name="first", policy=None, principals=None, host=[], first=1)
+    given = station_words()
     for _ in range(2):
         steps = station.setting_up.Steps(given, "vethlumi-station-setup")
         station.key_steps(given, steps, lambda kind: room / f"first.{kind}")
@@ -915,7 +1012,99 @@ def test_one_station_publishes(room, naming, monkeypatch, enabled, due):
 
 def policy_words(**given):
     return argparse.Namespace(**{"policy": None, "department": "people", "admins": None, "principals": "alice",
-                                 "host": []} | given)
+                                 "host": [], "domain": None} | given)
+
+
+def station_words(**given):
+    """The words of a station's set-up, without options but for these."""
+    return policy_words(**{"yes": True, "name": "first", "principals": None, "first": 1, "bundle": None,
+                           "witness": None} | given)
+
+
+# A policy, the settings of a witness, and why they don't fit.
+LOGINS = department("people", admins="registrar", principals="*@people", maxlife=36060)
+FITTING = """[provider.corp]
+issuer = "https://login.example.org"
+client_id = "vethlumi"
+algorithms = ["ES256"]
+name = "preferred_username"
+keys = "https://login.example.org/keys"
+
+[department.people]
+provider = "corp"
+life = "10h"
+principals = ["{name}@people"]
+"""
+UNWITNESSED = FITTING + "\n[department.web]\nwitness = false\n"
+NAMED_ADMINS = LOGINS.replace("admins registrar", "admins registrar,{name}")
+UNFIT = [
+    (LOGINS, FITTING, None), (LOGINS + department("web"), UNWITNESSED, None),
+    (LOGINS + department("db", kind="host"), FITTING, None), (LOGINS, UNWITNESSED, None),
+    (LOGINS + department("web"), FITTING, "the policy has the department web for users, and there is no table"),
+    (NAMED_ADMINS, FITTING, "the department people has {name} among its admins, and a caller with a certificate has no "
+                            "token: say witness = false"),
+    (NAMED_ADMINS, FITTING.partition("[department")[0] + "[department.people]\nwitness = false\n", None),
+    (LOGINS, FITTING.replace('life = "10h"', 'life = "10x"'), "BadTime: line 10: department.people.life"),
+]
+
+
+@pytest.mark.parametrize("policy, settings, why", UNFIT, ids=[str(it) for it in range(len(UNFIT))])
+def test_the_settings_of_a_witness_fit_the_policy(room, keeping, policy, settings, why):
+    station, _ = keeping
+    (room / "witness.toml").write_text(settings)
+    if why is None:
+        station.check_witness(room / "witness.toml", policy)
+    else:
+        with pytest.raises(station.Fault, match=re.escape(why)):
+            station.check_witness(room / "witness.toml", policy)
+
+
+def test_a_station_gets_a_witness_and_keeps_it(room, keeping, monkeypatch):
+    station, _ = keeping
+    monkeypatch.setattr(station.setting_up.Steps, "units", lambda *_: None)
+    (room / "first.policy").write_text(LOGINS)
+    (room / "first.env").write_text("OFFICE=https://a:8443\n")
+    (room / "given.toml").write_text(FITTING)
+
+    def do(witness=None):
+        steps = station.setting_up.Steps(station_words(witness=witness), "vethlumi-station-setup")
+        station.do(steps.given, steps)
+        return [it for it, _ in steps.steps]
+    do()
+    assert not (room / "first.witness").exists()
+    assert f"write {room}/first.witness (whose logins are witnessed, and how)" in do(str(room / "given.toml"))
+    wanted = f"OFFICE=https://a:8443\nSTATION_WITNESS=--witness {room}/first.witness\n"
+    assert wanted == (room / "first.env").read_text() and FITTING == (room / "first.witness").read_text()
+    # The next run says nothing, and one with a policy that doesn't fit any more is refused, also without the option.
+    assert [] == do()
+    (room / "first.policy").write_text(LOGINS + department("web"))
+    with pytest.raises(station.Fault, match="the policy has the department web for users"):
+        do()
+    parts = {"office": "https://b:8443\n", "caller": "station\n", "authority": "a\n", "certificate": "c\n"}
+    monkeypatch.setattr(station, "knows_lists", lambda: False)
+    steps = station.setting_up.Steps(station_words(), "vethlumi-station-setup")
+    station.connect_steps(steps.given, steps, lambda kind: room / f"first.{kind}", parts)
+    steps.carry_out()
+    assert wanted.replace("//a:", "//b:") == (room / "first.env").read_text()
+
+
+def test_a_witness_that_is_there_before_the_front_is_asked(room, keeping, monkeypatch):
+    """A station that isn't connected yet has no settings of its own: the run that connects it has to name the witness,
+    or it would sign without one."""
+    station, _ = keeping
+    monkeypatch.setattr(station.setting_up.Steps, "units", lambda *_: None)
+    monkeypatch.setattr(station, "knows_lists", lambda: False)
+    (room / "first.policy").write_text(LOGINS)
+    (room / "given.toml").write_text(FITTING)
+    (room / "station.bundle").write_text("[office]\nhttps://a:8443\n[caller]\nstation\n[authority]\na\n"
+                                         "[certificate]\nc\n")
+    for bundle, witness in ((None, room / "given.toml"), (room / "station.bundle", None)):
+        given = argparse.Namespace(yes=True, name="first", policy=None, domain=None, principals=None, host=[], first=1,
+                                   bundle=bundle, witness=witness)
+        assert not (room / "first.env").exists()
+        station.do(given, station.setting_up.Steps(given, "vethlumi-station-setup"))
+    wanted = f"OFFICE=https://a:8443\nSTATION_WITNESS=--witness {room}/first.witness\n"
+    assert wanted == (room / "first.env").read_text()
 
 
 def test_a_policy_has_no_department_twice(room):
@@ -949,7 +1138,7 @@ def kept_policy(room, keeping, sshstation):
     def do(text=None):
         if text is not None:
             (room / "first.policy").write_text(text)
-        given = argparse.Namespace(yes=True, name="first", policy=None, principals=None, host=[], first=1, bundle=None)
+        given = station_words()
         station.do(given, station.setting_up.Steps(given, "vethlumi-station-setup"))
     return station, do
 
@@ -1027,8 +1216,7 @@ def test_a_station_says_what_somebody_has_changed_and_changes_no_policy_back(roo
     """The address of the front is written again, and what it was is shown before."""
     station, _ = keeping
     (room / "first.policy").write_text(text := station.policy_of(policy_words()))
-    given = argparse.Namespace(yes=True, name="first", policy=None, principals="bob", host=[], first=1, bundle=None,
-                               department="people", admins=None)
+    given = station_words(principals="bob")
     station.do(given, station.setting_up.Steps(given, "vethlumi-station-setup"))
     assert "first.policy is there, and stays as it is: it isn't what these options say" in capsys.readouterr().err
     assert text == (room / "first.policy").read_text()
@@ -1050,7 +1238,7 @@ def test_what_a_station_writes_for_the_office_is_not_written_again(room, keeping
     station, _ = keeping
     first, second = (station.policy_of(policy_words(department=it)) for it in "ab")
     (room / "first.policy").write_text(first)
-    given = argparse.Namespace(yes=True, name="first", policy=None, principals=None, host=[], first=1, bundle=None)
+    given = station_words()
     for due in (["make a CA's private key", "write"], [], ["write"]):
         steps = station.setting_up.Steps(given, "vethlumi-station-setup")
         station.do(given, steps)
@@ -1154,6 +1342,44 @@ def test_a_host_s_key_is_one_that_the_client_takes(room, monkeypatch):
     with pytest.raises(server.BadWords, match="host.pub: of small order"):
         server.check_key(room / "host.pub")
     assert [(room / "host.pub").read_text()] == said
+
+
+TOKENS = {"host": "web.example.org", "department": "hosts", "token": None, "token_command": "give '$AUDIENCE'",
+          "enrol": None}
+
+
+@pytest.mark.parametrize("change, why", [
+    ({}, None), ({"token": "/run/token", "token_command": None}, None),
+    ({"department": None}, "--host needs --department"), ({"token_command": None}, "--host needs"),
+    ({"token": "/run/token"}, "--host needs --department, and one of"), ({"host": None}, "are for --host"),
+    ({"department": "a b"}, "no department"),
+    ({"host": "a b"}, "no name of a host"), ({"token_command": "a\nb"}, "--token is the whole path of a file"),
+    ({"token": "token", "token_command": None}, "--token is the whole path of a file"),
+])
+def test_a_host_that_brings_tokens_is_named_whole(change, why):
+    server = load("vethlumi-server-setup")
+    given = argparse.Namespace(**TOKENS | change)
+    if why is None:
+        server.check_words_of_tokens(given)
+    else:
+        with pytest.raises(server.BadWords, match=re.escape(why)):
+            server.check_words_of_tokens(given)
+
+
+def test_a_host_that_brings_tokens_has_its_settings(room, monkeypatch):
+    server = load("vethlumi-server-setup")
+    run(["ssh-keygen", "-q", "-t", "ed25519", "-N", "", "-f", room / "host"], check=True)
+    monkeypatch.setattr(server, "ETC", room)
+    monkeypatch.setattr(server.setting_up.Steps, "units", lambda *_: None)
+    monkeypatch.setattr(server, "ask_for_certificate", lambda: None)
+    monkeypatch.setattr(server.setting_up.os, "getuid", lambda: 1000)
+    given = argparse.Namespace(yes=True, key=str(room / "host.pub"), **TOKENS)
+    steps = server.setting_up.Steps(given, "vethlumi-server-setup")
+    server.token_steps(given, steps, "https://a:8443")
+    steps.carry_out()
+    assert (room / "host.toml").read_text() == f'office = "https://a:8443"\ncacert = "{room}/ca.crt"\n'
+    assert (room / "host.env").read_text() == (
+        f"DEPARTMENT=hosts\nPRINCIPALS=web.example.org\nKEY={room}/host.pub\nTOKEN_COMMAND=give '$AUDIENCE'\n")
 
 
 def test_a_set_up_changes_nothing_that_is_as_it_should_be(room):
@@ -1413,7 +1639,7 @@ class Installing:
             (room / "bin" / it).write_text(STAND_IN)
             (room / "bin" / it).chmod(0o755)
         for name in NAMES:
-            (room / f"{name}_1.0.0_{'all' if name in ('vethlumi-front', 'vethlumi-client') else 'amd64'}.deb").touch()
+            (room / f"{name}_1.0.0_{'amd64' if name in ('vethlumi-office', 'vethlumi-station') else 'all'}.deb").touch()
 
     def __call__(self, *words, command=TOP / "programs/setup/vethlumi-install", **answers):
         """The status, what was told, and what the programs were told: the program, its words, its input."""
@@ -1435,12 +1661,12 @@ def installing(room):
 def test_what_is_installed_on_the_station(installing):
     status, told, said = installing("station", "s.example.org", "--principals", "alice", "--yes")
     assert 0 == status, told
-    name = "vethlumi-station_1.0.0_amd64.deb"
-    assert [(f"{installing.room}/{name}", "root@s.example.org:"),
+    names = "vethlumi-common_1.0.0_all.deb", "vethlumi-station_1.0.0_amd64.deb"
+    assert [(*(f"{installing.room}/{it}" for it in names), "root@s.example.org:"),
             ("root@s.example.org", "apt-get", "update"),
             ("root@s.example.org", "env", "DEBIAN_FRONTEND=noninteractive", "apt-get", "install", "-y", "-o",
-             "Dpkg::Options::=--force-confold", f"./{name}"),
-            ("root@s.example.org", "rm", "-f", f"./{name}"),
+             "Dpkg::Options::=--force-confold", *(f"./{it}" for it in names)),
+            ("root@s.example.org", "rm", "-f", *(f"./{it}" for it in names)),
             ("root@s.example.org", "vethlumi-station-setup", "--principals", "alice", "--yes")] == said[1:]
     # What is done is shown before.
     assert re.search(r"will do this:\n  copy .*\n  on s.example.org: apt-get update\n  on s.example.org: apt-get inst",
@@ -1449,8 +1675,8 @@ def test_what_is_installed_on_the_station(installing):
 
 def test_what_is_there_is_not_installed_again(installing):
     room = installing.room
-    there = {".* dpkg .*": "amd64\ninstalled vethlumi-office 1.0.0\ninstalled vethlumi-front 0.9.0\n"
-                           f"config-files vethlumi-station 1.0.0\n{LISTS}"}
+    there = {".* dpkg .*": "amd64\ninstalled vethlumi-common 1.0.0\ninstalled vethlumi-office 1.0.0\n"
+                           f"installed vethlumi-front 0.9.0\nconfig-files vethlumi-station 1.0.0\n{LISTS}"}
     status, told, said = installing("office", "o", "--station", "s", "--yes", **there)
     assert (0, (f"{room}/vethlumi-front_1.0.0_all.deb", "root@o:")) == (status, said[3]), told
     assert [] == [it for it in said if "update" in it]
@@ -1467,16 +1693,18 @@ def test_what_is_there_is_not_installed_again(installing):
 def test_where_the_packages_are(installing, room):
     """In the folder that is named, which may have any letters, in the current one, or in `out` of a clone."""
     (room / "a:b").mkdir()
-    name = "vethlumi-station_1.0.0_amd64.deb"
-    (room / name).rename(room / "a:b" / name)
+    names = "vethlumi-common_1.0.0_all.deb", "vethlumi-station_1.0.0_amd64.deb"
+    for it in names:
+        (room / it).rename(room / "a:b" / it)
     status, told, said = installing("station", "s", "--packages", "a:b", "--yes")
-    assert (0, (f"{room}/a:b/{name}", "root@s:")) == (status, said[1]), told
-    shutil.copytree(PROGRAMS / "setup", room / "clone/programs/setup")
+    assert (0, (*(f"{room}/a:b/{it}" for it in names), "root@s:")) == (status, said[1]), told
+    for it in ("setup", "common"):
+        shutil.copytree(PROGRAMS / it, room / "clone/programs" / it)
     (room / "a:b").rename(room / "clone/out")
     for it in room.glob("*.deb"):
         it.unlink()
     status, told, said = installing("station", "s", "--yes", command=room / "clone/programs/setup/vethlumi-install")
-    assert (0, (f"{room}/clone/out/{name}", "root@s:")) == (status, said[1]), told
+    assert (0, (*(f"{room}/clone/out/{it}" for it in names), "root@s:")) == (status, said[1]), told
 
 
 @pytest.mark.parametrize("lists, due", [("", ["update", "install"]), (LISTS, ["install", "update", "install"])])
@@ -1695,7 +1923,8 @@ def test_which_keys_sign(room):
 def test_a_client_is_installed_on_another_machine(installing):
     status, told, said = installing("client", "ana@c", *CLIENT_OF, "--hosts", "*.org", "--yes")
     assert 0 == status, told
-    assert [(f"{installing.room}/vethlumi-client_1.0.0_all.deb", "ana@c:")] == [it for it in said if it[-1] == "ana@c:"]
+    files = [f"{installing.room}/vethlumi-{it}_1.0.0_all.deb" for it in ("common", "client")]
+    assert [(*files, "ana@c:")] == [it for it in said if it[-1] == "ana@c:"]
     assert ("ana@c", "sudo", "-n", "vethlumi-client-setup", "--hosts", "*.org", "--yes", "-", f"{CA} first\n{bundle()}"
             ) == said[-1]
     # What is shown can be typed.
@@ -1859,10 +2088,9 @@ def test_what_is_not_installed(installing, words, answers, why):
 
 # ---- machines
 
-# What ours depend on, and the folder in which apt has it.
+# The folder in which apt has what ours depend on, and the provider at which people log in.
 ARCHIVES = "var/cache/apt/archives"
-NEEDED = """python3-click python3-rich nginx curl sqlite3 openssl logrotate openssh-client python3-requests
-python3-cryptography python3-jwt python3-platformdirs python3-waitress""".split()
+FETCHED = [*boxes.NEEDED, "glewlwyd"]
 FETCH = """set -e
 mount --make-rprivate /
 mount -t tmpfs -o mode=755 room "$2"
@@ -1878,7 +2106,7 @@ cp -a "$2/up" "$3"
 
 def fetched(base):
     """A folder that lies over that of every box, in which apt has what our packages depend on."""
-    stamp = hashlib.sha256(" ".join([boxes.stamp(boxes.PACKAGES), *NEEDED]).encode()).hexdigest()[:16]
+    stamp = hashlib.sha256(" ".join([boxes.stamp(boxes.PACKAGES), *FETCHED]).encode()).hexdigest()[:16]
     folder = boxes.FOLDER.with_name(f"{boxes.FOLDER.name}-packages")
     folder.mkdir(parents=True, exist_ok=True)
     with open(folder / "lock", "w") as lock:
@@ -1889,7 +2117,8 @@ def fetched(base):
                 shutil.rmtree(it, ignore_errors=True)
             (folder / "room").mkdir()
             environment = boxes.ENVIRONMENT | {"DEBIAN_FRONTEND": "noninteractive"}
-            words = ["unshare", "--mount", "bash", "-c", FETCH, "bash", base, folder / "room", new, " ".join(NEEDED)]
+            words = ["unshare", "--mount", "bash", "-c", FETCH, "bash", base, folder / "room", new,
+                     " ".join(FETCHED)]
             made = subprocess.run(words, capture_output=True, text=True, env=environment)
             if made.returncode:
                 raise boxes.CannotBoot(f"apt can't fetch packages: {(made.stdout + made.stderr)[-800:]}")
@@ -1920,17 +2149,22 @@ def index(layer):
 
 
 class Fleet(boxes.Rack):
-    """Machines into which the commands of the page are typed, one shell for each. They are bare: apt has no lists of
-    packages, and gets them by `apt-get update` alone, from a folder that stands for a mirror."""
+    """Machines into which the commands of the page are typed, one shell for each. Those that weren't kept are bare: apt
+    has no lists of packages, and gets them by `apt-get update` alone, from a folder that stands for a mirror."""
+    # Machines beside those of the page to which the one with the packages logs in.
+    FURTHER = ()
 
     def __init__(self, room, base, packages, kept=None):
         super().__init__(room, base, kept)
         self.packages, self.shells, self.typed = packages, {}, []
-        self.index = None if kept else index(pathlib.Path(base.split(":")[0]))
+
+    @functools.cached_property
+    def index(self):
+        return index(pathlib.Path(self.base.split(":")[0]))
 
     def furnish(self, box):
         box.write("etc/systemd/system/office-list.timer.d/often.conf", OFTEN)
-        if not self.kept:
+        if not (self.kept and (self.kept / box.name).exists()):
             box.write(f"{ARCHIVES}/Packages", self.index)
             box.write("etc/apt/sources.list", f"deb [trusted=yes] file:/{ARCHIVES} ./\n")
             for it in (box.files / "var/lib/apt/lists").iterdir():
@@ -1945,11 +2179,13 @@ class Fleet(boxes.Rack):
         (clone / "out").mkdir(parents=True, exist_ok=True)
         for name in NAMES:
             shutil.copy(of(self.packages, name), clone / "out")
-        shutil.copytree(PROGRAMS / "setup", clone / "programs/setup", dirs_exist_ok=True)
+        for it in ("setup", "common"):
+            shutil.copytree(PROGRAMS / it, clone / "programs" / it, dirs_exist_ok=True)
         box.write("root/.ssh/id_ed25519", self.key, 0o600)
         box.write("root/.ssh/config", "StrictHostKeyChecking yes\n", 0o600)
         key = (box.files / "etc/ssh/ssh_host_ed25519_key.pub").read_text()
-        box.write("root/.ssh/known_hosts", f"{','.join(f'{it}.{boxes.DOMAIN}' for it in MACHINES)} {key}", 0o600)
+        known = ",".join(f"{it}.{boxes.DOMAIN}" for it in (*MACHINES, *self.FURTHER))
+        box.write("root/.ssh/known_hosts", f"{known} {key}", 0o600)
 
     def shell(self, name):
         if name not in self.shells:
@@ -2119,19 +2355,24 @@ def test_the_page_leads_to_a_login_that_is_granted_and_refused(installed):
     assert {ADMIN, *MACHINES} == {it.name for it in installed.iterdir()}
 
 
+def request(name, more="--extensions permit-pty"):
+    """The command by which the client's machine requests a certificate for a key of alice's."""
+    return f"vethlumi request people/alice/{name} {name}.pub --principals alice@people {more}"
+
+
 def ask(fleet, name):
     """Begins to ask for a certificate on the client's machine, and waits until the office has it."""
     client = fleet.boxes["client"]
     client.run(f"ssh-keygen -q -t ed25519 -N '' -f {name}")
     client.run(f"systemd-run -q --unit=ask-{name} --setenv=HOME=/root --working-directory=/root "
-               f"vethlumi request people/{name} {name}.pub --principals alice")
-    boxes.wait_until(lambda: certificates(fleet, f"people/{name}"), f"{name} waits for a signature")
+               f"{request(name)}")
+    boxes.wait_until(lambda: certificates(fleet, f"people/alice/{name}"), f"{name} waits for a signature")
 
 
 def has_certificate(fleet, name):
     """Runs the same command again, and says whether it has the certificate. There is one, and no second."""
-    done = fleet.boxes["client"].run(f"vethlumi --wait 20 request people/{name} {name}.pub --principals alice", False)
-    return done.returncode == 0 and 1 == len(certificates(fleet, f"people/{name}"))
+    done = fleet.boxes["client"].run(request(name).replace("vethlumi ", "vethlumi --wait 20 "), False)
+    return done.returncode == 0 and 1 == len(certificates(fleet, f"people/alice/{name}"))
 
 
 @marked(*on_boxes)
@@ -2284,7 +2525,10 @@ def test_a_client_refuses_a_host_whose_certificate_was_revoked(fleet):
         return [client.run(it, False).stdout for it in (ssh, f"runuser -u bob -- env HOME=/home/bob {ssh}")]
     # sshd may be reading its files again.
     boxes.wait_until(lambda: all("Permission denied" in it for it in said()), "the host is believed, and nobody isn't")
-    server.run("vethlumi --config /etc/vethlumi/host.toml revoke --yes server-example-org/server.example.org")
+    # By its serial alone: a host of a department of all hosts revokes no key ID.
+    told = server.run("vethlumi --config /etc/vethlumi/host.toml revoke --yes hosts/server", False).stdout
+    assert "refused 10 NotAllowed" in told
+    server.run("vethlumi --config /etc/vethlumi/host.toml revoke --yes /etc/vethlumi/host-cert.pub")
     boxes.wait_until(lambda: all("revoked by file" in it and "Host key verification failed" in it for it in said()),
                      "the client refuses the host")
 
@@ -2299,8 +2543,8 @@ def test_a_rollover_reaches_servers_and_clients_and_what_is_taken_back_opens_not
     with open(station.files / "etc/vethlumi/station/cas.pub", "ab") as it:
         it.write((client.files / "root/new.pub").read_bytes())
     old, new = (it.split()[1] for it in station.says("ssh-keygen -l -f /etc/vethlumi/station/cas.pub").splitlines())
-    client.run("ssh-keygen -q -t ed25519 -N '' -f before; ssh-keygen -q -s new -I people/later -n alice later.pub; "
-               "vethlumi request people/before before.pub --principals alice --extensions permit-pty", timeout=120)
+    client.run("ssh-keygen -q -t ed25519 -N '' -f before; ssh-keygen -q -s new -I people/alice -n alice@people "
+               f"later.pub; {request('before')}", timeout=120)
 
     def install(machine, *cas, more=""):
         named = " ".join(f"--ca {it}" for it in cas)
@@ -2317,8 +2561,7 @@ def test_a_rollover_reaches_servers_and_clients_and_what_is_taken_back_opens_not
     stop_renewing(server)
     client.run("scp -q root@server.example.org:/etc/ssh/ssh_host_ed25519_key.pub host.pub 2>/dev/null || true")
     (client.files / "root/host.pub").write_bytes((server.files / "etc/ssh/ssh_host_ed25519_key.pub").read_bytes())
-    client.run("ssh-keygen -q -s new -h -I server-example-org/server.example.org -n server.example.org -V -1d:+30d "
-               "host.pub")
+    client.run("ssh-keygen -q -s new -h -I hosts/server -n server.example.org -V -1d:+30d host.pub")
     server.write("root/host-cert.pub", (client.files / "root/host-cert.pub").read_bytes())
     server.run("install -o office-host host-cert.pub /var/lib/office-host && vethlumi-host --reload")
     boxes.wait_until(lambda: [] == granted(), "sshd shows the new CA's certificate")
@@ -2355,17 +2598,21 @@ def test_a_server_that_was_set_up_before_is_moved_by_its_set_up(fleet):
     server.run("timeout 60 systemctl restart ssh && systemctl restart vethlumi-host && ls /etc/vethlumi/host-cert.pub")
     told = server.run("vethlumi-server-setup --yes").stdout
     assert "have sshd read them: /etc/ssh/sshd_config.d/vethlumi.conf" in told
-    assert ["HostCertificate /etc/vethlumi/host-cert.pub", "RevokedKeys /var/lib/office-list/revoked.krl",
-            "TrustedUserCAKeys /etc/vethlumi/trusted-cas"] == server.says(
-        "sort /etc/ssh/sshd_config.d/vethlumi.conf").splitlines()
+    settings = ["HostCertificate /etc/vethlumi/host-cert.pub", "RevokedKeys /var/lib/office-list/revoked.krl",
+                "TrustedUserCAKeys /etc/vethlumi/trusted-cas"]
+    assert settings == server.says("sort /etc/ssh/sshd_config.d/vethlumi.conf").splitlines()
     client = fleet.boxes["client"]
-    client.run("ssh-keygen -q -t ed25519 -N '' -f later; "
-               "vethlumi request people/later later.pub --principals alice --extensions permit-pty", timeout=120)
+    client.run(f"ssh-keygen -q -t ed25519 -N '' -f later; {request('later')}", timeout=120)
+    # People log in there by their accounts' names, until somebody says otherwise.
+    assert "Permission denied" in login(fleet, "later")
+    told = server.run("vethlumi-server-setup --people people --yes").stdout
+    assert "open accounts of people to ACCOUNT@people, and to no other principal" in told
     boxes.wait_until(lambda: login(fleet, "later") == "granted", "the server grants a login, and shows its certificate")
-    # A package that goes says what stays.
+    # A package that goes says what stays, and what doesn't work without it.
     told = server.run("apt-get remove -y -qq vethlumi-client", timeout=300).stdout
     assert "what is revoked from now on still opens this server" in told
-    assert login(fleet, "later") == "granted"
+    assert "until then sshd refuses all certificates, since vethlumi-principals is gone" in told
+    assert "Permission denied" in login(fleet, "later")
 
 
 # ---- upgrades and purges, on one machine that has all packages
@@ -2484,7 +2731,9 @@ ASK = "curl -sS --cacert /var/lib/vethlumi-authority/ca.crt https://solo.example
 
 def log_in(solo, key):
     """What the front says to a login whose token is signed by this key: the same each time."""
-    line, now = providers.key_line(bytes(range(32))), int(time.time())
+    seed = solo.files / "root/key"
+    line = providers.key_line(bytes.fromhex(seed.read_text()) if seed.exists() else bytes(range(32)))
+    now = int(time.time())
     if not (solo.files / "root/login.json").exists():
         token = providers.signed({
             "iss": ISSUER, "sub": "1", "aud": "vethlumi", "exp": now + 3600, "iat": now, "preferred_username": "ana",
@@ -2504,10 +2753,12 @@ def test_people_log_in_at_a_registrar_from_its_package(base, packages, tmp_path)
         solo.write("srv/provider/.well-known/openid-configuration", json.dumps(
             {"issuer": ISSUER, "jwks_uri": f"{ISSUER}/keys"}))
         solo.write("srv/provider/keys", json.dumps({"keys": [providers.public(key)]}))
-        solo.write("root/policy", department("people", admins="registrar", principals="*@people", maxlife=36060))
+        solo.write("root/policy", department("people", admins="registrar", principals="*@people", maxlife=36060)
+                   + department("hosts", kind="host", admins="registrar,host-{name}", principals="{name}.example.org",
+                                maxlife=2592000))
         solo.write("root/settings.toml", OF_SIGN_ON)
         told = solo.run(SIGN_ON, timeout=400).stdout
-        assert "start vethlumi-registrar.service, now and at each boot" in told
+        assert "start vethlumi-registrar.service and office-evidence.timer, now and at each boot" in told
         boxes.wait_until(lambda: json.loads(log_in(solo, key)).get("certificate"), "the station has signed")
         found = json.loads(log_in(solo, key))
         assert 1 == found["serial"] and found["certificate"].split(" ")[2].startswith("people/ana/")
@@ -2522,11 +2773,106 @@ def test_people_log_in_at_a_registrar_from_its_package(base, packages, tmp_path)
         told = solo.run("vethlumi-registrar-setup --yes settings.toml").stdout
         assert "everything is as it should be" in told
         told = solo.run("sed -i s/10h/9h/ settings.toml && vethlumi-registrar-setup --yes settings.toml").stdout
-        assert "have vethlumi-registrar.service read what changed" in told
+        assert "have vethlumi-registrar.service and office-evidence.timer read what changed" in told
         assert "KeyReused" == json.loads(log_in(solo, key))["error"]
+        look_at_the_witness(solo, key)
+        look_at_enrolment(solo)
         solo.run("apt-get purge -y -qq vethlumi-registrar >/dev/null", timeout=400)
         assert "registrar.pem" == solo.says("ls /etc/vethlumi/registrar")
         assert "NoRegistrar" == json.loads(log_in(solo, key))["error"]
+
+
+WITNESS = OF_SIGN_ON.replace("10h", "9h").replace('oldest = "1h"', f'oldest = "1h"\nkeys = "{ISSUER}/keys"')
+# As the registrar, with its own certificate: what nobody has logged in for, with somebody else's token as evidence.
+TAKEN = f"""set -e
+ask() {{ curl -sSf --cacert /etc/vethlumi/registrar/ca.crt --cert /etc/vethlumi/registrar/registrar.pem "$@"; }}
+ssh-keygen -q -t ed25519 -N '' -C thief -f thief
+digest=$(cut -d' ' -f2 thief.pub | base64 -d | sha256sum | cut -d' ' -f1)
+python3 -c 'import json; print(json.load(open("login.json"))["token"], end="")' >token
+ask -T token "https://solo.example.org:8443/evidence/$digest"
+now=$(date +%s)
+printf 'issue people\\nkeyid %s\\nkey %s\\nprincipals ana@people\\nafter %s\\nbefore %s\\nextensions\\n' \\
+  "$1" "$(cut -d' ' -f1,2 thief.pub)" $((now - 60)) $((now + 32400)) >message
+ask --data-binary @message https://solo.example.org:8443/v1/requests/thief
+"""
+
+
+def look_at_the_witness(solo, key):
+    """From packages: set-up refuses settings that leave a department out, a login is signed, and what the registrar's
+    own certificate asks for without one isn't."""
+    solo.write("root/less.toml", WITNESS.replace("department.people", "department.others"))
+    less = solo.run("vethlumi-station-setup --yes --witness less.toml", False)
+    assert (1, True) == (less.returncode, "the policy has the department people for users" in less.stdout)
+    solo.write("root/witness.toml", WITNESS)
+    told = solo.run("vethlumi-station-setup --yes --witness witness.toml").stdout
+    assert "write /etc/vethlumi/station/first.witness (whose logins are witnessed, and how)" in told
+    (solo.files / "root/login.json").unlink()
+    solo.write("root/key", os.urandom(32).hex())
+    boxes.wait_until(lambda: json.loads(log_in(solo, key)).get("certificate"), "the station has signed a login")
+    found = json.loads(log_in(solo, key))
+    key_id = found["certificate"].split(" ")[2].strip()
+    solo.write("root/taken", TAKEN)
+    assert f"issued {found['serial'] + 1}\n" in solo.run(f"sh taken {key_id}").stdout
+    boxes.wait_until(lambda: "refused as NotWitnessed BadToken" in solo.says(
+        "journalctl -u office-station@first -o cat"), "the station has refused what nobody logged in for")
+    # What was left today stays: that of both logins, of which the first came before the witness, and of the thief.
+    solo.run("systemctl start office-evidence.service")
+    assert "3" == solo.says("ls /var/lib/office-front/evidence | wc -l")
+    kept = solo.says("station witness --db /var/lib/office-station/first.db")
+    assert kept.startswith(f"{key['kid']} ") and kept.endswith(ISSUER)
+
+
+OF_ENROLMENT = OF_SIGN_ON + """
+[workloads.enrol]
+issuer = "https://solo.example.org:8443/enrol"
+keys = "/etc/vethlumi/registrar/enrol.jwks"
+algorithms = ["EdDSA"]
+unbound = true
+audience = "https://solo.example.org:8443"
+oldest = "1h"
+name = "sub"
+
+[department.hosts]
+workloads = "enrol"
+life = "29d"
+principals = ["{name}.example.org"]
+renew = true
+"""
+ENROL = """set -e
+enrol() { vethlumi --office https://solo.example.org:8443 enrol "$@"; }
+enrol --new-key >enrol.jwks
+vethlumi-registrar-setup --yes --enrol-keys enrol.jwks enrolment.toml
+enrol solo >token
+cat /etc/vethlumi/station/first.pub /var/lib/vethlumi-authority/server.bundle >server.bundle
+vethlumi-server-setup --yes --host solo.example.org --department hosts --enrol token server.bundle
+"""
+
+
+def look_at_enrolment(solo):
+    """From packages: a host has its certificate by a token, which counts once, and renews it by its own key, which only
+    root may read."""
+    solo.write("root/enrolment.toml", OF_ENROLMENT)
+    told = solo.run(ENROL, timeout=400).stdout
+    assert "write /etc/vethlumi/registrar/enrol.jwks" in told and "write /etc/vethlumi/enrol.token" in told
+
+    def shown():
+        solo.run("systemctl start vethlumi-host.service", False)
+        return solo.says("ssh-keygen -L -f /etc/vethlumi/host-cert.pub 2>/dev/null || true")
+
+    def serial():
+        return int((re.search(r"Serial: (\d+)", shown()) or [0, 0])[1])
+
+    boxes.wait_until(serial, "the host has a certificate")
+    first, said = serial(), shown()
+    assert "host certificate" in said and 'Key ID: "hosts/solo/' in said and "solo.example.org" in said
+    assert "/etc/vethlumi/enrol.token.used" == solo.says("ls /etc/vethlumi/enrol.token*")
+    solo.write("root/again", json.dumps({"department": "hosts", "token": solo.says("cat token").strip(),
+                                         "public_key": providers.new_line()}))
+    assert "KeyReused" == json.loads(solo.says(f"{ASK}login -d @again"))["error"]
+    solo.run("vethlumi-host --now")
+    assert serial() > first
+    line = json.loads(solo.says("journalctl -u vethlumi-registrar -o cat | grep '\"renewal\"'").splitlines()[0])
+    assert ("accepted", first) == (line["outcome"], line["of"])
 
 
 def look_at_the_sandbox(solo):
@@ -2559,7 +2905,7 @@ enter 'apt-get install -y -qq ./*.deb >/dev/null'
 enter 'for it in sshoffice sshstation vethlumi authority station vethlumi-registrar; do $it --help >/dev/null; done'
 enter 'stat -c "%U %a %n" /etc/vethlumi/station /var/lib/office /etc/vethlumi/front'
 enter 'apt-get purge -y -qq vethlumi-office vethlumi-front vethlumi-station \
-  vethlumi-client vethlumi-registrar >/dev/null'
+  vethlumi-client vethlumi-registrar vethlumi-common >/dev/null'
 enter 'ls -A /etc/vethlumi 2>/dev/null || true'
 """
 

@@ -163,6 +163,9 @@ func (q question) connected() (string, error) {
 }
 
 func (q question) answered() (given answer) {
+	if _, _, _, _, err := ssh.ParseAuthorizedKey([]byte(q.Line)); err != nil {
+		return answer{Fault: err.Error()}
+	}
 	err := error(nil)
 	if q.HostLine == "" {
 		err = q.checked()

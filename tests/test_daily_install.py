@@ -1,0 +1,237 @@
+"""The daily jobs of `vethlumi-install`: what it has each machine do, in which order, and what it refuses. ssh and scp
+are stand-ins, as in test_packages.py."""
+import os
+import re
+
+import pytest
+
+from running import PROGRAMS, loaded, run
+from test_packages import CA, Installing, bundle
+
+OF = ["--office", "o", "--station", "s", "--yes"]
+# What both sides and servers answer to what comes each day.
+DAILY = {r".* vethlumi-(station-policy|office-root) .*": "", r"(?s).* sh -c if (! )?getent .*": "",
+         r"(?s)\S+ sh -c for it in /etc/systemd.*": ""}
+
+
+@pytest.fixture
+def installing(room):
+    made = Installing(room)
+    return lambda *words, **answers: made(*words, **{**answers, **DAILY})
+
+
+def told_to(said):
+    """The machines and the words of what changes something."""
+    return [(it[0].partition("@")[2], *it[1:]) for it in said if not re.search("test -e|dpkg|^cat ", " ".join(it[1:]))]
+
+
+def both(job, name, *more, front=()):
+    """What both sides are told. What the front takes back, it does in between."""
+    return [("s", "vethlumi-station-policy", job, name, *more, "--yes"),
+            *([("o", "vethlumi-front-setup", *front, "--yes")] if front else []),
+            ("o", "vethlumi-office-root", job, name, *more, "--yes")]
+
+
+def leaving(user, caller, *front):
+    (policy, *_, office), (policy_, *_, office_) = both("remove-user", user), both("remove-caller", caller)
+    return [policy, policy_, ("o", "vethlumi-front-setup", *front, "--yes"), office, office_]
+
+
+@pytest.mark.parametrize("words, due", [
+    (["add-user", "bob"], both("add-user", "bob")),
+    (["remove-user", "bob"], both("remove-user", "bob", front=("--remove-user", "bob"))),
+    (["remove-user", "bob@corp"], both("remove-user", "bob@corp")),
+    (["remove-user", "admin"], both("remove-user", "admin")),
+    (["add-user", "bob@corp", "--department", "web"], both("add-user", "bob@corp", "--department", "web")),
+    (["add-caller", "carol"], [*both("add-caller", "carol"),
+                               ("o", "vethlumi-front-setup", "--caller", "carol", "--yes")]),
+    (["remove-caller", "carol"], both("remove-caller", "carol", front=("--remove", "carol"))),
+    (["remove-server", "Web.example.org"],
+     both("remove-server", "web.example.org", front=("--remove", "web.example.org"))),
+    (["leave", "bob"], leaving("bob", "bob", "--remove", "bob")),
+    (["leave", "bob", "--caller", "robert"], leaving("bob", "robert", "--remove-user", "bob", "--remove", "robert")),
+], ids=[f"{at}" for at in range(10)])
+def test_what_comes_and_goes_is_told_to_both_sides(installing, words, due):
+    """The station first: what it doesn't permit is signed by nobody, whatever the office says. Then the front, since
+    whom a department for everybody permits could ask again after the office has revoked."""
+    status, told, said = installing(*words, *OF)
+    assert (0, due) == (status, told_to(said)), told
+    # What is done is shown before, and can be typed.
+    assert "vethlumi-install will do this:\n  on s: vethlumi-station-policy " in told and told.endswith(": done\n")
+
+
+def test_a_user_gets_an_account_on_the_servers_that_are_named(installing):
+    status, told, said = installing("add-user", "bob", "--server", "c", "--server", "ana@d", *OF)
+    assert 0 == status, told
+    assert "  on c: create the account bob, without a password, unless it is there\n" in told
+    script = [it for it in told_to(said) if it[0] in "cd"]
+    assert [("c", "sh", "-c"), ("d", "sudo", "-n", "sh", "-c")] == [it[:-1] for it in script]
+    assert {True} == {"useradd --create-home --shell /bin/bash --password '*' bob\n" in it[-1] for it in script}
+    status, told, said = installing("leave", "bob", "--server", "c", *OF)
+    assert ["usermod --expiredate 1 bob; pkill -KILL -u bob" in it[-1] for it in told_to(said)] == (
+        [False] * 4 + [True, False])
+
+
+def test_a_server_gets_a_department_and_is_set_up(installing):
+    status, told, said = installing("add-server", "ana@Web.example.org", "--account", "alice", *OF)
+    assert 0 == status, told
+    found = [it for it in told_to(said) if re.search("policy|root|setup", " ".join(it[1:4]))]
+    assert [*both("add-server", "web.example.org"),
+            ("o", "vethlumi-front-setup", "--server", "web.example.org", "--yes")] == found[:-1]
+    assert ("Web.example.org", "sudo", "-n", "vethlumi-server-setup", "--account", "alice", "--yes", "-",
+            f"{CA} first\n{bundle('host-web-example-org', 'web.example.org')}") == found[-1]
+
+
+def test_a_caller_gets_a_bundle_and_a_machine(installing):
+    """The policy comes first, so nobody has a bundle that is good for nothing."""
+    status, told, said = installing("add-caller", "ana", "--client", "bob@c", "--hosts", "*.org", *OF)
+    assert 0 == status, told
+    found = told_to(said)
+    assert both("add-caller", "ana") == [it for it in found if re.search("policy|root", it[1])]
+    assert ("c", "sudo", "-n", "vethlumi-client-setup", "--hosts", "*.org", "--yes", "-", f"{CA} first\n{bundle('ana')}"
+            ) == found[-1]
+
+
+def test_a_user_gets_a_bundle_and_a_machine(installing):
+    """Where that is wanted, and by the words of a client's set-up."""
+    words = ["add-user", "ana", "--client", "c", "--hosts", "*.org"]
+    status, told, said = installing(*words, *OF, **{r".* test -e \S+/ana\.bundle && .*": ""})
+    assert 0 == status, told
+    found = told_to(said)
+    assert [*both("add-user", "ana"), ("o", "vethlumi-front-setup", "--caller", "ana", "--yes")] == [
+        it for it in found if re.search("policy|root|front-setup", it[1])]
+    assert ("c", "vethlumi-client-setup", "--hosts", "*.org", "--yes", "-", f"{CA} first\n{bundle('ana')}") == found[-1]
+
+
+def policy(*rules, name="people", kind="user"):
+    return f"department {name}\nkind {kind}\nadmins a\nprincipals {','.join(rules)}\noptions\n"
+
+
+OWN = policy("{name}@people")
+# A policy, further options, and the words by which a new server lets people in.
+PEOPLE = [
+    (OWN, [], ["--people", "people"]),
+    (OWN + policy("{name}.a", name="hosts", kind="host"), [], ["--people", "people"]),
+    (policy("ops@group", "{name}@people", "nobody"), [], ["--people", "people"]), (policy("alice"), [], []),
+    (policy("{name}"), [], []), (policy("{name}@people", "alice"), [], []), (policy("*@people"), [], []),
+    (OWN + policy("alice", name="web"), [], []), (OWN + policy("nobody", name="web"), [], ["--people", "people"]),
+    (policy("{name}@staff", name="staff"), [], ["--people", "staff"]), (policy("{name}@people", name="staff"), [], []),
+    (policy("{name}@staff", name="staff") + policy("{name}@jobs", name="jobs"), [], []),
+    (OWN + policy("{name}@jobs", name="jobs"), [], ["--people", "people"]), ("", [], []),
+    (OWN, ["--people", "staff"], ["--people", "staff"]), (policy("{name}@people", kind="host"), [], []),
+]
+
+
+@pytest.mark.parametrize("text, given, due", PEOPLE, ids=range(len(PEOPLE)))
+@pytest.mark.parametrize("is_new", [True, False], ids=["new", "there"])
+def test_people_log_in_to_a_new_server_as_the_policy_has_it(installing, is_new, text, given, due):
+    """One that is set up stays as it is, unless somebody says so."""
+    answers = {r".* test -e /etc/ssh/sshd_config\.d/vethlumi\.conf && .*": "" if is_new else "yes\n",
+               r"\S+ sh -c cat /etc/vethlumi/station/\*\.policy": text}
+    status, told, said = installing("add-server", "web.example.org", *given, *OF, **answers)
+    assert 0 == status, told
+    words = said[-1][1:-2]
+    assert ("vethlumi-server-setup", *(due if is_new or given else []), "--yes") == words, told
+
+
+GUARDS = "[guard SHA256:" + 43 * "a" + "]\n7 " + 64 * "0" + " 1700000000 people/alice\n"
+RECOVER = {r"(?s)\S+ sh -c set -e\nsystemctl stop .*": GUARDS, r"\S+ sh -c echo '\[list\]'; .*": "[list]\n# KRL ver\n"}
+
+
+def test_a_restored_office_is_recovered_while_the_station_is_stopped(installing):
+    """And the station starts again only if that is done."""
+    words = ["recover", "--server", "c", "--server", "d", *OF]
+    status, told, said = installing(*words, "--most", "9", **RECOVER)
+    assert 0 == status, told
+    found = told_to(said)
+    assert ["s", "c", "d", "o", "s"] == [it[0] for it in found]
+    assert ("o", "vethlumi-office-root", "recover", "--most", "9", "--yes", "-",
+            GUARDS + 2 * "[list]\n# KRL ver\n") == found[3]
+    assert "stop 'office-station@*'" in found[0][-1] and "systemctl start" in found[4][-1]
+    status, told, said = installing(*words, **{r".* vethlumi-office-root recover .*": 1}, **RECOVER)
+    assert (1, ["s", "c", "d", "o"]) == (status, [it[0] for it in told_to(said)]), told
+    assert "if this is interrupted, the station stays stopped: type it again\n" in told
+
+
+@pytest.mark.parametrize("text", ["", "7 x\n", GUARDS + "[list]\n", GUARDS.replace("0 17", "\x1b 17")], ids=range(4))
+def test_a_station_that_says_something_else_has_nothing_recovered(installing, text):
+    status, told, said = installing("recover", "--server", "c", *OF, **{**RECOVER, [*RECOVER][0]: text})
+    assert (1, True) == (status, "s has no guard, or says something else than what it has approved" in told), told
+    assert [] == [it for it in told_to(said) if "vethlumi-office-root" in it]
+
+
+@pytest.mark.parametrize("words, why", [
+    (["add-user"], "add-user needs NAME right after it"), (["add-server"], "add-server needs MACHINE right after it"),
+    (["add-user", "a b"], "no name of a user"), (["remove-caller", "a.b"], "no name of a caller"),
+    (["leave", "bob", "--caller", "a.b"], "no name of a caller: 'a.b'"), (["leave", "a.b"], "no name of a caller: "),
+    (["leave", "admin"], "admin is a name that set-up makes"), (["remove-caller", "root"], "root is a name that set"),
+    (["add-server", "a b"], "no machine"), (["add-user", "bob", "--server", "a b"], "no machine"),
+    (["add-user", "bob@corp", "--server", "c"], "bob@corp is no name of an account, so leave out --server"),
+    (["remove-user", "bob", "--client", "c"], "remove-user takes no --client"), (["add-user", "bob", "--hosts", "x"],
+                                                                                "add-user has no option --hosts"),
+    (["add-user", "bob@corp", "--client", "c"], "bob@corp is no name of a caller, so leave out --client"),
+    (["add-user", "root", "--client", "c"], "root is no name of a caller, so leave out --client"),
+    (["add-caller", "bob", "--hosts", "x"], "add-caller has no option --hosts"), (["recover"], "recover needs --s"),
+    (["recover", "bob", "--server", "c"], "recover takes no name: bob"), (["recover", "--server", "c", "--to", "0"],
+                                                                         "--to is a serial: '0'"),
+    (["remove-server", "c", "--department", "x"], "remove-server takes no --department"),
+    (["add-user", "bob", "--name", "first"], "add-user takes no --name"), (["add-user", "bob", "--ca", "SHA256:x"],
+                                                                          "add-user takes no --ca without"),
+    (["add-server", "c", "--hosts", "x"], "nor vethlumi-server-setup has an option --hosts"),
+    (["add-caller", "a", "--client", "c", "--account", "x"], "nor vethlumi-client-setup has an option --account"),
+], ids=range(24))
+def test_bad_words_change_nothing(installing, words, why):
+    status, told, said = installing(*words, *OF)
+    assert (2, True, []) == (status, why in told, said), told
+
+
+@pytest.mark.parametrize("lacks", ["office", "station"])
+def test_both_sides_have_to_be_named(installing, lacks):
+    words = [it for it in (["--office", "o", "--station", "s"]) if it not in (f"--{lacks}", lacks[0])]
+    status, told, said = installing("add-user", "bob", *words)
+    assert (2, True, []) == (status, f"give --{lacks} too: add-user changes what that machine has" in told, said), told
+
+
+def test_options_of_these_names_go_on_to_set_up_commands(installing):
+    """As before: those of the front and of the station have the same names."""
+    status, told, said = installing("station", "s", "--department", "web", "--principals", "alice", "--yes")
+    assert (0, ("s", "vethlumi-station-setup", "--department", "web", "--principals", "alice", "--yes")) == (
+        status, told_to(said)[-1]), told
+    status, told, said = installing("office", "o", "--station", "s", "--server", "x.org", "--yes")
+    assert ("o", "vethlumi-front-setup", "--server", "x.org", "--yes", "o") in told_to(said), told
+
+
+# Stands for the programs of accounts: one file has a line for each account, with its last day.
+ACCOUNTS = """#!/bin/sh
+echo "${0##*/} $*" >>said
+case "${0##*/} $*" in
+  "getent passwd bob") [ -e bob ] && echo bob:x: || exit 2 ;;
+  "getent shadow bob") echo "bob:*:1:0:99999:7::$(cat bob):" ;;
+  useradd*) : >bob ;;
+  "usermod --expiredate 1 bob") echo 1 >bob ;;
+  "usermod --expiredate  bob") : >bob ;;
+  pkill*) exit 1 ;;
+esac
+"""
+
+
+def test_an_account_is_made_ended_and_opened_again(room):
+    """Its files stay. One that is there is left as it is, also if its last day is another."""
+    daily = loaded(PROGRAMS / "setup/vethlumi-install").daily
+    (room / "bin").mkdir()
+    for it in ("getent", "useradd", "usermod", "pkill"):
+        (room / "bin" / it).write_text(ACCOUNTS)
+        (room / "bin" / it).chmod(0o755)
+
+    def do(script):
+        (room / "said").write_text("")
+        environment = os.environ | {"PATH": f"{room}/bin:{os.environ['PATH']}"}
+        run(["sh", "-c", script.format("bob")], env=environment, check=True)
+        return [it for it in (room / "said").read_text().splitlines() if not it.startswith("getent")]
+    made = "useradd --create-home --shell /bin/bash --password * bob"
+    ended = ["usermod --expiredate 1 bob", "pkill -KILL -u bob"]
+    assert [[], [made], [], ended, ended, ["usermod --expiredate  bob"], []] == [do(it) for it in (
+        daily.END_ACCOUNT, daily.ADD_ACCOUNT, daily.ADD_ACCOUNT, daily.END_ACCOUNT, daily.END_ACCOUNT,
+        daily.ADD_ACCOUNT, daily.ADD_ACCOUNT)]
+    (room / "bob").write_text("20000\n")
+    assert [] == do(daily.ADD_ACCOUNT)
