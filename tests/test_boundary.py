@@ -141,8 +141,13 @@ def opened(db):
 
 def made(db):
     """How a database is made: its file with its mode at once, whatever the umask leaves of it, and then its log."""
-    return [f"w O_CREAT O_EXCL 0600 {db}", f"fchmod {db} 0600", f"rw {db}", f"rw O_CREAT O_EXCL 0600 {db}-wal",
-            f"fchown {db}-wal -1, {os.getgid()}", f"fchown {db}-wal {os.getuid()}, -1", f"fchmod {db}-wal 0600", "r ."]
+    return [f"w O_CREAT O_EXCL 0600 {db}", f"fchmod {db} 0600", *logged(db)]
+
+
+def logged(db):
+    """How a database is opened that has no log, as sqlite3 leaves it: the log is made, for the file's owner."""
+    return [f"rw {db}", f"rw O_CREAT O_EXCL 0600 {db}-wal", f"fchown {db}-wal -1, {os.getgid()}",
+            f"fchown {db}-wal {os.getuid()}, -1", f"fchmod {db}-wal 0600", "r ."]
 
 
 def without_ends(found, db):
@@ -167,7 +172,7 @@ OFFICE = {
     "check": ("check --ca ca.pub krl 1 web/alice", ["r ca.pub", "r krl"]),
     "init": ("init --db new.db --ca ca.pub --root root --station station --first 1 --last 9",
              ["r ca.pub", *made("new.db")]),
-    "migrate": ("migrate --db older.db", opened("older.db")),
+    "migrate": ("migrate --db older.db", logged("older.db")),
     "apply in memory": ("apply web.exchange", ["r web.exchange"]),
     "help": ("--help", []),
 }
