@@ -19,7 +19,7 @@ import asking
 from asking import CA, batch, department, get, key_blob, post, write_exchanges
 from publishing import CA as LIST_CA
 from publishing import LIST, key_line
-from running import TOP, init, rest, run
+from running import TOP, init, rest, run, sql
 from stations import init as guard_init
 from test_crates import below
 from tracing import WRITES, Trace
@@ -127,6 +127,8 @@ def laid(room, program, sshstation):
     (room / "input").write_bytes(batch((room / "body").read_bytes()))
     write_exchanges("web.exchange", [post("root", "web", department())])
     run([program, *init("office.db", "ca.pub")], check=True)
+    run([program, *init("older.db", "ca.pub")], check=True)
+    sql("older.db", "DROP TABLE ca", "UPDATE office SET schema = 1", "VACUUM")
     run([sshstation, *guard_init("guard.db", "ca.pub")], check=True)
     run([sshstation, "lists", "--init", "--db", "lists.db"], check=True)
     return room
@@ -139,8 +141,13 @@ def opened(db):
 
 def made(db):
     """How a database is made: its file with its mode at once, whatever the umask leaves of it, and then its log."""
-    return [f"w O_CREAT O_EXCL 0600 {db}", f"fchmod {db} 0600", f"rw {db}", f"rw O_CREAT O_EXCL 0600 {db}-wal",
-            f"fchown {db}-wal -1, {os.getgid()}", f"fchown {db}-wal {os.getuid()}, -1", f"fchmod {db}-wal 0600", "r ."]
+    return [f"w O_CREAT O_EXCL 0600 {db}", f"fchmod {db} 0600", *logged(db)]
+
+
+def logged(db):
+    """How a database is opened that has no log, as sqlite3 leaves it: the log is made, for the file's owner."""
+    return [f"rw {db}", f"rw O_CREAT O_EXCL 0600 {db}-wal", f"fchown {db}-wal -1, {os.getgid()}",
+            f"fchown {db}-wal {os.getuid()}, -1", f"fchmod {db}-wal 0600", "r ."]
 
 
 def without_ends(found, db):
@@ -165,6 +172,7 @@ OFFICE = {
     "check": ("check --ca ca.pub krl 1 web/alice", ["r ca.pub", "r krl"]),
     "init": ("init --db new.db --ca ca.pub --root root --station station --first 1 --last 9",
              ["r ca.pub", *made("new.db")]),
+    "migrate": ("migrate --db older.db", logged("older.db")),
     "apply in memory": ("apply web.exchange", ["r web.exchange"]),
     "help": ("--help", []),
 }
@@ -230,11 +238,27 @@ def test_a_server_listens_at_this_machines_address_alone(program, programs, laid
                   and not re.match(r"ftruncate office\.db(-wal)? \d+$", it)]
 
 
+def test_a_self_test_asks_nobody_but_itself(program, laid):
+    """It opens no file, and its one connection is to the port that it got."""
+    found, done = calls([program, "selftest"], laid)
+    assert (0, b"selftest ok\n") == (done.returncode, done.stdout)
+    assert [] == [it for it in found if not re.match("(socket|bind|connect|listen|clone3?) ", it)]
+    sockets = [of_socket(it) for it in found if not it.startswith("clone")]
+    made = ["socket AF_INET, SOCK_STREAM", "bind 127.0.0.1 0", "listen"]
+    assert made + made[:1] == [it for it in sockets if not it.startswith("connect ")]
+    assert [f"connect 127.0.0.1 {port}" for port in asked_ports(found)] == [it for it in sockets if it[:7] == "connect"]
+    assert 1 == len(asked_ports(found))
+
+
+def asked_ports(found):
+    return [re.search("htons.([0-9]+)", it)[1] for it in found if it.startswith("connect ")]
+
+
 def of_socket(call):
     """A call about a socket, with what tells where it leads."""
     name, words = call.split(" ", 1)
-    if name == "bind":
-        return f"bind {re.search('inet_addr..([0-9.]+)', words)[1]} {re.search('htons.([0-9]+)', words)[1]}"
+    if name in ("bind", "connect"):
+        return f"{name} {re.search('inet_addr..([0-9.]+)', words)[1]} {re.search('htons.([0-9]+)', words)[1]}"
     return re.sub(r"\|SOCK_CLOEXEC.*", "", call) if name == "socket" else name
 
 

@@ -40,6 +40,11 @@ def test_crates_stand_in_the_order_of_the_list(name):
     assert all(places.index(it) < places.index(name) for it in below(name))
 
 
+def test_the_page_of_promises_has_the_crates_in_this_order():
+    table = (TOP / "docs/PROMISES.md").read_text().partition("| crate | the main promise |\n")[2].partition("\n\n")[0]
+    assert [*STANDS_ON] == re.findall(r"^\| \[`(\w+)`\]\(\.\./crates/\1/README\.md\)", table, re.M)
+
+
 def test_no_file_of_the_repository_is_a_link():
     """The gate refuses one before it proves anything."""
     found = [pathlib.Path(folder, it) for folder, folders, names in os.walk(TOP) for it in (*folders, *names)]
