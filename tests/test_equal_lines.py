@@ -13,8 +13,8 @@ TOOL = "tools/equal-lines"
 LINES = [f"step{it} = refl" for it in range(30)]
 
 
-# What is still twice since both crates have the runs of their programs: what a close leaves, and how files are opened.
-STILL_TWICE = ["proofs/Left.antt", "src/opening.rt"]
+# What is still twice since both crates have the runs of their programs: what a close leaves.
+STILL_TWICE = ["proofs/Left.antt"]
 
 
 def test_the_crates_of_both_guards_share_no_other_run_of_twenty_lines():

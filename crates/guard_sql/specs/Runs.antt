@@ -6,6 +6,7 @@ use Rattle.sqlite_wal.specs.Recovery.{Image}
 use Rattle.sqlite_wal.specs.Files.{outcomes}
 use Rattle.sqlite_wal.specs.Reads.{AreClean}
 use Rattle.sqlite_store.specs.declared.store.FileStore.{FileStore}
+use Rattle.sqlite.specs.Start.{FindsIn}
 use Rattle.sqlite.specs.State.{State as Connection, HasCleanDisk, IsLive, Opens}
 use Rattle.sqlite.specs.Held.{Held}
 use Rattle.sqlite.specs.Files.{file_state}
@@ -29,6 +30,10 @@ use Rattle.guard_sql.specs.Steps.{Step}
 abbrev pub FoundIsHad : Connection → Type 0
 FoundIsHad c = Opens c → IsLive c → (s : State) → Kept c.committed.trees (guard_contents s) → HasGuard s c
 
+-- a connection was just opened, and has the database that these files held
+abbrev pub IsNewOn : Image → Connection → Type 0
+IsNewOn image c = Opens c × IsLive c × FindsIn image c
+
 -- the connection has each guard that the files held
 abbrev pub HasWhatIsHeld : Image → Connection → Type 0
 HasWhatIsHeld image c = (s : State) → HoldsGuard image s → HasGuard s c
@@ -36,6 +41,13 @@ HasWhatIsHeld image c = (s : State) → HoldsGuard image s → HasGuard s c
 -- the connection is blank if the files held no row
 abbrev pub IsBlankIfNone : Image → Connection → Type 0
 IsBlankIfNone image c = HoldsNone image → IsBlank c
+
+-- so it is for whatever files a connection that was just opened has the database of
+abbrev pub HeldIsHad : Connection → Type 0
+HeldIsHad c = (image : Image) → IsNewOn image c → HasWhatIsHeld image c
+
+abbrev pub NoneIsBlank : Connection → Type 0
+NoneIsBlank c = (image : Image) → IsNewOn image c → IsBlankIfNone image c
 
 -- ---- the end
 
@@ -110,3 +122,7 @@ pub record RunsOn (image : Image) (May : Step → Type 0) (said : Said) (may_lea
 abbrev pub HasAfter : (Image → Type 0) → Image → Connection → Type 0
 HasAfter may_leave image c =
     may_leave image → (s : State) → ((after : Image) → may_leave after → HoldsGuard after s) → HasGuard s c
+
+-- so it is for each connection that was just opened
+abbrev pub LeftIsHad : (Image → Type 0) → Connection → Type 0
+LeftIsHad may_leave c = (image : Image) → IsNewOn image c → HasAfter may_leave image c

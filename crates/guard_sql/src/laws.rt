@@ -2,13 +2,14 @@
 //! caller cites.
 
 ghost use Rattle.std.specs.Prelude.{◌≡◌, ◌≤◌, ◌++◌, ◌∷◌, ℕ, List, All, Contains, Some, None, Ok};
+ghost use Rattle.sqlite_wal.specs.Files.{outcomes};
 ghost use Rattle.sqlite.specs.Held.{state};
 ghost use Rattle.guard.specs.declared.approved.Approved.{Approved};
 ghost use Rattle.guard.specs.Machine.{State, Question, refusal_of};
 ghost use Rattle.guard.specs.Retirement.{retirement};
 ghost use Rattle.guard_sql.specs.Keeping.{HasOneBodyASerial};
 ghost use Rattle.guard_sql.specs.Lives.{LivesKeep, RunsGoOn};
-ghost use Rattle.guard_sql.specs.Runs.{FoundIsHad, RunKeepsGuard};
+ghost use Rattle.guard_sql.specs.Runs.{FoundIsHad, HeldIsHad, LeftIsHad, NoneIsBlank, RunKeepsGuard};
 ghost use Rattle.guard_sql.specs.Steps.{AddsAsked, IsLater, Step, WasAskedIn, guard_after};
 
 use crate::store::GuardStore;
@@ -22,10 +23,26 @@ pub fn a_serial_has_one_body<S: Alter>(store: &GuardStore<S>)
     let _ = store;
 }
 
-/// A connection that was just opened has each guard whose rows its trees hold.
+/// What a connection that was just opened has, if it has the database that its files held.
 pub fn what_is_found_is_had<S: Alter>(conn: &Connection<S>)
-    ensures { FoundIsHad (state S.Store conn.now) }
+    // Each guard whose rows its trees hold.
+    ensures rows { FoundIsHad (state S.Store conn.now) }
+
+    // So each guard that the files held.
+    ensures held { HeldIsHad (state S.Store conn.now) }
+
+    // If they held no row, a guard can be made.
+    ensures blank { NoneIsBlank (state S.Store conn.now) }
 {
+    let _ = conn;
+}
+
+/// If the files that an open finds are among those that the last run may have left, with or without a crash since, the
+/// connection has the guard that all of these hold.
+pub fn what_was_left_is_had<D: Disk + Drop, S: Alter>(last: &Files<D>, conn: &Connection<S>)
+    ensures { LeftIsHad (outcomes D.Disk last.now.log last.now.db) (state S.Store conn.now) }
+{
+    let _ = last;
     let _ = conn;
 }
 

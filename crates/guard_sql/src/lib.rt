@@ -19,7 +19,6 @@ mod guards;
 mod keeping;
 mod laws;
 mod look;
-mod opening;
 mod opening_fault;
 mod register;
 mod serving;
@@ -31,8 +30,7 @@ pub use ending::{end_at, end_path};
 pub use laws::{
     a_guard_only_narrows, a_kept_body_is_signed_again, a_kept_body_was_permitted,
     a_kept_serial_has_one_body, a_retired_guard_stays_retired, a_run_keeps_the_guard,
-    a_serial_has_one_body, lives_keep_what_was_signed, what_is_found_is_had,
+    a_serial_has_one_body, lives_keep_what_was_signed, what_is_found_is_had, what_was_left_is_had,
 };
-pub use opening::{open_again, open_at};
 pub use opening_fault::OpeningFault;
 pub use store::GuardStore;

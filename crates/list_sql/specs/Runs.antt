@@ -6,6 +6,7 @@ use Rattle.sqlite_wal.specs.Recovery.{Image}
 use Rattle.sqlite_wal.specs.Files.{outcomes}
 use Rattle.sqlite_wal.specs.Reads.{AreClean}
 use Rattle.sqlite_store.specs.declared.store.FileStore.{FileStore}
+use Rattle.sqlite.specs.Start.{FindsIn}
 use Rattle.sqlite.specs.State.{State as Connection, HasCleanDisk, IsLive, Opens}
 use Rattle.sqlite.specs.Held.{Held}
 use Rattle.sqlite.specs.Files.{file_state}
@@ -27,6 +28,10 @@ use Rattle.list_sql.specs.Lives.{GoesOn, IsRun, Said}
 abbrev pub FoundIsHad : Connection → Type 0
 FoundIsHad c = Opens c → IsLive c → (s : State) → Kept c.committed.trees (list_contents s) → HasList s c
 
+-- a connection is new, and has the database that these files held
+abbrev pub IsNewOn : Image → Connection → Type 0
+IsNewOn image c = Opens c × IsLive c × FindsIn image c
+
 -- a connection has each list guard that the files held
 abbrev pub HasWhatIsHeld : Image → Connection → Type 0
 HasWhatIsHeld image c = (s : State) → HoldsList image s → HasList s c
@@ -34,6 +39,13 @@ HasWhatIsHeld image c = (s : State) → HoldsList image s → HasList s c
 -- a connection has no table if the files held no list guard
 abbrev pub IsBlankIfNone : Image → Connection → Type 0
 IsBlankIfNone image c = HoldsNone image → IsBlank c
+
+-- so it is for whatever files a new connection has the database of
+abbrev pub HeldIsHad : Connection → Type 0
+HeldIsHad c = (image : Image) → IsNewOn image c → HasWhatIsHeld image c
+
+abbrev pub NoneIsBlank : Connection → Type 0
+NoneIsBlank c = (image : Image) → IsNewOn image c → IsBlankIfNone image c
 
 -- ---- the end
 

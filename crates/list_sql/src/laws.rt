@@ -2,13 +2,20 @@
 
 ghost use Rattle.sqlite.specs.Held.{state};
 ghost use Rattle.list_sql.specs.Lives.{LivesGrow, RunsGoOn};
-ghost use Rattle.list_sql.specs.Runs.{FoundIsHad};
+ghost use Rattle.list_sql.specs.Runs.{FoundIsHad, HeldIsHad, NoneIsBlank};
 
 use sqlite::{Alter, Connection};
 
-/// A new connection has each list guard whose rows its trees hold.
+/// What a new connection has, if it has the database that its files held.
 pub fn what_is_found_is_had<S: Alter>(conn: &Connection<S>)
-    ensures { FoundIsHad (state S.Store conn.now) }
+    // Each list guard whose rows its trees hold.
+    ensures rows { FoundIsHad (state S.Store conn.now) }
+
+    // So each list guard that the files held.
+    ensures held { HeldIsHad (state S.Store conn.now) }
+
+    // If they held none, it has no table, so that one can be made.
+    ensures blank { NoneIsBlank (state S.Store conn.now) }
 {
     let _ = conn;
 }

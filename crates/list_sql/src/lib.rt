@@ -17,7 +17,6 @@ mod keeping;
 mod laws;
 mod lists;
 mod look;
-mod opening;
 mod opening_fault;
 mod pieces;
 mod register;
@@ -27,6 +26,5 @@ mod store;
 
 pub use ending::{end_at, end_path};
 pub use laws::{lives_only_grow, what_is_found_is_had};
-pub use opening::open_at;
 pub use opening_fault::OpeningFault;
 pub use store::ListStore;

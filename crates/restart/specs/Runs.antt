@@ -9,6 +9,7 @@ use Rattle.sqlite_trees.specs.Tree.{Trees}
 use Rattle.sqlite_trees.specs.declared.store.Store as tables
 use Rattle.sqlite_store.specs.declared.store.FileStore.{FileStore}
 use Rattle.sqlite_store.specs.FileStore as store
+use Rattle.sqlite.specs.Start.{FindsIn}
 use Rattle.sqlite.specs.State.{State, HasCleanDisk, IsLive, Opens}
 use Rattle.sqlite.specs.Held.{Held, state}
 use Rattle.sqlite.specs.Files.{file_state, over_files, IsOpened}
@@ -35,6 +36,10 @@ FoundIsTold s =
     Opens s → IsLive s → s.step_limit ≡ None
     → (o : Opening) (l : List Arrival) → IsHistory o l → Kept s.committed.trees (office_contents o l) → Tells s o l
 
+-- a connection was newly opened, and has the database that these files held
+abbrev pub IsNewOn : Image → State → Type 0
+IsNewOn image s = Opens s × IsLive s × (s.step_limit ≡ None) × FindsIn image s
+
 -- it represents each history whose office the files held
 abbrev pub TellsWhatIsHeld : Image → State → Type 0
 TellsWhatIsHeld image s = (o : Opening) (l : List Arrival) → HoldsOffice image o l → Tells s o l
@@ -46,6 +51,16 @@ TellsFormer image s = (o : Opening) (l : List Arrival) → HoldsFormer image o l
 -- it is blank if the files held no office
 abbrev pub IsBlankIfNone : Image → State → Type 0
 IsBlankIfNone image s = HoldsNone image → IsBlank s
+
+-- so it is for whatever files a newly opened connection has the database of
+abbrev pub HeldIsTold : State → Type 0
+HeldIsTold s = (image : Image) → IsNewOn image s → TellsWhatIsHeld image s
+
+abbrev pub FormerIsTold : State → Type 0
+FormerIsTold s = (image : Image) → IsNewOn image s → TellsFormer image s
+
+abbrev pub NoneIsBlank : State → Type 0
+NoneIsBlank s = (image : Image) → IsNewOn image s → IsBlankIfNone image s
 
 -- all of this, for a connection to files whose disk has been faithful
 pub record IsFound {D : Type 0} {g : Ghosts D} (image : Image) (conn : Held (FileStore D g)) : Type 0 where
@@ -166,3 +181,7 @@ abbrev pub TellsAfter : (Image → Type 0) → Image → State → Type 0
 TellsAfter may_leave image s =
     may_leave image → (o : Opening) (l : List Arrival) → ((after : Image) → may_leave after → HoldsOffice after o l)
     → Tells s o l
+
+-- so it is for each newly opened connection
+abbrev pub LeftIsTold : (Image → Type 0) → State → Type 0
+LeftIsTold may_leave s = (image : Image) → IsNewOn image s → TellsAfter may_leave image s

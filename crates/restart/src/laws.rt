@@ -1,17 +1,38 @@
 //! Theorems about an office from run to run: functions without a body, whose contracts a caller cites.
 
+ghost use Rattle.sqlite_wal.specs.Files.{outcomes};
 ghost use Rattle.sqlite.specs.Held.{state};
 ghost use Rattle.restart.specs.Adding.{ArrivalsStay};
 ghost use Rattle.restart.specs.Lives.{LivesAreDue, RunsAreDue, RunsGoOn};
-ghost use Rattle.restart.specs.Runs.{ClosedRuns, CutRuns, FoundIsTold, RunKeepsOffice};
+ghost use Rattle.restart.specs.Runs.{ClosedRuns, CutRuns, FormerIsTold, FoundIsTold, HeldIsTold, LeftIsTold};
+ghost use Rattle.restart.specs.Runs.{NoneIsBlank, RunKeepsOffice};
 
 use sqlite::{Alter, Connection, FileStore, Files};
 use sqlite_disk::Disk;
 
-/// A newly opened connection represents each history whose rows its trees hold.
+/// What a newly opened connection represents, if it has the database that its files held.
 pub fn what_is_found_is_told<S: Alter>(conn: &Connection<S>)
-    ensures { FoundIsTold (state S.Store conn.now) }
+    // Each history whose rows its trees hold.
+    ensures rows { FoundIsTold (state S.Store conn.now) }
+
+    // So each history whose office the files held.
+    ensures held { HeldIsTold (state S.Store conn.now) }
+
+    // In schema 1 each history whose office they held in schema 1, so that the office can be migrated.
+    ensures former { FormerIsTold (state S.Store conn.now) }
+
+    // If they held no table, an office can be created.
+    ensures blank { NoneIsBlank (state S.Store conn.now) }
 {
+    let _ = conn;
+}
+
+/// If the files that an open finds are among those that the last run may have left, with or without a crash since, the
+/// connection represents the history that all of these hold.
+pub fn what_was_left_is_told<D: Disk + Drop, S: Alter>(last: &Files<D>, conn: &Connection<S>)
+    ensures { LeftIsTold (outcomes D.Disk last.now.log last.now.db) (state S.Store conn.now) }
+{
+    let _ = last;
     let _ = conn;
 }
 

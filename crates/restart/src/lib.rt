@@ -12,12 +12,10 @@
 mod closing;
 mod ending;
 mod laws;
-mod opening;
 
 pub use closing::{close_at, close_path, store_of};
 pub use ending::end_at;
 pub use laws::{
     a_closed_run_is_a_run, a_cut_run_is_a_run, a_run_keeps_the_office, arrivals_stay,
-    lives_are_due, what_is_found_is_told,
+    lives_are_due, what_is_found_is_told, what_was_left_is_told,
 };
-pub use opening::{open_again, open_at};

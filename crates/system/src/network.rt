@@ -38,11 +38,15 @@ impl Net for Network {
 
     type Listener = TcpListener;
 
-    fn bind(&self, address: SocketAddr) -> io::Result<TcpListener> {
+    fn bind(&self, address: SocketAddr) -> io::Result<TcpListener>
+        ensures { IfOk result (λ _. MatchIp (socket_ip address) IsLoopbackV4 IsLoopbackV6) }
+    {
         self.rt.bind(own(address)?)
     }
 
-    fn connect(&self, address: SocketAddr) -> io::Result<TcpStream> {
+    fn connect(&self, address: SocketAddr) -> io::Result<TcpStream>
+        ensures { IfOk result (λ _. MatchIp (socket_ip address) IsLoopbackV4 IsLoopbackV6) }
+    {
         self.rt.connect(own(address)?)
     }
 }
