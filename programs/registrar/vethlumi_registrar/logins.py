@@ -29,6 +29,9 @@ MOST_PEOPLE = 20000
 PIECES = 3
 # For how many seconds after its login anybody who knows a serial gets the certificate.
 OPEN = 900
+# Why the office may have another message under a request ID: by a token that is bound to no key, and by one that is.
+USED_UP = "this token has a certificate already, for another key or department"
+CHANGED = "groups, name or settings have changed since this login: log in again"
 
 
 class Refusal(Exception):
@@ -144,7 +147,7 @@ class Registrar:
         def ask():
             if one.is_witnessed:
                 self.show(token, blob, person, record["request"])
-            return self.issued(record["request"], message, bool(one.issuer.audience))
+            return self.issued(record["request"], message, USED_UP if one.issuer.audience else CHANGED)
         person = claims["iss"], claims["sub"]
         return self.served(person, record, ask)
 
@@ -204,13 +207,13 @@ class Registrar:
             raise Refusal(503, "NoProvider", "the provider's keys can't be fetched now: send the same again",
                           f"provider: {fault}", 2) from None
 
-    def issued(self, request, message, is_unbound):
-        """The serial that the office has given."""
+    def issued(self, request, message, why_used):
+        """The serial that the office has given. `why_used` says why it may have another message of this request ID."""
         try:
             with answers_of_office():
                 return self.office.issue(request, message)
         except Refused as refused:
-            raise refusal_of_office(refused, is_unbound) from None
+            raise refusal_of_office(refused, why_used) from None
 
     def certificate(self, serial):
         """The line of a certificate, or None while there is none, or none to give."""
@@ -251,11 +254,10 @@ def key_of(text):
     return " ".join(words[:2]), base64.b64decode(words[1])
 
 
-def refusal_of_office(refused, is_unbound):
-    """What a refusal of the office says of a login."""
+def refusal_of_office(refused, why_used):
+    """What a refusal of the office says to who asks."""
     if refused.name == "KeyReused":
-        return Refusal(409, "KeyReused", "this token has a certificate already, for another key or department"
-                       if is_unbound else "groups, name or settings have changed since this login: log in again")
+        return Refusal(409, "KeyReused", why_used)
     if refused.name == "Revoked":
         return Refusal(403, "Revoked", "this certificate was revoked, so nothing is renewed by it")
     if refused.name == "KeyIdRevoked":
