@@ -215,11 +215,11 @@ class Registrar:
         except Refused as refused:
             raise refusal_of_office(refused, why_used) from None
 
-    def certificate(self, serial):
-        """The line of a certificate, or None while there is none, or none to give."""
+    def certificate(self, serial, address):
+        """The line of a certificate for somebody at an address, or None while there is none, or none to give."""
         try:
             with answers_of_office():
-                return self.lines.line(serial)
+                return self.lines.line(serial, address)
         except Busy:
             raise Refusal(429, "TooMany", "too many ask: send the same again", pause=1) from None
 
