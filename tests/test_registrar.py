@@ -16,8 +16,8 @@ import types
 import pytest
 
 from asking import department, key_line
-from providers import (CI, JOBS, OPERATORS, PEOPLE, SETTINGS, Inside, Provider, Registrar, StandIn, new_key, new_line,
-                       tag, words)
+from providers import (CI, JOBS, OPERATORS, PEOPLE, SETTINGS, Inside, Provider, Registrar, StandIn, evidence_name,
+                       new_key, new_line, tag, words)
 from running import PROGRAMS, run, said, until
 from vethlumi_common.trail import record_of
 from vethlumi_registrar import logins, service
@@ -130,6 +130,21 @@ def test_a_second_login_gets_another_certificate_also_for_the_same_key(registrar
 def test_people_have_certificates_of_their_own_for_one_key(registrar, provider):
     line = new_line()
     assert [1, 2] == [registrar.post(provider.log_in(line, it), line)[1]["serial"] for it in ("ana", "ben")]
+
+
+def test_each_login_leaves_evidence_under_a_name_of_its_own(make_registrar, provider, monkeypatch):
+    """Also of another person, at another time or for another department, with one public key."""
+    left = {}
+    monkeypatch.setattr(logins.Office, "put_evidence", lambda _, token, name: left.setdefault(name, []).append(token))
+    registrar, line, now = make_registrar(), new_line(), int(time.time())
+    rows = [(now, "ana", "people"), (now, "eve", "people"), (now - 1, "ana", "people"), (now, "ana", "operators")]
+    due = {}
+    for at, name, department_name in rows:
+        token = provider.log_in(line, name, iat=at)
+        assert 200 == registrar.post(token, line, department_name)[0]
+        key_id = f"{department_name}/{name}/{tag(provider.issuer, f'subject of {name}')}"
+        due[evidence_name(key_id, line, at - 60)] = [token]
+    assert 4 == len(due) and due == left
 
 
 def test_a_stolen_token_is_worth_nothing_with_another_key(registrar, provider, office):

@@ -12,6 +12,7 @@ import time
 from vethlumi import formats
 from vethlumi.formats import BadFormat
 from vethlumi.refusals import Refused
+from vethlumi_common.signon import evidence_name
 from vethlumi_signon import tokens
 from vethlumi_signon.keys import Keys, NoProvider
 from vethlumi_signon.rights import BEFORE_TOKEN, NoRight, groups_of, key_id_of, name_of, principals_of, times_of
@@ -96,23 +97,23 @@ class Counts:
 
 
 class Evidence:
-    """Which token the front was last given for a key, so that whoever asks again and again doesn't use up what it
+    """Which token the front was last given under a name, so that whoever asks again and again doesn't use up what it
     takes."""
 
     def __init__(self, clock=time.monotonic):
         self.clock, self.lock, self.given = clock, threading.Lock(), {}
 
-    def is_new(self, token, blob):
+    def is_new(self, token, name):
         with self.lock:
-            given, at = self.given.get(blob, (None, 0))
+            given, at = self.given.get(name, (None, 0))
             return given != hashed(token) or self.clock() > at + HOUR
 
-    def note(self, token, blob):
+    def note(self, token, name):
         with self.lock:
-            self.given.pop(blob, None)
+            self.given.pop(name, None)
             if len(self.given) >= MOST_PEOPLE:
                 del self.given[next(iter(self.given))]
-            self.given[blob] = hashed(token), self.clock()
+            self.given[name] = hashed(token), self.clock()
 
 
 class Registrar:
@@ -143,10 +144,11 @@ class Registrar:
         record |= {"issuer": claims["iss"], "subject": claims["sub"], "issued": int(claims["iat"])}
         message = self.message(one, claims, key, record)
         record["request"] = request_of(one, claims, blob)
+        evidence = evidence_name(record["keyid"], blob, times_of(one, claims)[0])
 
         def ask():
             if one.is_witnessed:
-                self.show(token, blob, person, record["request"])
+                self.show(token, evidence, person, record["request"])
             return self.issued(record["request"], message, USED_UP if one.issuer.audience else CHANGED)
         person = claims["iss"], claims["sub"]
         return self.served(person, record, ask)
@@ -179,14 +181,14 @@ class Registrar:
         record["keyid"], made = message_of(department, claims, key, name, principals)
         return made
 
-    def show(self, token, blob, person, request):
+    def show(self, token, name, person, request):
         """Gives the front the token as evidence for the witness beside the station's guard, before the issue. Who asks
         again with the same token has shown it. With several tokens in turn each is shown again, so there is a limit."""
-        if not self.evidence.is_new(token, blob):
+        if not self.evidence.is_new(token, name):
             return
         self.pieces.count(person, request)
         try:
-            self.office.put_evidence(token, blob)
+            self.office.put_evidence(token, name)
         except NoOffice as fault:
             self.pieces.take_back(person, request)
             raise Refusal(503, "NoOffice", "no answer came from the office: send the same again", f"evidence: {fault}",
@@ -194,7 +196,7 @@ class Registrar:
         except Refused as refused:
             raise Refusal(502, "NoEvidence", "the front doesn't take the evidence of this login",
                           f"evidence: {refused}") from None
-        self.evidence.note(token, blob)
+        self.evidence.note(token, name)
 
     def verified(self, token, department, blob):
         try:
