@@ -737,6 +737,21 @@ def test_a_renewal_is_put_in_the_place_of_the_certificate(giving, room):
     assert (0, "old.pub serial 2\n", "") == renewed() and giving.line + "\n" == (room / "old.pub").read_text()
 
 
+def test_a_renewal_whose_answer_was_lost_is_typed_again(asker, room):
+    """With the same files it is the same certificate. With what it gave, the statement gives nothing more."""
+    asked = asker.asked()
+    for name, text in (("old.pub", f"{asked['certificate']}\n"), ("statement", asked["statement"]),
+                       ("statement.sig", asked["signature"]),
+                       ("host.toml", f'registrar = "{asker.registrar.url}"\ncas = "{room}/ca.pub"\n')):
+        (room / name).write_text(text)
+    assert [(0, "new.pub serial 2\n", "")] * 2 == [renewed("--out", "new.pub") for _ in range(2)]
+    new = (room / "new.pub").read_text()
+    (room / "old.pub").write_text(new)
+    status, out, errors = renewed("--out", "new.pub")
+    assert (1, "", new) == (status, out, (room / "new.pub").read_text())
+    assert "KeyReused: this statement has given a certificate already" in errors
+
+
 @pytest.mark.parametrize("more, why", [
     ({"key": "other"}, "it is for another key"), ({"serial": 3}, "has another serial"), ({"ca": "second"}, "isn't known"),
     ({"key_id": "others/web/a"}, "of another department"), ({"valid": "-2d:-1d"}, "it is valid from"),

@@ -299,6 +299,7 @@ def test_no_random_change_of_a_good_token_is_evidence(settings, request):
                 if said_of(witness, text, lambda _: token.encode("utf-8", "replace")) is None:
                     believed += 1
                     assert meaning(token) == meanings[number], token
+    assert [None] * 3 == [said_of(witness, text, token) for token, text in good.items()]
     print(f"{count} random changes of 3 good tokens, seed {seed}: {believed} are evidence, each of which has header, "
           "claims and signature of the good one")
 
