@@ -177,6 +177,12 @@ JOBS = department("jobs", admins="registrar", principals="*@jobs", maxlife=3660)
 CI = department("ci", admins="registrar", principals="*@ci", maxlife=960)
 
 
+def evidence_name(key_id, line, after):
+    """Where the token of a login is left, as docs/FORMATS.md has it."""
+    key = hashlib.sha256(base64.b64decode(line.split()[1])).hexdigest()
+    return hashlib.sha256(f"keyid {key_id}\nkey {key}\nafter {after}\n".encode()).hexdigest()
+
+
 def tag(issuer, subject):
     """By coreutils, as docs/FORMATS.md has it."""
     text = f"printf '%s\\n%s' '{issuer}' '{subject}' | sha256sum | cut -c1-20 | xxd -r -p | base32 | tr A-Z a-z"

@@ -407,20 +407,55 @@ def test_a_renewal_that_is_sent_again_is_the_same(make_registrar, asker, office)
     assert 3 == asker.ask(moment=moment + 1)[1]["serial"]
 
 
+def test_a_statement_gives_one_certificate(make_registrar, asker, office):
+    """Whichever certificate of its key comes with it: the one that it has just given, or another one of the host's."""
+    moment = int(time.time()) - 3
+    asked = asker.asked(moment=moment)
+    first = asker.ask(**asked)
+    text = (f"issue hosts\nkeyid hosts/web\nkey {asker.line}\nprincipals web.example.org\n"
+            f"after {moment - 60}\nbefore {moment + 600}\nextensions\n")
+    assert "issued 3" in office.office.settle("host-web", "b", text.encode(), moment, bytes(32))
+    office.sign()
+    others = [first[1]["certificate"], office.office.certificate(3, False)[0].rstrip("\n")]
+    by_sha256 = sign(asked["statement"], more=["-O", "hashalg=sha256"])
+    for registrar in (asker.registrar, make_registrar()):
+        asker.registrar = registrar
+        for how in [{"certificate": it} for it in others] + [{"certificate": others[0], "signature": by_sha256}]:
+            status, answer = asker.ask(**asked | how)
+            assert (409, "KeyReused", True) == (status, answer["error"], "this statement has given" in answer["detail"])
+        # Whoever has lost the answer sends the same again, also after that.
+        assert first == asker.ask(**asked)
+    assert 3 == len(office.office.certificates)
+    # The next statement counts, with each of them.
+    for number, it in enumerate(others):
+        status, answer = asker.ask(certificate=it, moment=moment + 1 + number)
+        assert (200, 4 + number) == (status, answer["serial"])
+
+
+def test_the_request_id_is_that_of_the_statement(asker, office):
+    """By sha256sum, over both parts after their lengths in eight bytes."""
+    asked = asker.asked()
+    asker.ask(**asked)
+    parts = b"vethlumi renewal", asked["statement"].encode()
+    by_parts = hashlib.sha256(b"".join(len(it).to_bytes(8, "big") + it for it in parts)).hexdigest()[:32]
+    assert by_parts == office.messages()[-1][0]
+
+
 def test_what_was_revoked_renews_nothing(asker, office):
     """The office says so at once: nobody waits for a list."""
-    serial = asker.ask()[1]["serial"]
-    office.office.settle("root", "one", b"revoke-serial 1\n", int(time.time()), b"")
-    status, answer = asker.ask(moment=int(time.time()) - 5)
+    now = int(time.time())
+    serial = asker.ask(moment=now)[1]["serial"]
+    office.office.settle("root", "one", b"revoke-serial 1\n", now, b"")
+    status, answer = asker.ask(moment=now - 5)
     assert (403, "Revoked") == (status, answer["error"])
     # Who has the key has the host's other certificate as well, until the key ID is revoked.
-    again = Asker.ask(asker, moment=int(time.time()) - 6, certificate=asker.registrar.ask(
+    again = Asker.ask(asker, moment=now - 6, certificate=asker.registrar.ask(
         "GET", f"/v1/certificates/{serial}")[1].rstrip("\n"))
     assert (200, serial + 1) == (again[0], again[1]["serial"])
     key_id = asker.certificate.split()[2]
-    office.office.settle("root", "all", f"revoke-keyid {key_id}\n".encode(), int(time.time()), b"")
-    for it in (asker.certificate, again[1]["certificate"]):
-        status, answer = asker.ask(certificate=it)
+    office.office.settle("root", "all", f"revoke-keyid {key_id}\n".encode(), now, b"")
+    for ago, it in ((7, asker.certificate), (8, again[1]["certificate"])):
+        status, answer = asker.ask(certificate=it, moment=now - ago)
         assert (403, True) == (status, answer["error"] in ("KeyIdRevoked", "Revoked"))
     status, answer = asker.registrar.post(token_for("web", office.url), new_line(), "hosts")
     assert (403, "KeyIdRevoked") == (status, answer["error"])
@@ -700,6 +735,21 @@ def test_a_renewal_is_put_in_the_place_of_the_certificate(giving, room):
     assert {"certificate": old.strip(), "statement": "a\n", "signature": "b\n"} == giving.sent
     assert (giving.line + "\n", old) == ((room / "new.pub").read_text(), (room / "old.pub").read_text())
     assert (0, "old.pub serial 2\n", "") == renewed() and giving.line + "\n" == (room / "old.pub").read_text()
+
+
+def test_a_renewal_whose_answer_was_lost_is_typed_again(asker, room):
+    """With the same files it is the same certificate. With what it gave, the statement gives nothing more."""
+    asked = asker.asked()
+    for name, text in (("old.pub", f"{asked['certificate']}\n"), ("statement", asked["statement"]),
+                       ("statement.sig", asked["signature"]),
+                       ("host.toml", f'registrar = "{asker.registrar.url}"\ncas = "{room}/ca.pub"\n')):
+        (room / name).write_text(text)
+    assert [(0, "new.pub serial 2\n", "")] * 2 == [renewed("--out", "new.pub") for _ in range(2)]
+    new = (room / "new.pub").read_text()
+    (room / "old.pub").write_text(new)
+    status, out, errors = renewed("--out", "new.pub")
+    assert (1, "", new) == (status, out, (room / "new.pub").read_text())
+    assert "KeyReused: this statement has given a certificate already" in errors
 
 
 @pytest.mark.parametrize("more, why", [

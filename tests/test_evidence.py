@@ -1,7 +1,5 @@
 """Evidence of logins at the front: who leaves it, who reads it, how much there can be and for how long. Then a login by
 all programs: the registrar leaves the token, and the station's witness looks at it before it signs."""
-import base64
-import hashlib
 import re
 import shutil
 import time
@@ -9,7 +7,8 @@ import time
 import pytest
 
 from asking import department
-from providers import CORP, LOGINS, OF_PEOPLE, PEOPLE, Provider, new_key, new_line, registrar_behind, tag
+from providers import (CORP, LOGINS, OF_PEOPLE, PEOPLE, Provider, evidence_name, new_key, new_line, registrar_behind,
+                       tag)
 from running import PROGRAMS, TOP, run, until
 
 PATH = f"/evidence/{64 * 'a'}"
@@ -28,7 +27,7 @@ def left(front):
 
 
 def test_the_registrar_leaves_what_the_station_reads(left):
-    assert (404, "front: there is no evidence for this key\n") == (left.read().status_code, left.read().text)
+    assert (404, "front: there is no evidence of this login\n") == (left.read().status_code, left.read().text)
     assert 201 == left.leave("a.b.c").status_code
     assert (200, "a.b.c") == (left.read().status_code, left.read().text)
     assert 204 == left.leave("d.e.f").status_code and "d.e.f" == left.read().text
@@ -154,6 +153,11 @@ def behind(left, sshstation, provider, room):
     made.end()
 
 
+def left_at(front):
+    """What evidence is there, by its names."""
+    return {it.name: it.read_text() for it in (front.state / "evidence").iterdir()}
+
+
 def served(registrar, token, line, department_name="people"):
     status, answer = registrar.post(token, line, department_name)
     assert 200 == status, answer
@@ -164,11 +168,11 @@ def served(registrar, token, line, department_name="people"):
 
 def test_a_login_is_witnessed_by_all_programs(behind, provider, programs):
     process = behind.station.begin(programs)
-    line = new_line()
-    token = provider.log_in(line)
+    line, now = new_line(), int(time.time())
+    token = provider.log_in(line, iat=now)
     assert 1 == served(behind, token, line)
-    kept = [it.read_text() for it in (behind.front.state / "evidence").iterdir()]
-    assert [token] == kept
+    name = evidence_name(f"people/ana/{tag(provider.issuer, 'subject of ana')}", line, now - 60)
+    assert {name: token} == left_at(behind.front)
     # A caller of another department has no token, and needs none.
     message = f"issue web\nkeyid web/alice\nkey {new_line()}\nprincipals alice\nafter {int(time.time()) - 60}\n" \
               f"before {int(time.time()) + 600}\nextensions\n"
@@ -186,8 +190,8 @@ def test_what_the_registrar_asks_for_without_a_login_is_not_signed(behind, provi
     thief = behind.front.session("registrar")
     assert 200 == thief.post(f"{behind.front.url}/v1/requests/a1", data=message).status_code
     # The token of ana's own login, for her own key, is no evidence for theirs.
-    theirs = hashlib.sha256(base64.b64decode(line.split()[1])).hexdigest()
-    assert 201 == behind.front.leave(provider.log_in(new_line()), f"/evidence/{theirs}").status_code
+    name = evidence_name(key_id, line, now - 60)
+    assert 201 == behind.front.leave(provider.log_in(new_line()), f"/evidence/{name}").status_code
     own = new_line()
     assert 2 == served(behind, provider.log_in(own), own)
     assert 1 == len(re.findall(r"refused as NotWitnessed BadToken, the nonce isn't that of this key: 1",
@@ -195,25 +199,40 @@ def test_what_the_registrar_asks_for_without_a_login_is_not_signed(behind, provi
     assert "2 " not in behind.front.served.get("/v1/pending").text
 
 
+def test_no_other_login_takes_the_place_of_evidence(behind, provider):
+    """Whoever has seen ana's public key, and has a login of their own, may log in for her key too: before her, after
+    her, and at the very second. So may she, for a second certificate. Each is a certificate of its own, and signed."""
+    line, now = new_line(), int(time.time())
+    logins = [("eve", now - 1), ("ana", now), ("eve", now), ("ana", now - 5), ("eve", now - 5), ("ben", now)]
+    tokens = [provider.log_in(line, name, iat=at) for name, at in logins]
+    for number, token in enumerate(tokens, 1):
+        status, answer = behind.post(token, line)
+        assert (200, number) == (status, answer["serial"])
+    status, out, errors = behind.station.once()
+    assert (0, [f"signed {it}" for it in range(1, 7)], []) == (status, out, errors)
+    assert {*tokens} == {*left_at(behind.front).values()}
+
+
 def test_a_login_that_is_sent_again_leaves_its_token_once(behind, provider):
     """So nobody uses up what the front takes, with one token."""
-    line = new_line()
-    token = provider.log_in(line)
+    line, now = new_line(), int(time.time())
+    token = provider.log_in(line, iat=now)
     for _ in range(5):
         assert 200 == behind.post(token, line)[0]
     count = lambda: (behind.front.state / "asked.log").read_text().count("PUT /evidence/")  # noqa: E731
     until(lambda: 1 == count())
-    fresh = provider.log_in(line, iat=int(time.time()) - 5)
+    # Another token of the same login takes its place: it gives the same certificate.
+    fresh = provider.log_in(line, iat=now, exp=now + 299)
     assert 200 == behind.post(fresh, line)[0]
     until(lambda: 2 == count())
-    assert [fresh] == [it.read_text() for it in (behind.front.state / "evidence").iterdir()]
+    assert [fresh] == [*left_at(behind.front).values()]
 
 
 def test_an_account_uses_up_little_of_what_the_front_takes(behind, provider):
     """With two tokens in turn, each of which takes the place of the other, and while the office gives no answers, which
     count for nobody."""
     line, now = new_line(), int(time.time())
-    two = [provider.log_in(line, iat=now - it) for it in (0, 1)]
+    two = [provider.log_in(line, iat=now, exp=now + 300 + it) for it in (0, 1)]
     assert 200 == behind.post(two[1], line)[0]
     behind.front.configure(("proxy_pass http://office/v1/callers", "proxy_pass http://127.0.0.1:9/v1/callers"))
     behind.front.reload()

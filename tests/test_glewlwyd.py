@@ -4,7 +4,6 @@ import getpass
 import os
 import pathlib
 import re
-import subprocess
 import threading
 import time
 
@@ -12,7 +11,7 @@ import pytest
 
 from asking import department
 from glewlwyd import Browser, Glewlwyd, is_installed, log_in_at_the_pages
-from providers import CORP, registrar_behind
+from providers import CORP, evidence_name, registrar_behind
 from running import left_out, run
 from signing_on import Person
 from test_station import Sshd
@@ -174,10 +173,8 @@ def test_a_stolen_registrar_is_nobody_at_this_provider(someone, provider, sshd, 
     key_id = re.search(r"(people/ana/\w{16}) serial", person("login")[1])[1]
     run(["ssh-keygen", "-q", "-t", "ed25519", "-N", "", "-C", "thief", "-f", "thief"], check=True)
     line, now = " ".join(pathlib.Path("thief.pub").read_text().split()[:2]), int(time.time())
-    digest = subprocess.run(f"echo {line.split()[1]} | base64 -d | sha256sum", shell=True, capture_output=True,
-                            text=True, check=True).stdout.split()[0]
-    thief = stack.front.session("registrar")
-    assert 201 == thief.put(f"{stack.front.url}/evidence/{digest}", data=token).status_code
+    thief, name = stack.front.session("registrar"), evidence_name(key_id, line, now - 60)
+    assert 201 == thief.put(f"{stack.front.url}/evidence/{name}", data=token).status_code
     message = f"issue people\nkeyid {key_id}\nkey {line}\nprincipals ana@people\nafter {now - 60}\n" \
               f"before {now + 36000}\nextensions permit-pty\n"
     assert 200 == thief.post(f"{stack.front.url}/v1/requests/thief", data=message).status_code

@@ -11,12 +11,13 @@ import shutil
 import socket
 import time
 import tomllib
+import types
 
 import pytest
 
 from asking import department, key_line
-from providers import (CI, JOBS, OPERATORS, PEOPLE, SETTINGS, Inside, Provider, Registrar, StandIn, new_key, new_line,
-                       tag, words)
+from providers import (CI, JOBS, OPERATORS, PEOPLE, SETTINGS, Inside, Provider, Registrar, StandIn, evidence_name,
+                       new_key, new_line, tag, words)
 from running import PROGRAMS, run, said, until
 from vethlumi_common.trail import record_of
 from vethlumi_registrar import logins, service
@@ -129,6 +130,21 @@ def test_a_second_login_gets_another_certificate_also_for_the_same_key(registrar
 def test_people_have_certificates_of_their_own_for_one_key(registrar, provider):
     line = new_line()
     assert [1, 2] == [registrar.post(provider.log_in(line, it), line)[1]["serial"] for it in ("ana", "ben")]
+
+
+def test_each_login_leaves_evidence_under_a_name_of_its_own(make_registrar, provider, monkeypatch):
+    """Also of another person, at another time or for another department, with one public key."""
+    left = {}
+    monkeypatch.setattr(logins.Office, "put_evidence", lambda _, token, name: left.setdefault(name, []).append(token))
+    registrar, line, now = make_registrar(), new_line(), int(time.time())
+    rows = [(now, "ana", "people"), (now, "eve", "people"), (now - 1, "ana", "people"), (now, "ana", "operators")]
+    due = {}
+    for at, name, department_name in rows:
+        token = provider.log_in(line, name, iat=at)
+        assert 200 == registrar.post(token, line, department_name)[0]
+        key_id = f"{department_name}/{name}/{tag(provider.issuer, f'subject of {name}')}"
+        due[evidence_name(key_id, line, at - 60)] = [token]
+    assert 4 == len(due) and due == left
 
 
 def test_a_stolen_token_is_worth_nothing_with_another_key(registrar, provider, office):
@@ -362,6 +378,10 @@ def test_the_memory_of_people_has_an_end(monkeypatch):
 def test_only_certificates_of_logins_a_moment_ago_are_given_away(make_registrar, provider, office):
     """Also by a registrar that was started since. Who has a serial may have them, and nobody lists what was signed."""
     registrar, line = make_registrar(), new_line()
+
+    def given(serial):
+        return registrar.ask("GET", f"/v1/certificates/{serial}", headers={"X-Real-IP": f"192.0.2.{serial}"})[0]
+
     now = int(time.time())
     tell = "issue {0}\nkeyid {0}/x\nkey {1}\nprincipals {2}\nafter {3}\nbefore {4}\nextensions\n"
     others = [tell.format("web", line, "alice", now - 60, now + 600),
@@ -370,9 +390,9 @@ def test_only_certificates_of_logins_a_moment_ago_are_given_away(make_registrar,
     for number, text in enumerate(others):
         office.office.settle("root", f"r{number}", text.encode(), now, b"")
     office.sign()
-    assert [404, 404, 200, 404] == [registrar.ask("GET", f"/v1/certificates/{it}")[0] for it in (1, 2, 3, 4)]
+    assert [404, 404, 200, 404] == [given(it) for it in (1, 2, 3, 4)]
     registrar.post(provider.log_in(line), line)
-    assert 200 == registrar.ask("GET", "/v1/certificates/4")[0]
+    assert 200 == given(4)
 
 
 class Reading:
@@ -404,7 +424,7 @@ def test_however_many_wait_the_office_is_read_at_a_pace():
         assert len([it for it in times if at <= it < at + 1]) <= 20
     # Nobody's line is read again, and it is kept.
     count = len(read.read_at)
-    assert ["line 7", None] == [lines.line(7), lines.wait(101, 0)] and count == len(read.read_at)
+    assert ["line 7", None] == [lines.line(7, "192.0.2.7"), lines.wait(101, 0)] and count == len(read.read_at)
 
 
 def test_a_fault_while_reading_ends_nothing():
@@ -422,13 +442,75 @@ def test_a_fault_while_reading_ends_nothing():
     assert "line 1" == lines.wait(1, 30)
 
 
+class Strangers:
+    """Who asks for serials that this process hasn't issued, within one second until `now` is set. Each serial is
+    another one, so that nothing could be remembered of it."""
+
+    def __init__(self):
+        self.read, self.now, self.count = Reading(), 100.0, 0
+        self.lines = Lines(self.read, lambda _: True, clock=lambda: self.now)
+
+    def asks(self, *addresses):
+        """For each address, whether the office is read."""
+        return [self.is_read(it) for it in addresses]
+
+    def is_read(self, address):
+        self.count += 1
+        try:
+            self.lines.line(self.count, address)
+        except Busy:
+            return False
+        return True
+
+
 def test_serials_that_were_not_issued_here_are_read_five_times_a_second():
-    read = Reading()
-    lines = Lines(read, lambda _: True, clock=lambda: 100.0)
-    assert [None] * 5 == [lines.line(it) for it in range(1, 6)]
-    with pytest.raises(Busy):
-        lines.line(6)
-    assert 5 == len(read.read_at)
+    they = Strangers()
+    assert [True] * 5 + [False] * 3 == they.asks(*(f"192.0.2.{it}" for it in range(8)))
+    they.now = 100.9
+    assert [False] == they.asks("192.0.2.9")
+    they.now = 101.0
+    assert [True] * 5 + [False] == they.asks(*(f"192.0.2.{it}" for it in range(6))) and 10 == len(they.read.read_at)
+
+
+def test_one_stranger_leaves_some_of_these_reads_for_others():
+    they, ana, eve = Strangers(), "192.0.2.7", "198.51.100.9"
+    for they.now in (100.0, 101.0, 102.0):
+        assert [True] * 3 + [False] * 500 == they.asks(*[eve] * 503)
+        # As often as a client asks that waits.
+        assert [True, True, False] == they.asks(*[ana] * 3)
+    assert 3 * 5 == len(they.read.read_at)
+
+
+@pytest.mark.parametrize("one, other, is_one", [
+    ("192.0.2.7", "192.0.2.8", False), ("192.0.2.7", "192.0.2.7", True),
+    # A home has a network of 64 bits for itself, at least.
+    ("2001:db8:0:1::1", "2001:db8:0:1:ffff:ffff:ffff:ffff", True), ("2001:db8:0:1::1", "2001:DB8:0:1:0::2", True),
+    ("2001:db8:0:1::1", "2001:db8:0:2::1", False), ("2001:db8:0:1::1", "2001:db8::1", False),
+    # Without a front.
+    ("", "", True), ("none", "192.0.2.7", False),
+])
+def test_which_addresses_are_one_stranger(one, other, is_one):
+    they = Strangers()
+    assert [True, True, True, not is_one] == they.asks(one, one, one, other)
+
+
+def test_the_memory_of_strangers_has_an_end():
+    they = Strangers()
+    for number in range(20000):
+        they.now += 0.0001
+        they.asks(f"2001:db8:{number:x}::1")
+        assert len(they.lines.strange) <= 5
+    assert len(they.read.read_at) <= 15
+
+
+def test_a_stranger_is_whom_the_front_asks_for():
+    """By its header line. Only the front reaches the registrar."""
+    asked = []
+    made = service.Service(types.SimpleNamespace(certificate=lambda *it: asked.append(it)), service.Journal(io.StringIO()))
+    for more in ({"HTTP_X_REAL_IP": "192.0.2.7"}, {"HTTP_X_REAL_IP": "2001:db8::7"}, {}):
+        made({"REQUEST_METHOD": "GET", "PATH_INFO": "/v1/certificates/9", "REMOTE_ADDR": "127.0.0.1"} | more,
+             lambda *_: None)
+    assert [(9, "192.0.2.7"), (9, "2001:db8::7"), (9, "127.0.0.1")] == asked
 
 
 # ---- an office that doesn't answer as an office does

@@ -157,6 +157,8 @@ MORE = {
     "ES256 by a key of P-384": (lambda it: by_another_curve(good(it)), False),
     "an RSA key of 1024 bits": (with_claims(SMALL), False), "a key that isn't for signatures": (with_claims(
         head={"kid": "enc"}), False),
+    "crit, signed": (with_claims(head={"crit": ["x"], "x": 1}), False),
+    "crit with nothing, signed": (with_claims(head={"crit": []}), False),
     "b64 true": (with_claims(head={"b64": True}), False), "kid a number": (with_claims(head={"kid": 1}), False),
     "kid a list": (with_claims(head={"kid": ["k1"]}), False),
     "no header": (changed(lambda h, c, s: f".{c}.{s}"), False),
@@ -199,6 +201,8 @@ assert (6, 52) == (len(GOOD), len(FORGED))
 def test_which_tokens_are_believed(provider, people, row):
     make, is_good = ROWS[row]
     assert is_good == is_believed(make(provider), *people)
+    # It was refused for itself: the provider is there.
+    assert is_believed(GOOD["good"](provider), *people)
 
 
 def test_an_algorithm_that_the_settings_do_not_name_is_refused(provider):
@@ -332,6 +336,8 @@ def test_no_random_change_of_a_good_token_is_believed(provider, people, request)
         if is_believed(token, *people):
             believed += 1
             assert meaning(token) in meanings, token
+    # Nothing of that has kept the good ones out: what was refused was refused for itself.
+    assert all(is_believed(it, *people) for it in by_key)
     print(f"{count} random changes of {len(tokens)} good tokens, seed {seed}: {count - believed} refused, {believed} "
           "believed, each of which has header, claims and signature of a good one")
 

@@ -17,13 +17,13 @@ import pytest
 from cryptography.hazmat.primitives.asymmetric.ed25519 import Ed25519PrivateKey
 from cryptography.hazmat.primitives.serialization import Encoding, PublicFormat
 
-from asking import blob_of, body, department, digest_of, key_blob, key_line, string
+from asking import blob_of, body, department, key_blob, key_line, string
 from fetching import response
 from forging import meaning, mutation
-from providers import (CLIENT_ID, CORP, Provider, audience_of, encoded, hashed_by, jobs_of, new_key, nonce_of, public,
-                       signed, tag)
+from providers import (CLIENT_ID, CORP, Provider, audience_of, encoded, evidence_name, hashed_by, jobs_of, new_key,
+                       nonce_of, public, signed, tag)
 from recording import whole_request
-from running import PROGRAMS, run, said, until
+from running import PROGRAMS, TOP, run, said, until
 from stations import Station, new_guard, part
 from subject_keys import CERTIFICATES, ED25519, KEYS, LINES
 from test_station import FalseOffice
@@ -240,18 +240,33 @@ def test_the_evidence_for_a_key_of_any_type_is_that_of_its_whole_blob(settings, 
     for nonce, due in ((nonce_of(line), None), (nonce_of(LINES[ED25519][:-4] + "AAAA"), "BadToken")):
         token = token_of(MINE, nonce=nonce)
         assert due == said_of(witness_of(settings), text, lambda it: asked.append(it) or token.encode())
-    assert 2 * [digest_of(base64.b64decode(line.split()[1]))] == asked
+    assert 2 * [evidence_name(f"people/ana/{TAG}", line, NOW - 60)] == asked
 
 
-def test_evidence_is_asked_for_by_the_hash_of_the_key(settings):
-    """By sha256sum, of the worked rows' key."""
-    asked = []
-    said_of(witness_of(settings), body_of(bytes([0x11]) * 32), lambda it: asked.append(it))
-    assert ["4907c2faf4db2d4467f5c4e4571212f1f190dc528d00959e074a35dfdfa05783"] == asked
+def test_evidence_is_asked_for_by_key_id_key_and_beginning(settings):
+    """By sha256sum, of the worked rows' key: what docs/FORMATS.md has of a login."""
+    asked, key_id = [], "people/ana/ok76kvlxr4tzgdr6"
+    said_of(witness_of(settings), body_of(bytes([0x11]) * 32, key_id=key_id), lambda it: asked.append(it))
+    text = run(["sha256sum"], stdin=None, input=(
+        f"keyid {key_id}\nkey 4907c2faf4db2d4467f5c4e4571212f1f190dc528d00959e074a35dfdfa05783\n"
+        "after 1799999940\n").encode()).stdout.decode()
+    assert [text.split()[0]] == asked
+    page = (TOP / "docs/FORMATS.md").read_text()
+    assert 1 == page.count(f"PUT /evidence/{asked[0]}\n") and 1799999940 == NOW - 60
     # Nobody is asked for what no witness looks at.
     for text in (body_of(MINE, key_id="web/ana"), body_of(MINE, key_id="hosts/a", kind=2)):
         assert None is said_of(witness_of(settings), text, lambda it: asked.append(it))
     assert 1 == len(asked)
+
+
+def test_no_two_logins_have_evidence_of_one_name(settings):
+    """With one public key too. What else a certificate has is compared with the token, and names nothing."""
+    witness, asked = witness_of(settings), []
+    others = [body_of(MINE), body_of(MINE, "ben"), body_of(THEIRS), operators(MINE), body_of(MINE, after=NOW - 61)]
+    same = [body_of(MINE, before=NOW), body_of(MINE, principals=("root",)), body_of(MINE, kind=2)]
+    for text in others + same:
+        assert "NoEvidence" == said_of(witness, text, lambda it: asked.append(it))
+    assert 5 == len({*asked[:5]}) and [asked[0]] * 3 == asked[5:]
 
 
 def test_a_body_that_is_given_is_the_one_that_openssh_reads(settings, room):
@@ -284,6 +299,7 @@ def test_no_random_change_of_a_good_token_is_evidence(settings, request):
                 if said_of(witness, text, lambda _: token.encode("utf-8", "replace")) is None:
                     believed += 1
                     assert meaning(token) == meanings[number], token
+    assert [None] * 3 == [said_of(witness, text, token) for token, text in good.items()]
     print(f"{count} random changes of 3 good tokens, seed {seed}: {believed} are evidence, each of which has header, "
           "claims and signature of the good one")
 
@@ -545,8 +561,8 @@ POLICY = (department("people", admins="registrar", principals="ana,ben,eve,postg
 
 
 class TakenOffice(FalseOffice):
-    """A front whose evidence is what somebody likes: the bytes for each digest of a key, or what answers. All three
-    are theirs, the registrar, the front and the office."""
+    """A front whose evidence is what somebody likes: the bytes under each name, or what answers. All three are theirs,
+    the registrar, the front and the office."""
 
     def __init__(self, bodies=(), evidence=()):
         super().__init__(dict(bodies))
@@ -559,14 +575,16 @@ class TakenOffice(FalseOffice):
             return super().finish_request(peer, address)
         self.requests.append(whole_request(peer))
         self.asked_at.append(time.monotonic())
-        answer = self.evidence.get(found[1].decode(), response(b"front: there is no evidence for this key\n",
+        answer = self.evidence.get(found[1].decode(), response(b"front: there is no evidence of this login\n",
                                                                "404 Not Found"))
         answer = answer() if callable(answer) else answer
         peer.sendall(answer if answer.startswith(b"HTTP/") else response(answer))
 
 
-def hash_of(key):
-    return digest_of(key_blob(key))
+def name_of(text):
+    """The name of the evidence for a body."""
+    fields = part("witness").Certificate.of_bytes(text)
+    return evidence_name(fields.key_id, line_of(fields.key), fields.after)
 
 
 @pytest.fixture
@@ -613,9 +631,9 @@ def test_a_station_signs_what_the_token_gives_and_the_guard_permits(guarded):
         # A token gives this, and the guard doesn't permit it.
         8: guarded.text(8, keys[7], "mia"),
     }
-    evidence = {hash_of(keys[0]): guarded.token(keys[0]).encode(), hash_of(keys[2]): jobs.encode(),
-                hash_of(keys[4]): guarded.token(keys[4]).encode(),
-                hash_of(keys[7]): guarded.token(keys[7], "mia").encode()}
+    evidence = {name_of(bodies[1]): guarded.token(keys[0]).encode(), name_of(bodies[3]): jobs.encode(),
+                name_of(bodies[5]): guarded.token(keys[4]).encode(),
+                name_of(bodies[8]): guarded.token(keys[7], "mia").encode()}
     with TakenOffice(bodies, evidence) as office:
         status, out, errors = guarded.station(office.url).once()
     assert (1, ["signed 1", "signed 2", "signed 3", "signed 4"]) == (status, out)
@@ -630,7 +648,8 @@ def test_a_station_signs_what_the_token_gives_and_the_guard_permits(guarded):
 def test_no_evidence_yet_is_no_refusal_for_a_minute(guarded, programs):
     """It is asked for each second, then reported, and then tried again as other refused rows are."""
     key = os.urandom(32)
-    with TakenOffice({1: guarded.text(1, key)}) as office:
+    text = guarded.text(1, key)
+    with TakenOffice({1: text}) as office:
         station = guarded.station(office.url)
         station.change("LONGEST_AWAITED = 0.9, 60\n", "LONGEST_AWAITED = 0.9, 5\n")
         process = station.begin(programs)
@@ -639,7 +658,7 @@ def test_no_evidence_yet_is_no_refusal_for_a_minute(guarded, programs):
         assert (b"station: not signed: 1, refused as NoEvidence: 1\n", True) == (line, reported - asked[0] > 4.9)
         # About once a second: on a busy machine less often, and never more often.
         assert 3 <= len(asked) and 0.85 < min(later - it for it, later in zip(asked, asked[1:]))
-        office.evidence[hash_of(key)] = guarded.token(key).encode()
+        office.evidence[name_of(text)] = guarded.token(key).encode()
         assert b"signed 1\n" == process.stdout.readline()
     limits = part("limits")
     assert (60, True) == (limits.LONGEST_AWAITED, limits.PAUSE_OF_EVIDENCE < 1)
@@ -647,10 +666,11 @@ def test_no_evidence_yet_is_no_refusal_for_a_minute(guarded, programs):
 
 def test_evidence_that_comes_a_moment_later_is_enough(guarded, programs):
     key = os.urandom(32)
-    with TakenOffice({1: guarded.text(1, key)}) as office:
+    text = guarded.text(1, key)
+    with TakenOffice({1: text}) as office:
         process = guarded.station(office.url).begin(programs)
         until(lambda: office.asked_at)
-        office.evidence[hash_of(key)] = guarded.token(key).encode()
+        office.evidence[name_of(text)] = guarded.token(key).encode()
         assert b"signed 1\n" == process.stdout.readline()
         assert not select.select([process.stderr], [], [], 0)[0]
 
@@ -665,22 +685,24 @@ def test_evidence_that_comes_a_moment_later_is_enough(guarded, programs):
 def test_an_answer_that_is_no_evidence_starves_nobody(guarded, answer, why):
     keys = [os.urandom(32) for _ in range(2)]
     bodies = {serial: guarded.text(serial, key) for serial, key in enumerate(keys, 1)}
-    with TakenOffice(bodies, {hash_of(keys[0]): answer, hash_of(keys[1]): guarded.token(keys[1]).encode()}) as office:
+    evidence = {name_of(bodies[1]): answer, name_of(bodies[2]): guarded.token(keys[1]).encode()}
+    with TakenOffice(bodies, evidence) as office:
         assert (1, ["signed 2"], [f"station: not signed: 1, {why}: 1"]) == guarded.station(office.url).once()
 
 
 def test_evidence_is_looked_at_each_time_before_something_is_signed(guarded, programs):
     """Of a body that was witnessed, and wasn't signed then: the front may have exchanged the token meanwhile."""
     key = os.urandom(32)
-    with TakenOffice({1: guarded.text(1, key)}, {hash_of(key): guarded.token(key).encode()}) as office:
+    text = guarded.text(1, key)
+    with TakenOffice({1: text}, {name_of(text): guarded.token(key).encode()}) as office:
         station = guarded.station(office.url)
         guarded.permit(department("other"))
         process = station.begin(programs)
         assert b"station: not signed: 1, refused as NoDepartment: 1\n" == process.stderr.readline()
-        office.evidence[hash_of(key)] = guarded.token(key, "ben").encode()
+        office.evidence[name_of(text)] = guarded.token(key, "ben").encode()
         guarded.permit(POLICY)
         assert b"station: not signed: 1, refused as NotWitnessed OtherKeyId: 1\n" == process.stderr.readline()
-        office.evidence[hash_of(key)] = guarded.token(key).encode()
+        office.evidence[name_of(text)] = guarded.token(key).encode()
         assert b"signed 1\n" == process.stdout.readline()
 
 
@@ -762,14 +784,14 @@ def test_who_has_the_registrar_the_front_and_the_office_is_nobody_else(guarded, 
     chance = random.Random(int(request.config.getoption("--hypothesis-seed")))
     attacker, signed_for = Attacker(guarded, chance), 0
     bodies = {serial: attacker.body(serial) for serial in range(1, 501)}
-    keys = {person_of(it)[2] for it in bodies.values()}
-    # Another answer each time: for half of them the true token, and a false one otherwise.
-    true = {hash_of(key): token for (_, key), token in attacker.tokens.items()}
+    # Another answer each time: for half of them the true token of the key, and a false one otherwise.
+    true = {key: token for (_, key), token in attacker.tokens.items()}
 
-    def answer_for(digest):
-        return lambda: (true[digest] if chance.random() < 0.5 else attacker.evidence()).encode("utf-8", "replace")
+    def answer_for(key):
+        return lambda: (true[key] if chance.random() < 0.5 else attacker.evidence()).encode("utf-8", "replace")
 
-    with TakenOffice(bodies, {hash_of(key): answer_for(hash_of(key)) for key in keys}) as office:
+    evidence = {name_of(it): answer_for(person_of(it)[2]) for it in bodies.values()}
+    with TakenOffice(bodies, evidence) as office:
         status, out, errors = guarded.station(office.url).once()
     assert 1 == status and any("NotWitnessed" in it for it in errors)
     owner = {key: name for name, key in attacker.tokens}
@@ -803,7 +825,7 @@ def test_what_no_token_gives_is_not_signed_whoever_sends_it(guarded, row):
         token = guarded.token(key, "eve", groups=["others"], aud="wiki")
     name, used = change.pop("name", "eve"), change.pop("key", key)
     text = guarded.text(1, used, name, **change)
-    with TakenOffice({1: text}, {hash_of(used): token.encode()}) as office:
+    with TakenOffice({1: text}, {name_of(text): token.encode()}) as office:
         status, out, errors = guarded.station(office.url).once()
         assert (1, [], 1) == (status, out, len(errors)) and "refused as NotWitnessed" in errors[0]
         # What is longer is refused by the guard as well.

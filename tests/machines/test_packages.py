@@ -2787,10 +2787,11 @@ WITNESS = OF_SIGN_ON.replace("10h", "9h").replace('oldest = "1h"', f'oldest = "1
 TAKEN = f"""set -e
 ask() {{ curl -sSf --cacert /etc/vethlumi/registrar/ca.crt --cert /etc/vethlumi/registrar/registrar.pem "$@"; }}
 ssh-keygen -q -t ed25519 -N '' -C thief -f thief
-digest=$(cut -d' ' -f2 thief.pub | base64 -d | sha256sum | cut -d' ' -f1)
-python3 -c 'import json; print(json.load(open("login.json"))["token"], end="")' >token
-ask -T token "https://solo.example.org:8443/evidence/$digest"
 now=$(date +%s)
+digest=$(cut -d' ' -f2 thief.pub | base64 -d | sha256sum | cut -d' ' -f1)
+name=$(printf 'keyid %s\\nkey %s\\nafter %s\\n' "$1" "$digest" $((now - 60)) | sha256sum | cut -d' ' -f1)
+python3 -c 'import json; print(json.load(open("login.json"))["token"], end="")' >token
+ask -T token "https://solo.example.org:8443/evidence/$name"
 printf 'issue people\\nkeyid %s\\nkey %s\\nprincipals ana@people\\nafter %s\\nbefore %s\\nextensions\\n' \\
   "$1" "$(cut -d' ' -f1,2 thief.pub)" $((now - 60)) $((now + 32400)) >message
 ask --data-binary @message https://solo.example.org:8443/v1/requests/thief

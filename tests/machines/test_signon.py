@@ -282,10 +282,10 @@ def a_minute_is_over(organisation):
 
 
 def serial_of(organisation):
-    """The serial of the certificate that the host's sshd shows, or 0."""
+    """The serial of the certificate by its cloud that the host's sshd shows, or 0."""
     shown = organisation.on("server", f"ssh-keyscan -t ed25519 -c {HOST}.example.org 2>/dev/null | "
                                       "ssh-keygen -L -f - 2>/dev/null || true")
-    found = re.search(r"Serial: (\d+)", shown)
+    found = re.search(r'Key ID: "cloud/[^"]+"\n +Serial: (\d+)\n', shown)
     return int(found[1]) if found else 0
 
 

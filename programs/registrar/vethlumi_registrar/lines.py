@@ -4,7 +4,9 @@ who ask again and again until the station has signed.
 The front lets a caller read twenty times a second, and refuses what is beyond. So one thread reads, at most at this
 pace, however many wait.
 """
+import collections
 import heapq
+import ipaddress
 import itertools
 import threading
 import time
@@ -15,12 +17,22 @@ from vethlumi.refusals import Refused
 PACE, FIRST, LONGEST_PAUSE = 18, 0.3, 4
 # For how many seconds a serial is read again, and its line kept. For how many serials.
 KEPT, MOST = 900, 4096
-# How many serials that this process hasn't issued are read in a second, whoever asks.
-STRANGE = 5
+# How many serials that this process hasn't issued are read in a second: whoever asks, and for one source. What one leaves
+# is as much as a client asks that waits for its signature.
+STRANGE, STRANGE_OF_ONE = 5, 3
 
 
 class Busy(Exception):
     """Too many ask for serials that weren't issued here."""
+
+
+def source_of(address):
+    """Who is counted as one, as the front does it: an IPv4 address, or a network of IPv6 of 64 bits."""
+    try:
+        found = ipaddress.ip_address(address)
+    except ValueError:
+        return address
+    return address if found.version == 4 else str(ipaddress.ip_network((found, 64), strict=False))
 
 
 class Lines:
@@ -33,7 +45,8 @@ class Lines:
         self.due, self.order = [], itertools.count()
         # By serial: when it was issued, and its line or None.
         self.issued = {}
-        self.strange, self.strange_since = 0, 0
+        # By source, the reads of this second. Those that are refused aren't in it, so few are.
+        self.strange, self.strange_since = collections.Counter(), 0
         threading.Thread(target=self.run, daemon=True).start()
 
     def expect(self, serial):
@@ -58,25 +71,25 @@ class Lines:
             self.changed.wait_for(lambda: self.issued.get(serial, (0, ""))[1] is not None, seconds)
             return self.issued.get(serial, (0, None))[1]
 
-    def line(self, serial):
-        """The line of a certificate, or None if there is none to give."""
+    def line(self, serial, address):
+        """The line of a certificate for somebody at an address, or None if there is none to give."""
         with self.changed:
             if serial in self.issued:
                 return self.issued[serial][1]
-            self.count_strange()
+            self.count_strange(source_of(address))
         try:
             line, fields = self.read(serial)
         except Refused:
             return None
         return line if self.suits(fields) else None
 
-    def count_strange(self):
+    def count_strange(self, source):
         now = self.clock()
         if now - self.strange_since >= 1:
-            self.strange, self.strange_since = 0, now
-        if self.strange >= STRANGE:
+            self.strange, self.strange_since = collections.Counter(), now
+        if self.strange.total() >= STRANGE or self.strange[source] >= STRANGE_OF_ONE:
             raise Busy
-        self.strange += 1
+        self.strange[source] += 1
 
     def run(self):
         while True:

@@ -12,6 +12,7 @@ import time
 from vethlumi import formats
 from vethlumi.formats import BadFormat
 from vethlumi.refusals import Refused
+from vethlumi_common.signon import evidence_name
 from vethlumi_signon import tokens
 from vethlumi_signon.keys import Keys, NoProvider
 from vethlumi_signon.rights import BEFORE_TOKEN, NoRight, groups_of, key_id_of, name_of, principals_of, times_of
@@ -29,6 +30,9 @@ MOST_PEOPLE = 20000
 PIECES = 3
 # For how many seconds after its login anybody who knows a serial gets the certificate.
 OPEN = 900
+# Why the office may have another message under a request ID: by a token that is bound to no key, and by one that is.
+USED_UP = "this token has a certificate already, for another key or department"
+CHANGED = "groups, name or settings have changed since this login: log in again"
 
 
 class Refusal(Exception):
@@ -93,23 +97,23 @@ class Counts:
 
 
 class Evidence:
-    """Which token the front was last given for a key, so that whoever asks again and again doesn't use up what it
+    """Which token the front was last given under a name, so that whoever asks again and again doesn't use up what it
     takes."""
 
     def __init__(self, clock=time.monotonic):
         self.clock, self.lock, self.given = clock, threading.Lock(), {}
 
-    def is_new(self, token, blob):
+    def is_new(self, token, name):
         with self.lock:
-            given, at = self.given.get(blob, (None, 0))
+            given, at = self.given.get(name, (None, 0))
             return given != hashed(token) or self.clock() > at + HOUR
 
-    def note(self, token, blob):
+    def note(self, token, name):
         with self.lock:
-            self.given.pop(blob, None)
+            self.given.pop(name, None)
             if len(self.given) >= MOST_PEOPLE:
                 del self.given[next(iter(self.given))]
-            self.given[blob] = hashed(token), self.clock()
+            self.given[name] = hashed(token), self.clock()
 
 
 class Registrar:
@@ -140,11 +144,12 @@ class Registrar:
         record |= {"issuer": claims["iss"], "subject": claims["sub"], "issued": int(claims["iat"])}
         message = self.message(one, claims, key, record)
         record["request"] = request_of(one, claims, blob)
+        evidence = evidence_name(record["keyid"], blob, times_of(one, claims)[0])
 
         def ask():
             if one.is_witnessed:
-                self.show(token, blob, person, record["request"])
-            return self.issued(record["request"], message, bool(one.issuer.audience))
+                self.show(token, evidence, person, record["request"])
+            return self.issued(record["request"], message, USED_UP if one.issuer.audience else CHANGED)
         person = claims["iss"], claims["sub"]
         return self.served(person, record, ask)
 
@@ -176,14 +181,14 @@ class Registrar:
         record["keyid"], made = message_of(department, claims, key, name, principals)
         return made
 
-    def show(self, token, blob, person, request):
+    def show(self, token, name, person, request):
         """Gives the front the token as evidence for the witness beside the station's guard, before the issue. Who asks
         again with the same token has shown it. With several tokens in turn each is shown again, so there is a limit."""
-        if not self.evidence.is_new(token, blob):
+        if not self.evidence.is_new(token, name):
             return
         self.pieces.count(person, request)
         try:
-            self.office.put_evidence(token, blob)
+            self.office.put_evidence(token, name)
         except NoOffice as fault:
             self.pieces.take_back(person, request)
             raise Refusal(503, "NoOffice", "no answer came from the office: send the same again", f"evidence: {fault}",
@@ -191,7 +196,7 @@ class Registrar:
         except Refused as refused:
             raise Refusal(502, "NoEvidence", "the front doesn't take the evidence of this login",
                           f"evidence: {refused}") from None
-        self.evidence.note(token, blob)
+        self.evidence.note(token, name)
 
     def verified(self, token, department, blob):
         try:
@@ -204,19 +209,19 @@ class Registrar:
             raise Refusal(503, "NoProvider", "the provider's keys can't be fetched now: send the same again",
                           f"provider: {fault}", 2) from None
 
-    def issued(self, request, message, is_unbound):
-        """The serial that the office has given."""
+    def issued(self, request, message, why_used):
+        """The serial that the office has given. `why_used` says why it may have another message of this request ID."""
         try:
             with answers_of_office():
                 return self.office.issue(request, message)
         except Refused as refused:
-            raise refusal_of_office(refused, is_unbound) from None
+            raise refusal_of_office(refused, why_used) from None
 
-    def certificate(self, serial):
-        """The line of a certificate, or None while there is none, or none to give."""
+    def certificate(self, serial, address):
+        """The line of a certificate for somebody at an address, or None while there is none, or none to give."""
         try:
             with answers_of_office():
-                return self.lines.line(serial)
+                return self.lines.line(serial, address)
         except Busy:
             raise Refusal(429, "TooMany", "too many ask: send the same again", pause=1) from None
 
@@ -251,11 +256,10 @@ def key_of(text):
     return " ".join(words[:2]), base64.b64decode(words[1])
 
 
-def refusal_of_office(refused, is_unbound):
-    """What a refusal of the office says of a login."""
+def refusal_of_office(refused, why_used):
+    """What a refusal of the office says to who asks."""
     if refused.name == "KeyReused":
-        return Refusal(409, "KeyReused", "this token has a certificate already, for another key or department"
-                       if is_unbound else "groups, name or settings have changed since this login: log in again")
+        return Refusal(409, "KeyReused", why_used)
     if refused.name == "Revoked":
         return Refusal(403, "Revoked", "this certificate was revoked, so nothing is renewed by it")
     if refused.name == "KeyIdRevoked":

@@ -1,5 +1,4 @@
 """The office, as one of its callers reaches it: a message goes out, and a certificate's line comes back."""
-import hashlib
 import threading
 import time
 
@@ -56,11 +55,10 @@ class Office:
         except BadFormat as fault:
             raise BadOffice(str(fault)) from None
 
-    def put_evidence(self, token, blob):
-        """Gives the front the token of a login, by the hash of the login's key. An office without a front has no place
-        for it."""
+    def put_evidence(self, token, name):
+        """Gives the front the token of a login, under a name. An office without a front has no place for it."""
         if not self.caller:
-            self.ask("PUT", f"/evidence/{hashlib.sha256(blob).hexdigest()}", token.encode())
+            self.ask("PUT", f"/evidence/{name}", token.encode())
 
     def line(self, serial):
         """A certificate's line and its fields. The office refuses one that isn't signed, or isn't there."""

@@ -2,7 +2,8 @@
 again for a new time.
 
 The message is a `renew` of the office, which takes key, key ID and principals from its own record of the serial, and
-refuses what was revoked. As with a login, message and request ID are functions of what came.
+refuses what was revoked. As with a login, message and request ID are functions of what came. The request ID is one of
+the statement alone, so the office takes one message for it: each statement gives one certificate.
 """
 import base64
 import hashlib
@@ -17,6 +18,8 @@ from vethlumi_signon.rights import BEFORE_TOKEN, NoRight, principals_of
 from vethlumi_registrar.logins import Refusal, answers_of_office, hashed
 
 CA = string(b"ssh-ed25519")
+# What is said if the office has another message under the request ID.
+USED = "this statement has given a certificate already, by another one or by other settings: sign a new statement"
 
 
 def certificate_of(line, now):
@@ -91,9 +94,9 @@ def renew(registrar, certificate, statement, signature, record):
     department = department_of(registrar.settings, found)
     record["principals"] = [*found.principals]
     message = formats.renew(found.serial, stated.moment - BEFORE_TOKEN, stated.moment + department.life)
-    record["request"] = hashed("vethlumi renewal", found.ca, found.serial, stated.moment, found.blob).hex()[:32]
+    record["request"] = hashed("vethlumi renewal", statement).hex()[:32]
     return registrar.served(("renewal", found.key_id), record,
-                            lambda: registrar.issued(record["request"], message, False))
+                            lambda: registrar.issued(record["request"], message, USED))
 
 
 def is_of_office(registrar, found):

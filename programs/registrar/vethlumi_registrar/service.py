@@ -130,7 +130,8 @@ class Service:
             serial, line = self.registrar.login(*asked, record) if path == "/v1/login" \
                 else renewals.renew(self.registrar, *asked, record)
             return "application/json", as_json({"serial": serial, "certificate": line and line.rstrip("\n")})
-        line = self.registrar.certificate(int(found[2])) if int(found[2]) <= LAST_SERIAL else None
+        serial = int(found[2])
+        line = self.registrar.certificate(serial, record["from"]) if serial <= LAST_SERIAL else None
         if line is None:
             raise Refusal(404, "NoCertificate", "there is no certificate of this serial yet, or none to give here")
         return "text/plain", line

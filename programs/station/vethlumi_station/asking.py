@@ -269,13 +269,13 @@ class Office:
     def body(self, serial, connection):
         return connection.ask(f"/v1/certs/{serial}/body", LONGEST_BODY)
 
-    def evidence(self, digest, connection):
-        """What the registrar has put at a front for the key of this digest, or None. Of several fronts, one has it."""
+    def evidence(self, name, connection):
+        """What the registrar has put at a front under this name, or None. Of several fronts, one has it."""
         others = [place[0] for *_, place in self.found] if self.has_several else []
         for address in [None, *others[:MOST_FRONTS]]:
             it = Connection(self, only=address) if address else connection
             try:
-                return it.ask(f"/evidence/{digest}", LONGEST_EVIDENCE)
+                return it.ask(f"/evidence/{name}", LONGEST_EVIDENCE)
             except OSError as fault:
                 if not str(fault).startswith("404"):
                     raise

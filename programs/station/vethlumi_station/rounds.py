@@ -178,7 +178,7 @@ class Station:
             raise OSError("its body has another digest than the one that is pending")
         try:
             if self.witness:
-                self.witness.look(body, lambda of_key: self.office.evidence(of_key, connection))
+                self.witness.look(body, lambda name: self.office.evidence(name, connection))
         except (Refused, NoEvidence, OSError) as objection:
             return body, objection
         return body, None

@@ -1,8 +1,7 @@
 """The witness beside the guard: no certificate of a person is signed without the person's token for this very key. It
 believes the provider's signature, and neither the registrar nor the front nor the office."""
-import hashlib
-
 from vethlumi.formats import BadFormat, Certificate
+from vethlumi_common.signon import evidence_name
 from vethlumi_signon import tokens
 from vethlumi_signon.keys import NoProvider
 from vethlumi_signon.rights import (BEFORE_TOKEN, NoRight, groups_of, key_id_of, name_of, principals_of, times_of)
@@ -76,8 +75,8 @@ class Witness:
         return [self.path, self.sights.path, self.sights.dropped, *dict.fromkeys(of_issuers)]
 
     def look(self, body, evidence_of):
-        """Raises why a body isn't to be signed. `evidence_of` gives the bytes that are there for a digest of a key, or
-        None. A host's certificate lets nobody log in, and the guard knows which departments are for hosts."""
+        """Raises why a body isn't to be signed. `evidence_of` gives the bytes that are there under a name, or None. A
+        host's certificate lets nobody log in, and the guard knows which departments are for hosts."""
         try:
             fields = Certificate.of_bytes(body)
         except BadFormat:
@@ -88,7 +87,7 @@ class Witness:
         department = departments.get(name)
         if not department:
             return
-        evidence = evidence_of(hashlib.sha256(fields.blob).hexdigest())
+        evidence = evidence_of(evidence_name(fields.key_id, fields.blob, fields.after))
         if evidence is None:
             raise NoEvidence
         if why := self.objection(department, fixed, fields, evidence.decode("ascii", "replace")):
