@@ -103,6 +103,47 @@ def test_a_user_gets_a_bundle_and_a_machine(installing):
     assert ("c", "vethlumi-client-setup", "--hosts", "*.org", "--yes", "-", f"{CA} first\n{bundle('ana')}") == found[-1]
 
 
+KEYS = '{"keys": [{"kty": "OKP", "kid": "one", "x": "A"}]}'
+# What the office's machine lacks at first, and what it answers then.
+NO_REGISTRAR = {r".* test -e \S+/registrar\.bundle && .*": ""}
+
+
+def enrolment_told(department, *front):
+    """What both sides are told, and the office's machine in the end."""
+    return [*both("add-caller", "registrar", "--department", department),
+            *([("o", "vethlumi-front-setup", "--caller", "registrar", "--yes")] if front else []),
+            ("o", "vethlumi-registrar-setup", "--enrol-department", department, "--yes", "--enrol-keys", "-", KEYS)]
+
+
+@pytest.mark.parametrize("more, answers, due", [
+    ([], NO_REGISTRAR, enrolment_told("hosts", "front")), ([], {}, enrolment_told("hosts")),
+    (["--department", "machines"], {}, enrolment_told("machines")),
+], ids=["first", "again", "named"])
+def test_servers_enrol_themselves_from_then_on(installing, room, more, answers, due):
+    """Both sides have the registrar among those who may request for hosts, and the machine of the front has its
+    packages, its bundle and the keys."""
+    (room / "enrol.jwks").write_text(KEYS)
+    status, told, said = installing("enrolment", "enrol.jwks", *more, *OF, **answers)
+    assert 0 == status, told
+    found = [it for it in told_to(said) if re.search("^vethlumi-.*(policy|root|setup)$", it[1])]
+    assert due == found, told
+    copied, = [it for it in said if it[-1] == "root@o:"]
+    assert ["vethlumi-client", "vethlumi-common", "vethlumi-registrar"] == sorted(
+        it.rpartition("/")[2].partition("_")[0] for it in copied[:-1])
+    assert told.endswith("enrolment enrol.jwks: done\n") and "--enrol-keys - <(enrol.jwks)\n" in told
+
+
+@pytest.mark.parametrize("text, why", [
+    (None, "can't read enrol.jwks: "), ("", "enrol.jwks has no public keys such as `vethlumi enrol --new-key` prints"),
+    (KEYS.replace('"x"', '"d"'), "enrol.jwks has no public keys"), ('{"keys": []}', "enrol.jwks has no public keys"),
+], ids=["none", "empty", "private", "no key"])
+def test_what_is_no_public_key_goes_nowhere(installing, room, text, why):
+    if text is not None:
+        (room / "enrol.jwks").write_text(text)
+    status, told, said = installing("enrolment", "enrol.jwks", *OF)
+    assert (1, True, []) == (status, why in told, told_to(said)), told
+
+
 def policy(*rules, name="people", kind="user"):
     return f"department {name}\nkind {kind}\nadmins a\nprincipals {','.join(rules)}\noptions\n"
 
@@ -179,7 +220,12 @@ def test_a_station_that_says_something_else_has_nothing_recovered(installing, te
                                                                           "add-user takes no --ca without"),
     (["add-server", "c", "--hosts", "x"], "nor vethlumi-server-setup has an option --hosts"),
     (["add-caller", "a", "--client", "c", "--account", "x"], "nor vethlumi-client-setup has an option --account"),
-], ids=range(24))
+    (["enrolment"], "enrolment needs FILE right after it"), (["enrolment", "f", "--server", "c"], "takes no --server"),
+    (["enrolment", "f", "--client", "c"], "enrolment takes no --client"), (["enrolment", "f", "--caller", "c"],
+                                                                          "enrolment takes no --caller"),
+    (["enrolment", "f", "--hosts", "x"], "enrolment has no option --hosts"), (["enrolment", "f", "--department", "a.b"],
+                                                                             "no name of a department: 'a.b'"),
+], ids=range(30))
 def test_bad_words_change_nothing(installing, words, why):
     status, told, said = installing(*words, *OF)
     assert (2, True, []) == (status, why in told, said), told

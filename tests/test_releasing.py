@@ -123,7 +123,7 @@ def test_the_changelog_has_the_version_of_the_packages():
 
 def test_each_package_has_the_pages_to_which_its_own_page_leads(release):
     """Readable as they are, and byte for byte those of docs."""
-    pages = ("DAILY", "DRILLS", "GLOSSARY", "INSTALLING", "OPERATING", "SIGNON")
+    pages = ("DAILY", "DRILLS", "FLEET", "GLOSSARY", "INSTALLING", "OPERATING", "SIGNON")
     due = {f"{it}.md": TOP / f"docs/{it}.md" for it in pages}
     for name, file in release.items():
         if name.endswith(".deb"):
