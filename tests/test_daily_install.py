@@ -204,7 +204,8 @@ def test_a_station_that_says_something_else_has_nothing_recovered(installing, te
 @pytest.mark.parametrize("words, why", [
     (["add-user"], "add-user needs NAME right after it"), (["add-server"], "add-server needs MACHINE right after it"),
     (["add-user", "a b"], "no name of a user"), (["remove-caller", "a.b"], "no name of a caller"),
-    (["leave", "bob", "--caller", "a.b"], "no name of a caller: 'a.b'"), (["leave", "a.b"], "no name of a caller: "),
+    (["leave", "bob", "--caller", "a.b"], "no name of a caller: 'a.b'"),
+    (["leave", "a.b"], "no name of a caller: 'a.b': for somebody who is none, type remove-user a.b"),
     (["leave", "admin"], "admin is a name that set-up makes"), (["remove-caller", "root"], "root is a name that set"),
     (["add-server", "a b"], "no machine"), (["add-user", "bob", "--server", "a b"], "no machine"),
     (["add-user", "bob@corp", "--server", "c"], "bob@corp is no name of an account, so leave out --server"),
@@ -229,6 +230,18 @@ def test_a_station_that_says_something_else_has_nothing_recovered(installing, te
 def test_bad_words_change_nothing(installing, words, why):
     status, told, said = installing(*words, *OF)
     assert (2, True, []) == (status, why in told, said), told
+
+
+@pytest.mark.parametrize("said, hint", [
+    (": root@s: Permission denied (publickey).", ". if you have ended the access, put your public key back into"),
+    (": No ED25519 key is known for s\nHost key verification failed.", ". ssh here has to know that machine's key"),
+    (": ssh: connect to host s port 22: Connection refused", ""), ("", ""),
+], ids=["ended", "unknown", "refused", "nothing"])
+def test_who_does_not_get_in_is_told_what_helps(said, hint):
+    """In the words that OpenSSH 9.2 has for it."""
+    told = str(loaded(PROGRAMS / "setup/vethlumi-install").Machine("s").unreached(said))
+    assert told.startswith(f"no connection to root@s, so run this again when there is one{said}{hint}")
+    assert bool(hint) == (len(told) > 63 + len(said))
 
 
 @pytest.mark.parametrize("lacks", ["office", "station"])

@@ -82,7 +82,8 @@ def check(given):
     if job in ("remove-caller", "leave") and (given.caller or who) in OF_SET_UP:
         raise BadWords(f"{given.caller or who} is a name that set-up makes, and nobody's who leaves")
     if job in ("add-caller", "remove-caller", "leave") and not NAME.fullmatch(given.caller or who):
-        raise BadWords(f"no name of a caller: {given.caller or who!r}")
+        raise BadWords(f"no name of a caller: {given.caller or who!r}"
+                       + (f": for somebody who is none, type remove-user {who}" if job == "leave" else ""))
     if job in ("add-user", "remove-user", "leave") and not USER.fullmatch(who):
         raise BadWords(f"no name of a user: {who!r}")
     if given.server and job != "recover" and not ACCOUNT.fullmatch(who):

@@ -1,5 +1,5 @@
-"""docs/DAILY.md, "Servers that enrol themselves", typed into machines that are booted, as INSTALLING leaves them: one
-command prepares the site, twice, and a machine to which nobody logs in as root becomes a server."""
+"""docs/DAILY.md typed into machines that are booted, as INSTALLING leaves them: servers that enrol themselves. And
+somebody's own laptop, which is lost."""
 import contextlib
 import re
 import shutil
@@ -13,7 +13,7 @@ from test_packages import ADMIN, MACHINES, Fleet, base, installed, is_up, marked
 from running import TOP
 
 PAGE = (TOP / "docs/DAILY.md").read_text()
-HEADING, WEB = "Servers that enrol themselves", "web"
+WEB, LAPTOP = "web", "laptop"
 # What each side has, and the settings of the registrar.
 STATE = {"station": "cat /etc/vethlumi/station/first.policy /etc/vethlumi/station/first.office",
          "office": "curl -sSf --unix-socket /run/office-door.sock http://office/v1/departments; "
@@ -21,14 +21,25 @@ STATE = {"station": "cat /etc/vethlumi/station/first.policy /etc/vethlumi/statio
 SHOWN = "ssh-keygen -L -f /etc/vethlumi/host-cert.pub 2>/dev/null || true"
 
 
+class Site(Fleet):
+    """The machines of the page, a bare one that gets its packages from an image, and bob's own."""
+    FURTHER = (LAPTOP,)
+
+    def section(self, heading):
+        return pages.blocks(pages.section(PAGE, heading))
+
+    def install(self, words):
+        return self.shell(ADMIN).run(f"programs/setup/vethlumi-install {words} $both\n")
+
+
 @pytest.fixture
 def site(base, installed, packages, tmp_path):
-    """The machines of the page, and a bare one that gets its packages from an image."""
-    made = Fleet(tmp_path, base, packages, installed)
+    made = Site(tmp_path, base, packages, installed)
     with contextlib.closing(made):
-        made.add(ADMIN, *MACHINES, WEB)
+        made.add(ADMIN, *MACHINES, WEB, LAPTOP)
         boxes.wait_until(lambda: is_up(made), "the office answers")
         made.type(pages.blocks(PAGE.partition("\n## ")[0]))
+        assert "granted" in made.type(made.section("A second user"))
         for name in ("vethlumi-common", "vethlumi-client"):
             shutil.copy(of(packages, name), made.boxes[WEB].files / "root")
         made.boxes[WEB].run("apt-get update -qq && apt-get install -y -qq ./*.deb >/dev/null", timeout=400)
@@ -44,15 +55,20 @@ def serial(site):
 
 
 @marked(*on_boxes)
-def test_a_server_enrols_itself_by_the_page(site):
+def test_servers_enrol_and_a_lost_laptop_is_replaced(site):
     """One test, since each of its steps needs what those before have left."""
-    key, prepare, token, set_up, login = pages.blocks(pages.section(PAGE, HEADING))
-    site.type(pages.blocks(pages.section(PAGE, "A second user")))
+    enrol(site)
+    look_at_what_it_may(site)
+    lose_a_laptop(site)
+
+
+def enrol(site):
+    key, prepare, token, set_up, login = site.section("Servers that enrol themselves")
     told = site.type([key, prepare])
     assert "  + admins host-{name},registrar" in "".join(f"{it}\n" for it in told), told
     before = state(site)
     assert 2 == sum(it.count("admins host-{name},registrar\n") for it in before["station"].split("[policy]"))
-    again = site.shell(ADMIN).run("programs/setup/vethlumi-install enrolment enrol.jwks $both\n")
+    again = site.install("enrolment enrol.jwks")
     assert 3 == again.count("everything is as it should be") and before == state(site), again
     # What cloud-init would bring. Nobody else logs in to this machine.
     site.type([token])
@@ -64,7 +80,6 @@ def test_a_server_enrols_itself_by_the_page(site):
     said = site.boxes[WEB].says(SHOWN)
     assert 'Key ID: "hosts/web/' in said and "web.example.org" in said
     assert "granted" in site.type([login])
-    look_at_what_it_may(site)
 
 
 def look_at_what_it_may(site):
@@ -75,7 +90,35 @@ def look_at_what_it_may(site):
     other = site.boxes["client"].run("ssh-keygen -q -t ed25519 -N '' -f other && vethlumi workload other.pub "
                                      "--department hosts --token web.token", False)
     assert 0 != other.returncode and "KeyReused" in other.stdout, other.stdout
-    told = site.shell(ADMIN).run("programs/setup/vethlumi-install remove-server web.example.org $both\n")
+    told = site.install("remove-server web.example.org")
     assert re.search(r"revoke what can still be used: [23] of the office's certificates", told), told
     refused = web.run("vethlumi-host --now", False)
     assert 0 != refused.returncode and "Revoked" in refused.stdout, refused.stdout
+
+
+OF_BOB = "add-user bob --client laptop.example.org --user bob --hosts '*.example.org'"
+# What bob types on his laptop. ssh asks nobody.
+HIS = """ssh-keygen -q -t ed25519 -N '' -C bob -f bob
+vethlumi request people/bob/laptop bob.pub --principals bob@people --extensions permit-pty
+"""
+LOGIN = "ssh -o BatchMode=yes -o IdentitiesOnly=yes -i bob bob@server.example.org echo granted || true\n"
+
+
+def lose_a_laptop(site):
+    """bob has certificates of his own, by his own account; then nobody has them, and he gets others."""
+    laptop = site.boxes[LAPTOP]
+    laptop.run("useradd --create-home --shell /bin/bash bob")
+    told = site.install(OF_BOB)
+    assert "as bob: write /home/bob/.config/vethlumi/bob.pem" in told
+    assert "everything is as it should be" in site.install(OF_BOB).rpartition("on laptop.example.org")[2]
+    assert "" == laptop.says("ls -A /root/.config 2>/dev/null || true")
+    bob = site.shells["bob"] = boxes.Shell(laptop, "bob")
+    assert "granted" in bob.run(HIS + LOGIN)
+    site.install("remove-user bob")
+    boxes.wait_until(lambda: "granted" not in bob.run(LOGIN), "the lost key is refused")
+    refused = bob.run("vethlumi request people/bob/thief bob.pub --principals bob@people --out thief || true\n")
+    assert "was revoked" in refused, refused
+    # He goes on, on another laptop, of which this one has the place.
+    bob.run("rm -rf bob* .config\n")
+    site.install(OF_BOB)
+    assert "granted" in bob.run(HIS + LOGIN)
