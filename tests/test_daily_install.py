@@ -133,6 +133,17 @@ def test_servers_enrol_themselves_from_then_on(installing, room, more, answers, 
     assert told.endswith("enrolment enrol.jwks: done\n") and "--enrol-keys - <(enrol.jwks)\n" in told
 
 
+@pytest.mark.parametrize("version, due", [("0.9.0", ["vethlumi-registrar"]), ("1.0.0", []), (None, [])])
+def test_a_registrar_is_upgraded_with_the_office(installing, version, due):
+    """It has no machine of its own, which somebody would name."""
+    there = "".join(f"installed vethlumi-{it} 1.0.0\n" for it in ("common", "office", "front", "client"))
+    there += f"installed vethlumi-registrar {version}\n" if version else ""
+    status, told, said = installing("office", "o", "--station", "s", "--yes", **{".* dpkg .*": f"amd64\n{there}"})
+    assert 0 == status, told
+    assert due == [it.rpartition("/")[2].partition("_")[0] for words in said if words[-1] == "root@o:"
+                   for it in words[:-1]]
+
+
 @pytest.mark.parametrize("text, why", [
     (None, "can't read enrol.jwks: "), ("", "enrol.jwks has no public keys such as `vethlumi enrol --new-key` prints"),
     (KEYS.replace('"x"', '"d"'), "enrol.jwks has no public keys"), ('{"keys": []}', "enrol.jwks has no public keys"),
@@ -233,7 +244,7 @@ def test_bad_words_change_nothing(installing, words, why):
 
 
 @pytest.mark.parametrize("said, hint", [
-    (": root@s: Permission denied (publickey).", ". if you have ended the access, put your public key back into"),
+    (": root@s: Permission denied (publickey).", ". if you have ended access, put your public key back into"),
     (": No ED25519 key is known for s\nHost key verification failed.", ". ssh here has to know that machine's key"),
     (": ssh: connect to host s port 22: Connection refused", ""), ("", ""),
 ], ids=["ended", "unknown", "refused", "nothing"])
