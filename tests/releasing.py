@@ -4,6 +4,8 @@ import shutil
 
 from running import TOP, left_out, run
 
+VERSION = "1.0.0"
+COLLECTION = f"vethlumi-fleet-{VERSION}.tar.gz"
 # What stands for a program: it explains itself as the real one does, and nothing more.
 STAND_IN = """#!/bin/sh
 cat <<'END'
@@ -20,7 +22,7 @@ Options:
 END
 """
 # What ./package takes from the repository.
-SOURCES = ("package", "debian", "programs", "examples", "tools/sbom", "crates.txt", "docs")
+SOURCES = ("package", "debian", "programs", "examples", "tools/collection", "tools/sbom", "crates.txt", "docs")
 
 
 def stand_ins(folder):
@@ -46,8 +48,9 @@ def copy_sources(folder):
 
 def packed(out, sshoffice, sshstation, top=TOP, before=(), **how):
     """The files that ./package makes, by their names. `before` are words before its own."""
-    if not shutil.which("dh"):
-        left_out("debhelper isn't installed")
+    for program, package in (("dh", "debhelper"), ("ansible-galaxy", "ansible-core")):
+        if not shutil.which(program):
+            left_out(f"{package} isn't installed")
     words = [*before, top / "package", "--out", out, "--sshoffice", sshoffice, "--sshstation", sshstation]
     made = run(words, timeout=800, **how)
     assert 0 == made.returncode, made.stderr.decode()

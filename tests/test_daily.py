@@ -22,6 +22,7 @@ CLOSED = department("db-example-org", kind="host", admins="", principals="nobody
 # Departments for everybody, as vethlumi-station-setup makes them.
 ALL = department("people", principals="{name}@people", admins="admin,{name}", extensions="permit-pty")
 HOSTS = department("hosts", kind="host", admins="host-{name}", principals="{name}.example.org", maxlife=2592000)
+ENROLLED = HOSTS.replace("admins host-{name}", "admins host-{name},registrar")
 SIXTEEN = [f"user{it}" for it in range(16)]
 # What may stand around a department, and stays as it is.
 AROUND = "# people first\n\n{}\n# another's\n" + department("web", principals="alice,*@corp", admins="ana,carol")
@@ -71,6 +72,14 @@ CHANGES = [
         "add-user bob", "remove-user bob", "add-server db.example.org", "remove-server db.example.org",
         f"add-server {27 * 'a'}.example.org", "remove-caller bob")),
     (ALL + HOSTS, "add-caller carol", ALL.replace("admin,{name}", "admin,{name},carol") + HOSTS),
+    # A caller may be one for hosts: the registrar, by which servers enrol.
+    (ALL + HOSTS, "add-caller registrar --department hosts", ALL + ENROLLED),
+    (ALL + ENROLLED, "add-caller registrar --department hosts", ALL + ENROLLED),
+    (ALL + ENROLLED, "remove-caller registrar --department hosts", ALL + HOSTS),
+    (ALL + ENROLLED, "remove-caller registrar --department people", ALL + ENROLLED),
+    (ALL + ENROLLED, "remove-caller registrar", ALL + HOSTS),
+    (AROUND.format(PEOPLE) + HOSTS, "add-caller registrar --department hosts", AROUND.format(PEOPLE) + ENROLLED),
+    (ENROLLED, "add-server db.example.org", ENROLLED),
     # Not of another domain, nor a name that no caller has, nor what isn't exactly a name and the suffix.
     *((HOSTS, f"add-server {it}", f"{HOSTS}\n" + HOST.replace("db-example-org", name).replace("db.example.org", it))
       for it, name in (("db.example.net", "db-example-net"), ("a.b.example.org", "a-b-example-org"), ("db", "db"))),
@@ -114,6 +123,9 @@ REFUSED = [
     (PEOPLE, "add-user nobody", "the principal nobody stands for"), (PEOPLE, "add-user bob,eve", "no name of a user"),
     (PEOPLE, "add-user *bob", "no name of a user"), (PEOPLE, "add-caller a.b", "no name of a caller"),
     (PEOPLE, "add-caller " + 33 * "a", "no name of a caller"), (PEOPLE, "add-caller host-a", "no name of a caller"),
+    (PEOPLE, "add-caller registrar --department hosts", "there is no department hosts, but people"),
+    (HOSTS, "add-caller carol", "name the department by --department: there is none for users"),
+    ("", "add-caller carol --department people", "there is no department people, but none"),
     (PEOPLE, "add-caller root", "root is no caller's name"), (PEOPLE, "add-user bob --department web",
                                                              "there is no department web for users, but people"),
     (HOST, "add-user bob", "name the department by --department: there is none for users"),

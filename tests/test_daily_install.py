@@ -103,6 +103,58 @@ def test_a_user_gets_a_bundle_and_a_machine(installing):
     assert ("c", "vethlumi-client-setup", "--hosts", "*.org", "--yes", "-", f"{CA} first\n{bundle('ana')}") == found[-1]
 
 
+KEYS = '{"keys": [{"kty": "OKP", "kid": "one", "x": "A"}]}'
+# What the office's machine lacks at first, and what it answers then.
+NO_REGISTRAR = {r".* test -e \S+/registrar\.bundle && .*": ""}
+
+
+def enrolment_told(department, *front):
+    """What both sides are told, and the office's machine in the end."""
+    return [*both("add-caller", "registrar", "--department", department),
+            *([("o", "vethlumi-front-setup", "--caller", "registrar", "--yes")] if front else []),
+            ("o", "vethlumi-registrar-setup", "--enrol-department", department, "--yes", "--enrol-keys", "-", KEYS)]
+
+
+@pytest.mark.parametrize("more, answers, due", [
+    ([], NO_REGISTRAR, enrolment_told("hosts", "front")), ([], {}, enrolment_told("hosts")),
+    (["--department", "machines"], {}, enrolment_told("machines")),
+], ids=["first", "again", "named"])
+def test_servers_enrol_themselves_from_then_on(installing, room, more, answers, due):
+    """Both sides have the registrar among those who may request for hosts, and the machine of the front has its
+    packages, its bundle and the keys."""
+    (room / "enrol.jwks").write_text(KEYS)
+    status, told, said = installing("enrolment", "enrol.jwks", *more, *OF, **answers)
+    assert 0 == status, told
+    found = [it for it in told_to(said) if re.search("^vethlumi-.*(policy|root|setup)$", it[1])]
+    assert due == found, told
+    copied, = [it for it in said if it[-1] == "root@o:"]
+    assert ["vethlumi-client", "vethlumi-common", "vethlumi-registrar"] == sorted(
+        it.rpartition("/")[2].partition("_")[0] for it in copied[:-1])
+    assert told.endswith("enrolment enrol.jwks: done\n") and "--enrol-keys - <(enrol.jwks)\n" in told
+
+
+@pytest.mark.parametrize("version, due", [("0.9.0", ["vethlumi-registrar"]), ("1.0.0", []), (None, [])])
+def test_a_registrar_is_upgraded_with_the_office(installing, version, due):
+    """It has no machine of its own, which somebody would name."""
+    there = "".join(f"installed vethlumi-{it} 1.0.0\n" for it in ("common", "office", "front", "client"))
+    there += f"installed vethlumi-registrar {version}\n" if version else ""
+    status, told, said = installing("office", "o", "--station", "s", "--yes", **{".* dpkg .*": f"amd64\n{there}"})
+    assert 0 == status, told
+    assert due == [it.rpartition("/")[2].partition("_")[0] for words in said if words[-1] == "root@o:"
+                   for it in words[:-1]]
+
+
+@pytest.mark.parametrize("text, why", [
+    (None, "can't read enrol.jwks: "), ("", "enrol.jwks has no public keys such as `vethlumi enrol --new-key` prints"),
+    (KEYS.replace('"x"', '"d"'), "enrol.jwks has no public keys"), ('{"keys": []}', "enrol.jwks has no public keys"),
+], ids=["none", "empty", "private", "no key"])
+def test_what_is_no_public_key_goes_nowhere(installing, room, text, why):
+    if text is not None:
+        (room / "enrol.jwks").write_text(text)
+    status, told, said = installing("enrolment", "enrol.jwks", *OF)
+    assert (1, True, []) == (status, why in told, told_to(said)), told
+
+
 def policy(*rules, name="people", kind="user"):
     return f"department {name}\nkind {kind}\nadmins a\nprincipals {','.join(rules)}\noptions\n"
 
@@ -163,7 +215,8 @@ def test_a_station_that_says_something_else_has_nothing_recovered(installing, te
 @pytest.mark.parametrize("words, why", [
     (["add-user"], "add-user needs NAME right after it"), (["add-server"], "add-server needs MACHINE right after it"),
     (["add-user", "a b"], "no name of a user"), (["remove-caller", "a.b"], "no name of a caller"),
-    (["leave", "bob", "--caller", "a.b"], "no name of a caller: 'a.b'"), (["leave", "a.b"], "no name of a caller: "),
+    (["leave", "bob", "--caller", "a.b"], "no name of a caller: 'a.b'"),
+    (["leave", "a.b"], "no name of a caller: 'a.b': for somebody who is none, type remove-user a.b"),
     (["leave", "admin"], "admin is a name that set-up makes"), (["remove-caller", "root"], "root is a name that set"),
     (["add-server", "a b"], "no machine"), (["add-user", "bob", "--server", "a b"], "no machine"),
     (["add-user", "bob@corp", "--server", "c"], "bob@corp is no name of an account, so leave out --server"),
@@ -179,10 +232,27 @@ def test_a_station_that_says_something_else_has_nothing_recovered(installing, te
                                                                           "add-user takes no --ca without"),
     (["add-server", "c", "--hosts", "x"], "nor vethlumi-server-setup has an option --hosts"),
     (["add-caller", "a", "--client", "c", "--account", "x"], "nor vethlumi-client-setup has an option --account"),
-], ids=range(24))
+    (["enrolment"], "enrolment needs FILE right after it"), (["enrolment", "f", "--server", "c"], "takes no --server"),
+    (["enrolment", "f", "--client", "c"], "enrolment takes no --client"), (["enrolment", "f", "--caller", "c"],
+                                                                          "enrolment takes no --caller"),
+    (["enrolment", "f", "--hosts", "x"], "enrolment has no option --hosts"), (["enrolment", "f", "--department", "a.b"],
+                                                                             "no name of a department: 'a.b'"),
+], ids=range(30))
 def test_bad_words_change_nothing(installing, words, why):
     status, told, said = installing(*words, *OF)
     assert (2, True, []) == (status, why in told, said), told
+
+
+@pytest.mark.parametrize("said, hint", [
+    (": root@s: Permission denied (publickey).", ". if you have ended access, put your public key back into"),
+    (": No ED25519 key is known for s\nHost key verification failed.", ". ssh here has to know that machine's key"),
+    (": ssh: connect to host s port 22: Connection refused", ""), ("", ""),
+], ids=["ended", "unknown", "refused", "nothing"])
+def test_who_does_not_get_in_is_told_what_helps(said, hint):
+    """In the words that OpenSSH 9.2 has for it."""
+    told = str(loaded(PROGRAMS / "setup/vethlumi-install").Machine("s").unreached(said))
+    assert told.startswith(f"no connection to root@s, so run this again when there is one{said}{hint}")
+    assert bool(hint) == (len(told) > 63 + len(said))
 
 
 @pytest.mark.parametrize("lacks", ["office", "station"])

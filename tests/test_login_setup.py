@@ -6,6 +6,7 @@ import os
 import pathlib
 import stat
 import tomllib
+import types
 
 import pytest
 
@@ -100,6 +101,53 @@ def test_root_may_be_a_caller_as_well(machine):
     assert VALUES | {"certificate": str(folder / "ana.pem"), "cacert": str(folder / "ca.crt")} == machine.settings()
     assert 0o600 == stat.S_IMODE((folder / "ana.pem").stat().st_mode)
     assert "certificate" not in machine.settings(machine.etc / "client.toml")
+
+
+# Stands for runuser, without another user.
+RUNUSER = '#!/bin/sh\n[ "$1 $2 $3" = "-u bob --" ] && shift 3 && exec "$@"\n'
+
+
+def test_root_sets_up_the_client_of_an_account(machine, capsys):
+    """The account does so itself, and root has none of it. Typed again, nothing is done."""
+    bob, files = machine.room / "bob", ("bob.pem", "ca.crt")
+    bob.mkdir()
+    (machine.room / "bin").mkdir()
+    put(machine.room / "bin/runuser", RUNUSER, 0o755)
+    machine.monkeypatch.setenv("PATH", f"{machine.room}/bin:{os.environ['PATH']}")
+    found = {"bob": (1000, bob), "root": (0, machine.home)}
+    machine.monkeypatch.setattr(machine.setup.pwd, "getpwnam", lambda name: types.SimpleNamespace(
+        pw_name=name, pw_uid=found[name][0], pw_dir=str(found[name][1])))
+    machine.bundle(caller="bob", certificate=CERTIFICATE)
+    assert 0 == machine.type("--hosts", "*.example.org", "--user", "bob")
+    told = capsys.readouterr().err
+    assert f"  as bob: write {bob}/.config/vethlumi/bob.pem\n" in told
+    folder = bob / ".config/vethlumi"
+    assert {"office": OFFICE, "certificate": f"{folder}/bob.pem", "cacert": f"{folder}/ca.crt"} == machine.settings(
+        bob / ".config/vethlumi.toml")
+    assert (CERTIFICATE, 0o600) == ((folder / "bob.pem").read_text(), stat.S_IMODE((folder / "bob.pem").stat().st_mode))
+    assert {*files} == {it.name for it in folder.iterdir()} and [] == [*machine.home.rglob("*")]
+    assert machine.ca in (machine.etc / "known_hosts").read_text()
+    assert 0 == machine.type("--hosts", "*.example.org", "--user", "bob")
+    assert "everything is as it should be\n" == capsys.readouterr().err
+    # What the account can't do is said before anything is done.
+    put(machine.room / "bin/runuser", "#!/bin/sh\necho no home >&2\nexit 1\n", 0o755)
+    before = machine.listed()
+    machine.bundle(caller="bob", certificate=CERTIFICATE.replace("AAAA", "BBBB"))
+    assert 1 == machine.type("--hosts", "*.example.net", "--user", "bob") and before == machine.listed()
+    assert "as bob: no home\n" in capsys.readouterr().err
+    # root is nobody else.
+    assert 0 == machine.type("--user", "root") and "BBBB" in (machine.home / ".config/vethlumi/bob.pem").read_text()
+
+
+@pytest.mark.parametrize("words, user, status, why", [
+    (["--user", "nobody-of-this-name"], 0, 1, "there is no account nobody-of-this-name on this machine: create it"),
+    (["--user", "root"], 1000, 2, "--user is for root"), (["--user", "root", *SIGN_ON], 0, 2, "and --provider for all"),
+])
+def test_an_account_that_is_none_changes_nothing(machine, capsys, words, user, status, why):
+    machine.bundle(caller="bob", certificate=CERTIFICATE)
+    before = machine.listed()
+    assert status == machine.type(*words, user=user) and before == machine.listed()
+    assert why in capsys.readouterr().err
 
 
 @pytest.fixture

@@ -36,7 +36,7 @@ CRATES = re.findall(r"^(\w+):", (TOP / "crates.txt").read_text(), re.M)
 # What stands behind `sh` where a block is for one of several machines, for some of them, or for somebody at one of them:
 # tests of machines that are booted type it there.
 MACHINES = ("admin", "office", "station", "server", "client", "spare", "second", "server client", "one", "two", "three",
-            "one two", "one two three", "laptop", "ana")
+            "one two", "one two three", "laptop", "ana", "web")
 KINDS = ("sh", "console", "text", *(f"sh {it}" for it in MACHINES))
 
 # What isn't run here: a line, or the first line of a block that is left out whole. With why, what else shows it, and a

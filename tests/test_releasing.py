@@ -1,4 +1,4 @@
-"""A release: that the same sources give the same bytes, the list of its parts, the apt repository and the wheel.
+"""A release: that the same sources give the same bytes, the list of its parts, and the Ansible collection.
 
 These tests need no built program: files stand for the programs. machines/test_packages.py has the packages of the real
 ones."""
@@ -8,17 +8,17 @@ import os
 import pathlib
 import re
 import shutil
+import tarfile
 import tempfile
 
 import pytest
 
-from releasing import copy_sources, packed, stand_ins
+from releasing import COLLECTION, VERSION, copy_sources, packed, stand_ins
 from running import TOP, left_out, loaded, run
 
 # The first test also waits until ./package has ended.
 pytestmark = pytest.mark.timeout(900)
 
-VERSION = "1.0.0"
 WHEEL = f"vethlumi-{VERSION}-py3-none-any.whl"
 BILL = f"vethlumi_{VERSION}.cdx.json"
 
@@ -123,7 +123,7 @@ def test_the_changelog_has_the_version_of_the_packages():
 
 def test_each_package_has_the_pages_to_which_its_own_page_leads(release):
     """Readable as they are, and byte for byte those of docs."""
-    pages = ("DAILY", "DRILLS", "GLOSSARY", "INSTALLING", "OPERATING", "SIGNON")
+    pages = ("DAILY", "DRILLS", "FLEET", "GLOSSARY", "INSTALLING", "OPERATING", "SIGNON")
     due = {f"{it}.md": TOP / f"docs/{it}.md" for it in pages}
     for name, file in release.items():
         if name.endswith(".deb"):
@@ -161,6 +161,28 @@ def link(rattle, file, folder):
     return (folder / "made").read_bytes()
 
 
+# ---- the Ansible collection
+
+def test_the_collection_of_a_release_is_that_of_its_sources(release, room):
+    """As ansible-galaxy installs it, which compares each file with its sum. All of it belongs to root, has the time of
+    the changelog, and is in the order of the names, so that no folder's order is in it."""
+    with tarfile.open(release[COLLECTION]) as file:
+        members = file.getmembers()
+    names = [it.name for it in members]
+    assert ["MANIFEST.json", "FILES.json", *sorted(names[2:])] == names
+    due = run(["date", "-d", re.search(r"^ -- .*>  (.*)$", (TOP / "debian/changelog").read_text(), re.M)[1], "+%s"])
+    assert {(int(due.stdout), 0, 0, "", "")} == {(it.mtime, it.uid, it.gid, it.uname, it.gname) for it in members}
+    assert {0o644, 0o755} == {it.mode for it in members} and {0o755} == {it.mode for it in members if it.isdir()}
+    done = run(["ansible-galaxy", "collection", "install", "--offline", "-p", room, release[COLLECTION]],
+               env=os.environ | {"HOME": str(room)})
+    assert 0 == done.returncode, (done.stdout + done.stderr).decode()
+    sources, installed = TOP / "programs/fleet", room / "ansible_collections/vethlumi/fleet"
+    texts = {str(it.relative_to(sources)): it.read_bytes() for it in sources.rglob("*")
+             if it.is_file() and "__pycache__" not in it.parts and it.name != "galaxy.yml"}
+    assert 30 < len(texts) and texts == {str(it.relative_to(installed)): it.read_bytes() for it in installed.rglob("*")
+                                         if it.is_file() and it.name not in ("MANIFEST.json", "FILES.json")}
+
+
 # ---- the list of its parts
 
 def bill_of(release):
@@ -174,7 +196,7 @@ def test_the_list_of_parts_has_each_file_with_its_sum(release):
     """As sha256sum prints it."""
     found, components, needs = bill_of(release)
     listed = {it["hashes"][0]["content"]: ref for ref, it in components.items() if "hashes" in it}
-    files = [it for name, it in release.items() if name.endswith((".deb", ".whl"))]
+    files = [it for name, it in release.items() if name.endswith((".deb", ".whl", ".tar.gz"))]
     assert len(files) > 4
     for it in files:
         digest = run(["sha256sum", it], check=True).stdout.decode().split()[0]
@@ -205,9 +227,9 @@ def test_the_list_of_parts_has_what_each_package_depends_on(release):
             depends = run(["dpkg-deb", "-f", file, "Depends"], check=True).stdout.decode()
             due = {*re.findall(r"(?:^|[,|]) *([a-z0-9.+-]+)", depends)}
             assert due == {components[it]["name"] for it in needs[ref]} - {"sshoffice", "sshstation"}, name
-    wheel, = [it for it in components if it.startswith("pkg:generic/")]
-    due = {"click", "cryptography", "platformdirs", "requests", "rich"}
-    assert due == {components[it]["name"] for it in needs[wheel]}
+    for name, due in ((WHEEL, {"click", "cryptography", "platformdirs", "requests", "rich"}),
+                      (COLLECTION, {"ansible-core"})):
+        assert due == {components[it]["name"] for it in needs[f"pkg:generic/{name}@{VERSION}"]}
 
 
 def test_the_list_of_parts_has_the_programs_in_their_packages(release):

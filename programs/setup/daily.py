@@ -1,17 +1,20 @@
 """What `vethlumi-install` does from day to day: the commands that it runs on each machine when a user, a caller or a
-server comes or goes, and when a restored office is recovered."""
+server comes or goes, when servers are to enrol themselves, and when a restored office is recovered."""
 import re
 
 from setting_up import FINGERPRINT, NAME, BadWords, Fault
 
 # Each job, with whom it is about.
 JOBS = {"add-user": "NAME", "remove-user": "NAME", "add-caller": "NAME", "remove-caller": "NAME",
-        "add-server": "MACHINE", "remove-server": "HOST", "leave": "NAME", "recover": ""}
+        "add-server": "MACHINE", "remove-server": "HOST", "leave": "NAME", "enrolment": "FILE", "recover": ""}
 # The jobs that an option is for.
-OPTIONS = {"department": ("add-user", "remove-user", "add-caller", "remove-caller"),
+OPTIONS = {"department": ("add-user", "remove-user", "add-caller", "remove-caller", "enrolment"),
            "server": ("add-user", "remove-user", "leave", "recover"), "client": ("add-user", "add-caller"),
            "caller": ("leave",), "most": ("recover",), "to": ("recover",), "name": (), "first": (),
            "ca": ("add-server", "add-user", "add-caller")}
+# The caller who requests certificates for servers that enrol, their department unless one is named, and the packages.
+REGISTRAR, HOSTS = "registrar", "hosts"
+OF_REGISTRAR = ["vethlumi-common", "vethlumi-client", "vethlumi-registrar"]
 # The clients of a front that each set-up of it makes.
 OF_SET_UP = ("root", "station", "admin", "watch", "server")
 # The set-up command that gets further options.
@@ -44,7 +47,8 @@ LONGEST, LONGEST_STOP = 1 << 26, 900
 
 def options(parser):
     parser.add_argument("--department", metavar="NAME",
-                        help="the department for users [default: people, or the only one; to remove, all of them]")
+                        help="the department for users, or with add-caller, remove-caller and enrolment one of hosts "
+                             "[default: people, or the only one; to remove, all; for enrolment hosts]")
     parser.add_argument("--server", action="append", default=[], metavar="MACHINE",
                         help="with add-user, remove-user and leave: a server on which the account is created, or ended "
                              "with its sessions; with recover, one whose list is read; may be repeated")
@@ -65,6 +69,8 @@ def check(given):
     for name, jobs in OPTIONS.items():
         if getattr(given, name) and job not in jobs:
             raise BadWords(f"{job} takes no --{name}")
+    if given.department and not NAME.fullmatch(given.department):
+        raise BadWords(f"no name of a department: {given.department!r}")
     # Without a machine there is nothing to set up.
     is_without = job in ("add-user", "add-caller") and not given.client
     if given.further and (job not in SET_UPS or is_without):
@@ -76,7 +82,8 @@ def check(given):
     if job in ("remove-caller", "leave") and (given.caller or who) in OF_SET_UP:
         raise BadWords(f"{given.caller or who} is a name that set-up makes, and nobody's who leaves")
     if job in ("add-caller", "remove-caller", "leave") and not NAME.fullmatch(given.caller or who):
-        raise BadWords(f"no name of a caller: {given.caller or who!r}")
+        raise BadWords(f"no name of a caller: {given.caller or who!r}"
+                       + (f": for somebody who is none, type remove-user {who}" if job == "leave" else ""))
     if job in ("add-user", "remove-user", "leave") and not USER.fullmatch(who):
         raise BadWords(f"no name of a user: {who!r}")
     if given.server and job != "recover" and not ACCOUNT.fullmatch(who):
@@ -90,6 +97,8 @@ def check(given):
 
 def jobs_of(given):
     """The jobs that a command consists of, each with its name."""
+    if given.role == "enrolment":
+        return [("add-caller", REGISTRAR)]
     if given.role in ("add-server", "remove-server"):
         # ssh asks for a host in small letters, whatever was typed.
         return [(given.role, given.machine.rpartition("@")[2].lower())]

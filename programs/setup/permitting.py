@@ -14,6 +14,8 @@ PRINCIPAL = re.compile("[a-z0-9._@-]{1,64}", re.ASCII)
 NOBODY = "nobody"
 # How many callers administer a department, and how many principals it names, at most.
 MOST = 16
+# What an option of both commands means.
+OF_DEPARTMENT = "the department, for a caller one of hosts too [default: people, or the only one; to remove, all]"
 CLOSED = """department {name}
 kind {kind}
 admins
@@ -90,6 +92,12 @@ class Policy:
             raise BadWords(f"name the department by --department: {', '.join(users) or 'there is none for users'}")
         return users[0]
 
+    def administered(self, named):
+        """The department whose administrators are meant: the one that is named, of hosts too, or one for users."""
+        if named and named not in self.blocks:
+            raise Fault(f"there is no department {named}, but {', '.join(self.blocks) or 'none'}")
+        return named or self.chosen(None)
+
 
 def rules_for(policy, department, user):
     """The rules of a department that permit a user without naming the user. One with {name} permits everybody, by a
@@ -150,14 +158,14 @@ def remove_user(text, user, department=None):
 def add_caller(text, caller, department=None):
     check_caller(caller)
     policy = Policy(text)
-    add_to(policy, policy.chosen(department), "admins", caller)
+    add_to(policy, policy.administered(department), "admins", caller)
     return policy.text, []
 
 
 def remove_caller(text, caller, department=None):
     check_caller(caller)
     policy = Policy(text)
-    for name in [policy.chosen(department)] if department else policy.blocks:
+    for name in [policy.administered(department)] if department else policy.blocks:
         found = policy.listed(name, "admins")
         if caller in found:
             policy.put(name, "admins", [it for it in found if it != caller])
@@ -218,5 +226,4 @@ def job_options(parser):
     """What both commands take that change departments: the job, and whom it is about."""
     parser.add_argument("job", choices=JOBS, metavar="JOB", help=f"one of {', '.join(JOBS)}")
     parser.add_argument("name", metavar="NAME", help="the user (a principal), the caller, or the server's host name")
-    parser.add_argument("--department", metavar="NAME",
-                        help="the department for users [default: people, or the only one; to remove, all of them]")
+    parser.add_argument("--department", metavar="NAME", help=OF_DEPARTMENT)

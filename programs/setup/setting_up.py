@@ -5,6 +5,7 @@ public keys before the first part are CAs', so `cat ca.pub server.bundle` is a b
 """
 import argparse
 import grp
+import json
 import os
 import pathlib
 import pwd
@@ -145,6 +146,22 @@ def cas_of(parts, named, known=()):
         raise Fault(f"before the bundle there is the key of a CA that isn't known: {', '.join(others)}. If it is "
                     "one of yours, name each CA by --ca SHA256:..")
     return found
+
+
+def public_keys_in(path):
+    """The text of a file with public keys by which hosts enrol, and with no private one; `-` is standard input."""
+    try:
+        text = sys.stdin.read() if path == "-" else pathlib.Path(path).read_text()
+    except (OSError, UnicodeDecodeError) as fault:
+        raise Fault(f"can't read {path}: {fault}") from None
+    try:
+        keys = json.loads(text)["keys"]
+        is_public = bool(keys) and all(it["kty"] and it["kid"] and "d" not in it for it in keys)
+    except (ValueError, KeyError, TypeError):
+        is_public = False
+    if not is_public:
+        raise Fault(f"{path} has no public keys such as `vethlumi enrol --new-key` prints")
+    return text
 
 
 # ---- which CAs a machine trusts

@@ -12,7 +12,8 @@ import pytest
 
 import boxes
 import pages
-from running import PROGRAMS, TOP, left_out, run
+from releasing import COLLECTION
+from running import TOP, left_out, run
 # With its fixtures, of which `base` sees that this machine boots a box at all.
 from test_packages import ADMIN, NAMES, OFTEN, base, marked, of, on_boxes, packages
 from test_repository import REPOSITORY, keys
@@ -52,8 +53,9 @@ def equipped(base, packages, keys, tmp_path_factory):
 class Site(boxes.Rack):
     """The machines of the page, and the one on which it is typed."""
 
-    def __init__(self, room, base, number):
+    def __init__(self, room, base, packages, number):
         super().__init__(room, base)
+        self.packages = packages
         self.hosts_ = [f"server{it + 1}" for it in range(number - len(FIXED))]
         self.machines = [*FIXED, *self.hosts_]
         self.add(ADMIN, *self.machines)
@@ -65,8 +67,8 @@ class Site(boxes.Rack):
         if box.name != ADMIN:
             return
         clone = box.files / "root/vethlumi"
-        shutil.copytree(PROGRAMS / "fleet", clone / "programs/fleet")
         (clone / "out/apt").mkdir(parents=True)
+        shutil.copy(self.packages / COLLECTION, clone / "out")
         shutil.copy(box.files / "srv/apt/vethlumi.asc", clone / "out/apt")
         box.write("root/.ssh/id_ed25519", self.key, 0o600)
         key = (box.files / "etc/ssh/ssh_host_ed25519_key.pub").read_text()
@@ -118,8 +120,8 @@ def differences(before, after):
 
 
 @pytest.fixture
-def site(equipped, tmp_path, pytestconfig):
-    made = Site(tmp_path, equipped, pytestconfig.getoption("--fleet"))
+def site(equipped, packages, tmp_path, pytestconfig):
+    made = Site(tmp_path, equipped, packages, pytestconfig.getoption("--fleet"))
     with contextlib.closing(made):
         yield made
 

@@ -2823,26 +2823,10 @@ def look_at_the_witness(solo, key):
     assert kept.startswith(f"{key['kid']} ") and kept.endswith(ISSUER)
 
 
-OF_ENROLMENT = OF_SIGN_ON + """
-[workloads.enrol]
-issuer = "https://solo.example.org:8443/enrol"
-keys = "/etc/vethlumi/registrar/enrol.jwks"
-algorithms = ["EdDSA"]
-unbound = true
-audience = "https://solo.example.org:8443"
-oldest = "1h"
-name = "sub"
-
-[department.hosts]
-workloads = "enrol"
-life = "29d"
-principals = ["{name}.example.org"]
-renew = true
-"""
 ENROL = """set -e
 enrol() { vethlumi --office https://solo.example.org:8443 enrol "$@"; }
 enrol --new-key >enrol.jwks
-vethlumi-registrar-setup --yes --enrol-keys enrol.jwks enrolment.toml
+vethlumi-registrar-setup --yes --enrol-keys enrol.jwks --enrol-department hosts
 enrol solo >token
 cat /etc/vethlumi/station/first.pub /var/lib/vethlumi-authority/server.bundle >server.bundle
 vethlumi-server-setup --yes --host solo.example.org --department hosts --enrol token server.bundle
@@ -2851,8 +2835,7 @@ vethlumi-server-setup --yes --host solo.example.org --department hosts --enrol t
 
 def look_at_enrolment(solo):
     """From packages: a host has its certificate by a token, which counts once, and renews it by its own key, which only
-    root may read."""
-    solo.write("root/enrolment.toml", OF_ENROLMENT)
+    root may read. The settings of people's logins stay."""
     told = solo.run(ENROL, timeout=400).stdout
     assert "write /etc/vethlumi/registrar/enrol.jwks" in told and "write /etc/vethlumi/enrol.token" in told
 

@@ -59,7 +59,8 @@ def comma_list(context, option, text):
 @click.option("--principals", metavar="LIST", callback=comma_list, help="separated by commas [default: NAME of KEYID]")
 @click.option("--life", metavar="TIME", default="8h", show_default=True, help="how long the certificate is valid")
 @click.option("--extensions", metavar="LIST", callback=comma_list,
-              help="separated by commas [default: all that the policy's department lists]")
+              help="separated by commas [default: all that the department has in the `policy` of the settings; "
+                   "without that, none]")
 @click.option("--option", "options", metavar="TEXT", multiple=True,
               help="a critical option, for example 'force-command /bin/true'")
 @click.option("--out", metavar="FILE", help="the file for the certificate [default: KEY-cert.pub]")
