@@ -10,11 +10,13 @@ import time
 
 import pytest
 
-from asking import department
+from asking import KEY, department
 from fetching import Web, response, script, small_disk
 from recording import whole_request
 from running import EXAMPLES, new_key, run, until
 from stations import new_station
+from subject_keys import CERTIFICATES, ED25519, KEYS, LINES, MISCOUNTED, MORE, P256, RSA, line_of
+from test_vethlumi import Client
 
 CALLS = "calls"
 
@@ -177,7 +179,7 @@ class Office(Web):
 def certificate(room, serial=1, key="alice"):
     """The line of a certificate for a key, as an office gives it, by ssh-keygen."""
     for name in {"ca", "alice", key}:
-        if not (room / name).exists():
+        if not (room / f"{name}.pub").exists():
             new_key(name)
     run(["ssh-keygen", "-q", "-s", "ca", "-I", "web/alice", "-n", "alice", "-z", serial, f"{key}.pub"], check=True)
     words = (room / f"{key}-cert.pub").read_text().split()
@@ -254,6 +256,47 @@ def test_another_certificate_is_not_taken(room, line, why):
         status, out, errors = request(office)
     assert (1, "") == (status, out) and why in errors[0] and errors[0].isprintable()
     assert (room / "alice.request").exists() and not (room / "alice-cert.pub").exists()
+
+
+@pytest.mark.parametrize("kind", CERTIFICATES)
+def test_a_key_of_each_type_gets_its_certificate(room, kind):
+    """And neither that of another key of its type nor that of another type."""
+    (room / "bob.pub").write_text(f"{LINES[kind]} bob\n")
+    other = line_of(*next(it for it in MORE if it[0] == kind)) if kind in {it[0] for it in MORE} else KEY
+    (room / "carol.pub").write_text(f"{other} carol\n")
+    line = certificate(room, 1, "bob")
+    with Office(line, ISSUED) as office:
+        assert (0, "bob-cert.pub serial 1\n", []) == request(office, "bob")
+        assert f"\nkey {LINES[kind]} bob\nprincipals ".encode() in office.requests[0]
+    assert CERTIFICATES[kind].encode() == line.split()[0] and line == (room / "bob-cert.pub").read_bytes()
+    with Office(line, ISSUED) as office:
+        assert (1, "", ["request: serial 1 is not for carol.pub"]) == request(office, "carol")
+
+
+# A public key's line of one type each that no office takes, and what both programs say of it.
+NO_TYPE, NO_KEY = "no public key of a type that an office takes: ", "has no key of the type "
+NO_SUBJECTS = [
+    ("ssh-dss", line_of("ssh-dss", [b"\1", b"\2", b"\3", b"\4"]), NO_TYPE),
+    ("a certificate", f"{CERTIFICATES[ED25519]} {LINES[ED25519].split()[1]}", NO_TYPE),
+    ("another name", line_of("rsa-sha2-512", KEYS[RSA]), NO_TYPE),
+    ("capitals", line_of(ED25519.upper(), KEYS[ED25519]), NO_TYPE), ("no line", "@", NO_TYPE), ("nothing", "", NO_TYPE),
+    ("options before it", f"restrict {LINES[ED25519]}", NO_TYPE),
+    ("a blob of another type", f"{RSA} {LINES[ED25519].split()[1]}", NO_KEY),
+    ("damaged base64", f"{LINES[P256][:-9]}!{LINES[P256][-8:]}", NO_KEY), ("half of it", LINES[RSA][:80], NO_KEY),
+    *((f"{len(strings)} strings of {kind}", line_of(kind, strings), NO_KEY) for kind, strings in MISCOUNTED),
+]
+
+
+@pytest.mark.parametrize("line, why", [it[1:] for it in NO_SUBJECTS], ids=[it[0] for it in NO_SUBJECTS])
+def test_what_is_no_key_of_these_types_is_not_sent(room, line, why):
+    (room / "bob.pub").write_text(f"{line}\n")
+    with Web(response(b"no", "404 Not Found")) as web:
+        status, out, errors = request(web, "bob")
+        assert (1, "", 1) == (status, out, len(errors)) and why in errors[0], errors
+        status, out, told = Client(room / "home", web.url, caller="ana")("request", "web/bob", "bob.pub")
+        assert (2, "", True) == (status, out, f"vethlumi: the file has {NO_TYPE}" in told), told
+        assert [] == web.requests
+    assert not (room / "bob.request").exists()
 
 
 @pytest.mark.alone

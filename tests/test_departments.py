@@ -18,6 +18,7 @@ from asking import CA, OTHER_CA, department, key_blob
 from plain_office import PlainOffice
 from recording import whole_request
 from running import TOP, loaded
+from subject_keys import CERTIFICATES, LINES
 from test_vethlumi import Client
 
 A = department("people", principals="alice", admins="admin")
@@ -409,6 +410,12 @@ def test_a_ca_that_the_office_does_not_have_is_told(set_up):
 
 # ---- which line of a policy isn't valid
 
+@pytest.fixture
+def policies(monkeypatch):
+    monkeypatch.syspath_prepend(str(TOP / "programs/setup"))
+    return loaded(TOP / "programs/setup/policies.py")
+
+
 def line_that_the_guard_refuses(text):
     """The number of the line that a guard of Python doesn't take, or 0."""
     try:
@@ -453,19 +460,50 @@ LIMITS = [
 
 
 @pytest.mark.parametrize("word, value, is_valid", LIMITS, ids=[f"{it[0]} {it[1][:30]}" for it in LIMITS])
-def test_the_limits_of_each_line(word, value, is_valid):
-    policies = loaded(TOP / "programs/setup/policies.py")
+def test_the_limits_of_each_line(policies, word, value, is_valid):
     number, line = [(number, it) for number, it in enumerate(A.splitlines(), 1) if it.startswith(word)][0]
     text = A.replace("extensions permit-pty", "extensions").replace(line, f"{word} {value}".rstrip(" "))
     assert (0 if is_valid else number) == line_of(policies, text)
 
 
-def test_random_policies_have_the_bad_lines_that_the_guard_of_python_finds():
+# What must be, and key types, likewise: what stands behind the word, and whether it is valid.
+FURTHER = [
+    ("must", "force-command", True), ("must", "force-command ", False), ("must", "force-command  ", True),
+    ("must", "force-command " + 200 * "x", True), ("must", "force-command " + 201 * "x", False),
+    ("must", "force-command a\tb", False), ("must", "force-command \x7f", False), ("must", "source-address", True),
+    ("must", "source-address 10.0.0.0/8", True), ("must", "source-address 10.0.0.1/8", False),
+    ("must", "source-address 10.0.0.0/8,", False), ("must", "source-address ,10.0.0.0/8", False),
+    ("must", "source-address 10.0.0.0/8 ", False), ("must", "source-address 10.0.0.0/33", False),
+    ("must", "source-address 10.0.0.0/08", False), ("must", "source-address 10.0.0.0", False),
+    ("must", "source-address 10.0.0.0/255.0.0.0", False), ("must", "source-address 010.0.0.0/8", False),
+    ("must", "source-address ::ffff:10.0.0.0/104", False), ("must", "source-address 10.0.0.0/8,10.0.0.0/8", True),
+    ("must", "source-address " + ",".join(f"10.{it}.0.0/16" for it in range(8)), True),
+    ("must", "source-address " + ",".join(f"10.{it}.0.0/16" for it in range(9)), False),
+    ("must", "verify-required", True), ("must", "verify-required ", False), ("must", "verify-required x", False),
+    ("must", "permit-pty", False), ("must", "", False),
+    ("key-types", ",".join(LINES), True), ("key-types", "ssh-rsa,ssh-rsa", False), ("key-types", "ssh-dss", False),
+    ("key-types", "", False), ("key-types", "ssh-rsa,", False), ("key-types", "sk-ssh-ed25519", False),
+    ("key-types", "ssh-ed25519@openssh.com", False), ("key-types", CERTIFICATES["ssh-rsa"], False),
+]
+
+
+@pytest.mark.parametrize("word, value, is_valid", FURTHER, ids=[f"{it[0]} {it[1][:40]}" for it in FURTHER])
+def test_the_limits_of_what_must_be(policies, word, value, is_valid):
+    [number] = [number for number, it in enumerate(A.splitlines(), 1)
+                if it.startswith("options" if word == "must" else "extensions")]
+    lines = A.splitlines(True)
+    text = "".join([*lines[:number], f"{word} {value}\n", *lines[number:]])
+    assert [0 if is_valid else number + 1] * 2 == [line_of(policies, text), line_that_the_guard_refuses(text)]
+
+
+def test_random_policies_have_the_bad_lines_that_the_guard_of_python_finds(policies):
     """But for texts of other messages, of which the line is told that should be the department's, and the second text
     of a name, which may come with the policy of another key."""
-    policies, lines, some = loaded(TOP / "programs/setup/policies.py"), (A + HOSTS).splitlines(True), random.Random(8)
+    lines, some = (A + HOSTS).splitlines(True), random.Random(8)
     odd = ["\n", "# a comment\n", "kind user\n", "maxlife 0\n", "options \n", "namespaces file", "admins a,b\n", " \n",
-           "principals alice,{name}\n", "admins host-{name}\n", "namespaces git\n"]
+           "principals alice,{name}\n", "admins host-{name}\n", "namespaces git\n", "must verify-required\n",
+           "must source-address 10.0.0.0/8\n", "must source-address 10.0.0.1/8\n", "must force-command\n",
+           "key-types ssh-rsa\n", "key-types ssh-ed25519,ssh-dss\n", "options force-command\n", "extensions\n"]
     bad = 0
     for _ in range(3000):
         text = [*lines]
@@ -478,8 +516,7 @@ def test_random_policies_have_the_bad_lines_that_the_guard_of_python_finds():
     assert 500 < bad < 2900
 
 
-def test_what_the_guard_does_not_take_is_explained():
-    policies = loaded(TOP / "programs/setup/policies.py")
+def test_what_the_guard_does_not_take_is_explained(policies):
     assert 9 == line_that_the_guard_refuses(A + B)
     assert "line 9, 'department people': another department has this name already" == policies.explain(A + B, 9)
     text = f"issue people\n{A}"

@@ -1,4 +1,5 @@
 """vethlumi-host, which renews a host's certificate: what it asks for and when, and what keeps the old certificate."""
+import itertools
 import os
 import re
 import shutil
@@ -10,6 +11,7 @@ import pytest
 
 from asking import department
 from running import CLIENT, PROGRAMS, left_out, loaded, run, until
+from subject_keys import CERTIFICATES, LINES, P256, SK_ED25519
 
 HOST = PROGRAMS / "server/vethlumi-host"
 SETTINGS = "KEYID=db/db.example.org\nPRINCIPALS=db.example.org\nLIFE={life}\nKEY={key}\n"
@@ -54,14 +56,14 @@ class Host:
 
 # ---- with an office and its station
 
+OF_HOST = {"name": "db", "kind": "host", "admins": "db", "principals": "db.example.org", "maxlife": 2592000}
 AS_A_CLIENT = f'#!/bin/sh\nPYTHONPATH={CLIENT} exec /usr/bin/python3 -B -m vethlumi "$@"\n'
 
 
 @pytest.fixture
 def host(served, station, front, room):
     """A host whose department is its own, at an office of which it is a caller."""
-    text = department("db", kind="host", admins="db", principals="db.example.org", options="", extensions="",
-                      namespaces="", maxlife=2592000)
+    text = department(**OF_HOST)
     assert 200 == served.post("root", "db", text).status
     station.guard.permit(text)
     made = Host(room, AS_A_CLIENT)
@@ -100,6 +102,23 @@ def test_what_may_not_be_renewed_is_asked_for_anew(host, station, served):
     assert 200 == served.post("root", "revoke", "revoke-serial 1\n").status
     told = renewed(host, station, 2, "--now")
     assert "no renewal: vethlumi: refused 19 Revoked" in told
+
+
+@pytest.mark.timeout(900)
+def test_a_host_has_a_key_of_any_type_that_its_department_lists(host, station, served, room):
+    text = department(**OF_HOST, key_types=LINES)
+    assert 200 == served.post("root", "typed", text).status
+    station.guard.permit(text)
+    serials = itertools.count(1)
+    for kind, line in LINES.items():
+        (room / "host.pub").write_text(f"{line} db\n")
+        assert "" == renewed(host, station, next(serials), "--now")
+        assert CERTIFICATES[kind] == host.present.read_text().split()[0]
+        assert "" == renewed(host, station, next(serials), "--now"), "a renewal"
+    assert 200 == served.post("root", "plain", department(**OF_HOST, key_types=[P256, SK_ED25519])).status
+    before = host.present.read_bytes()
+    status, told = host("--now")
+    assert (1, before) == (status, host.present.read_bytes()) and "refused 14 NotPermitted" in told, told
 
 
 def test_a_host_gets_no_other_name(host, station, served):
@@ -339,6 +358,16 @@ def copying(given, room, monkeypatch):
     return made
 
 
+@pytest.mark.parametrize("kind", CERTIFICATES)
+def test_a_certificate_for_a_key_of_each_type_is_copied(copying, given, room, kind):
+    (room / "host.pub").write_text(f"{LINES[kind]} db\n")
+    line = certify(room, "host.pub").read_bytes()
+    status, told = given()
+    assert (0, line) == (status, given.present.read_bytes()), told
+    assert ("", ["-t", "-T", "reload"]) == copying()
+    assert (line, CERTIFICATES[kind].encode()) == (copying.shown.read_bytes(), line.split()[0])
+
+
 def test_a_new_certificate_is_copied_once_and_read(copying, given, room):
     assert ("", []) == copying()
     shutil.copy(certify(room, "host.pub"), given.present)
@@ -380,6 +409,10 @@ PUT = [
     ("no line", lambda path, text: path.write_bytes(text[:-1]), "it is no certificate"),
     ("a public key", lambda path, text: path.write_bytes(text.replace(b"-cert-v01@openssh.com", b"")), "it is no cert"),
     ("another file", lambda path, text: path.write_bytes(b"\1\2\n"), "it is no certificate"),
+    ("a type of key that no office takes", lambda path, text: path.write_bytes(text.replace(b"ed25519", b"dss", 1)),
+     "no office gives a certificate of the type ssh-dss-cert-v01@openssh.com"),
+    ("the name of another type", lambda path, text: path.write_bytes(text.replace(b"ed25519", b"rsa", 1)),
+     "ssh-keygen can't read"),
     ("a damaged one", lambda path, text: path.write_bytes(text[:120] + b" a\n"), "ssh-keygen can't read"),
 ]
 

@@ -14,7 +14,7 @@ from running import CLIENT, run
 from test_vethlumi import Client
 
 sys.path[:0] = CLIENT.split(":")
-from vethlumi import formats  # noqa: E402
+from vethlumi_common import subjects  # noqa: E402
 
 P = 2 ** 255 - 19
 D = -121665 * pow(121666, -1, P) % P
@@ -74,9 +74,13 @@ def string(data):
     return len(data).to_bytes(4) + data
 
 
-def line(point):
-    """A public-key line."""
-    return f"ssh-ed25519 {base64.b64encode(string(b'ssh-ed25519') + string(point)).decode()} x\n"
+PLAIN, TOUCHED = "ssh-ed25519", "sk-ssh-ed25519@openssh.com"
+
+
+def line(point, kind=PLAIN):
+    """A public-key line, of a plain key or of one in a security key."""
+    blob = string(kind.encode()) + string(point) + string(b"ssh:") * (kind == TOUCHED)
+    return f"{kind} {base64.b64encode(blob).decode()} x\n"
 
 
 def test_the_points_are_those_whose_order_divides_8():
@@ -87,8 +91,8 @@ def test_the_points_are_those_whose_order_divides_8():
 
 
 def test_the_client_knows_these_encodings_and_no_others():
-    assert [True] * 14 == [formats.is_of_small_order(it) for it in SMALL]
-    assert [] == [it.hex() for it in OTHERS if it in SMALL or formats.is_of_small_order(it)]
+    assert [True] * 14 == [subjects.is_of_small_order(it) for it in SMALL]
+    assert [] == [it.hex() for it in OTHERS if it in SMALL or subjects.is_of_small_order(it)]
     # Those that are points have other orders.
     assert all(times(8, point) != NEUTRAL for it in OTHERS
                for point in points_of(int.from_bytes(it, "little") & (1 << 255) - 1))
@@ -111,9 +115,10 @@ def test_openssh_takes_a_signature_that_nobody_made_with_a_private_key(room, tex
     assert (0, True) == (done.returncode, done.stdout.startswith(b'Good "file" signature')), done.stderr
 
 
+@pytest.mark.parametrize("kind", [PLAIN, TOUCHED])
 @pytest.mark.parametrize("point", sorted(SMALL), ids=bytes.hex)
-def test_a_key_of_small_order_is_not_sent(room, point):
-    (room / "small.pub").write_text(line(point))
+def test_a_key_of_small_order_is_not_sent(room, point, kind):
+    (room / "small.pub").write_text(line(point, kind))
     with Web(response(b"no", "404 Not Found")) as web:
         status, out, errors = script("request", "--caller", "ana", "--wait", "1", web.url, "web", "web/a", "small.pub",
                                      "alice", "1h")
@@ -126,21 +131,24 @@ def test_the_client_sends_none(room):
         client = Client(room / "home", web.url, caller="ana")
         for number, point in enumerate(sorted(SMALL)[::5]):
             (room / f"{number}.pub").write_text(line(point))
-            for words in (["request", "web/a", f"{number}.pub"], ["rollover", f"{number}.pub", "--yes"]):
+            (room / f"sk{number}.pub").write_text(line(point, TOUCHED))
+            for words in (["request", "web/a", f"{number}.pub"], ["rollover", f"{number}.pub", "--yes"],
+                          ["request", "web/a", f"sk{number}.pub"]):
                 status, out, told = client("--wait", "1", *words)
                 assert (2, "", f"vethlumi: the public key is of small order: {WHY}\n") == (status, out, told)
         assert [] == web.requests and [] == client.kept()
 
 
+@pytest.mark.parametrize("kind", [PLAIN, TOUCHED])
 @pytest.mark.parametrize("point", OTHERS[:4], ids=bytes.hex)
-def test_other_keys_are_sent(room, point):
-    (room / "other.pub").write_text(line(point))
+def test_other_keys_are_sent(room, point, kind):
+    (room / "other.pub").write_text(line(point, kind))
     with Web(response(b"no", "404 Not Found")) as web:
         status, _, errors = script("request", "--caller", "ana", "--wait", "1", web.url, "web", "web/a", "other.pub",
                                    "alice", "1h")
         assert (1, ["request: no (status 404)"]) == (status, errors)
         assert 1 == Client(room / "home", web.url, caller="ana")("request", "web/a", "other.pub")[0]
-        assert [True, True] == [line(point).strip().encode() in it for it in web.requests]
+        assert [True, True] == [line(point, kind).strip().encode() in it for it in web.requests]
 
 
 def test_a_certificate_for_such_a_key_is_not_renewed(room):

@@ -2,6 +2,7 @@
 department differ. docs/FORMATS.md has the form of each line.
 """
 import collections
+import ipaddress
 import itertools
 import re
 
@@ -31,6 +32,23 @@ def is_lifetime(value):
     return bool(re.fullmatch("[1-9][0-9]{0,11}", value, re.ASCII)) and int(value) <= LATEST
 
 
+def is_network(text):
+    """Whether a text is a network of IPv4, in its one form."""
+    try:
+        return str(ipaddress.IPv4Network(text)) == text
+    except ValueError:
+        return False
+
+
+def is_demand(value):
+    """Whether this is what certificates may have to have: an option's name, and perhaps a value that it can have."""
+    name, space, wanted = value.partition(" ")
+    networks = wanted.split(",")
+    return bool(re.fullmatch(OPTIONS, name)) and (not space or bool(
+        name == "force-command" and re.fullmatch("[ -~]{1,200}", wanted)
+        or name == "source-address" and len(networks) <= 8 and all(map(is_network, networks))))
+
+
 # The lines of a department: the word of each, whether a value fits, and what would fit.
 LINES = {
     "department": (listed(NAME, 1, 1), "a name: 1 to 32 of a-z, 0-9 and -"),
@@ -48,9 +66,9 @@ LINES = {
 # What may stand behind a line: what certificates must have, in the order of their names, and the types of their keys.
 BEHIND = {"options": "must", "extensions": "key-types"}
 FURTHER = {
-    "must": (lambda value: bool(re.fullmatch(rf"({OPTIONS})( [ -~]{{1,200}})?", value, re.ASCII))
-             and not value.startswith("verify-required "),
-             "the name of a critical option and, unless it is verify-required, perhaps a space and its value"),
+    "must": (is_demand, "the name of a critical option, and perhaps a space and its value: a command for "
+                        "force-command, 1 to 8 networks such as 10.0.0.0/8 for source-address, none for "
+                        "verify-required"),
     "key-types": (lambda value: listed(KEY_TYPES, 1, 7)(value) and all(
         it.startswith("sk-") == it.endswith("@openssh.com") for it in value.split(",")),
         "1 to 7 types of keys, joined by commas without spaces"),

@@ -27,6 +27,7 @@ import pytest
 import boxes
 import pages
 import providers
+import subject_keys
 from asking import department
 from lists import published
 from releasing import packed
@@ -1317,31 +1318,29 @@ def test_an_account_is_created_once(room, monkeypatch):
     assert (True, False) == (server.is_account("root"), server.is_account("nobody-of-this-name"))
 
 
-def test_a_host_has_an_ed25519_key(room):
-    """Told at once, and not by each run of the timer."""
-    server = load("vethlumi-server-setup")
-    run(["ssh-keygen", "-q", "-t", "ecdsa", "-N", "", "-f", room / "other"], check=True)
+def test_a_host_has_a_key_of_a_type_that_the_office_takes(room):
+    """Told at once, and not by each run of the timer. By tokens it is the registrar that is asked, which takes Ed25519
+    keys alone."""
+    server, refused = load("vethlumi-server-setup"), "the file has no public key of a type that an office takes"
     given = argparse.Namespace(yes=True, key=str(room / "other.pub"), life="30d")
-    with pytest.raises(server.BadWords, match="other.pub is no Ed25519 key, and the office takes no other: 256 SHA256"):
+    for kind, line in subject_keys.LINES.items():
+        (room / "other.pub").write_text(f"{line} db\n")
+        server.check_key(given.key)
+        if kind != subject_keys.ED25519:
+            with pytest.raises(server.BadWords, match="other.pub: the file has no Ed25519 public key"):
+                server.token_steps(given, None, "https://a")
+    run(["ssh-keygen", "-q", "-t", "dsa", "-N", "", "-f", room / "dsa"], check=True)
+    (room / "dsa.pub").rename(given.key)
+    with pytest.raises(server.BadWords, match=f"other.pub: {refused}: ssh-ed25519, "):
         server.host_steps(given, None, {"caller": "db\n", "host": "db\n"}, "https://a")
 
 
-def test_a_host_s_key_is_one_that_the_client_takes(room, monkeypatch):
-    """It refuses keys for which everybody has signatures, and may learn of others."""
+@pytest.mark.parametrize("kind", [subject_keys.ED25519, subject_keys.SK_ED25519])
+def test_a_host_has_no_key_for_which_everybody_has_signatures(room, kind):
     server = load("vethlumi-server-setup")
-    run(["ssh-keygen", "-q", "-t", "ed25519", "-N", "", "-f", room / "host"], check=True)
-    monkeypatch.syspath_prepend(PROGRAMS / "client")
-    from vethlumi import formats
-    server.check_key(room / "host.pub")
-    said = []
-
-    def refuse(text):
-        said.append(text)
-        raise formats.BadFormat("of small order")
-    monkeypatch.setattr(formats, "key_line", refuse)
-    with pytest.raises(server.BadWords, match="host.pub: of small order"):
-        server.check_key(room / "host.pub")
-    assert [(room / "host.pub").read_text()] == said
+    (room / "weak.pub").write_text(subject_keys.line_of(kind, [bytes(32), *subject_keys.KEYS[kind][1:]]) + "\n")
+    with pytest.raises(server.BadWords, match="weak.pub: the public key is of small order"):
+        server.check_key(room / "weak.pub")
 
 
 TOKENS = {"host": "web.example.org", "department": "hosts", "token": None, "token_command": "give '$AUDIENCE'",

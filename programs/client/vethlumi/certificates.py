@@ -11,6 +11,8 @@ from vethlumi.formats import BadFormat, Certificate
 from vethlumi.office import NoAnswer, trying
 from vethlumi.printing import COLOURS, print_fields, print_json, print_text, say
 from vethlumi.settings import NOT_SIGNED
+from vethlumi_common.ssh import blob_of
+from vethlumi_common.subjects import refuse_weak, subject_line
 
 STATES = ("pending", "signed", "revoked")
 # In seconds: how long after a message it first asks for the certificate, by how much each pause is longer than the one
@@ -74,7 +76,7 @@ def request(job, key_id, public, principals, life, extensions, options, out):
         raise BadFormat(f"invalid key ID {key_id!r}: expected DEPARTMENT/NAME")
     if not out and (not public.endswith(".pub") or public.endswith("-cert.pub")):
         raise BadFormat(f"{public} has to end with .pub, or name the certificate's file by --out")
-    key, (department, _, name) = formats.subject_line(read_text(public)), key_id.partition("/")
+    key, (department, _, name) = subject_line(read_text(public)), key_id.partition("/")
     known = job.policy().get(department)
     if extensions is None:
         extensions = known.extensions if known else ()
@@ -83,7 +85,7 @@ def request(job, key_id, public, principals, life, extensions, options, out):
     message = formats.issue(department, key_id, key, principals or (name,), after, after + formats.seconds_of(life),
                             options, extensions)
     kept, reply = job.send(message)
-    collect(job, kept, int(reply[1]), formats.blob_of(key), out or f"{public[:-4]}-cert.pub")
+    collect(job, kept, int(reply[1]), blob_of(key), out or f"{public[:-4]}-cert.pub")
 
 
 def certificate_of(job, what):
@@ -103,7 +105,7 @@ def certificate_of(job, what):
 def renew(job, what, life, out):
     """Request a certificate again, with a new validity."""
     old, out = certificate_of(job, what), out if what.isdecimal() else out or what
-    formats.refuse_weak(old.blob)
+    refuse_weak(old.blob)
     after = int(time.time()) - 60
     length = formats.seconds_of(life) if life else old.before - old.after
     kept, reply = job.send(formats.renew(old.serial, after, after + length))

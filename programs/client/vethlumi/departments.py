@@ -12,6 +12,7 @@ from vethlumi.office import NoAnswer, trying
 from vethlumi.printing import plain, print_json, print_table
 from vethlumi.refusals import Refused
 from vethlumi.settings import BadSettings
+from vethlumi_common.subjects import ed25519_line
 
 # The most bytes of all departments together: over ten thousand of the usual length.
 LONGEST_DEPARTMENTS = 1 << 22
@@ -164,7 +165,7 @@ def department_put(job, file, names, policy, yes):
 @pass_job
 def rollover(job, public, yes):
     """Make a new key the CA. What the older CAs have signed stays valid."""
-    key = formats.key_line(read_text(public))
+    key = ed25519_line(read_text(public))
     print_ = formats.fingerprint(base64.b64decode(key.split()[1]))
     ask(f"Make {print_} the CA? Servers have to trust it before its first certificate is used.", yes)
     kept, reply = job.send(f"rollover {key}\n", lambda reply: reply[:1] == ["rollover"] and len(reply) == 4)

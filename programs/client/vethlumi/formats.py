@@ -5,7 +5,6 @@ import ipaddress
 import re
 from dataclasses import dataclass
 
-from vethlumi_common.ssh import ED25519_LINE as KEY_LINE
 from vethlumi_common.ssh import BadFormat, Reader, blob_of, fingerprint, string
 from vethlumi_common.subjects import CERTIFICATES, TYPES
 
@@ -17,13 +16,6 @@ KEY_ID = re.compile(r"[a-z0-9-]{1,32}/[!-~]{1,64}", re.ASCII)
 CERTIFICATE_TYPE = b"ssh-ed25519-cert-v01@openssh.com"
 CERTIFICATE_LINE = re.compile(r"([a-z0-9-]+-cert-v01@openssh\.com) [A-Za-z0-9+/]+={0,2} [!-~]+\n", re.ASCII)
 SIGNER = re.compile(rb'[a-z0-9._@*,-]+ cert-authority,namespaces="[a-z0-9._@,-]+" ssh-ed25519 [A-Za-z0-9+/]{68}\n')
-# RFC 8032, section 5.1: the prime of Ed25519.
-PRIME = 2 ** 255 - 19
-# The second coordinates of the eight points whose order divides 8: 0, 1 and -1, and these two of order 8.
-ORDER_8 = [int.from_bytes(bytes.fromhex(it), "little") for it in (
-    "26e8958fc2b227b045c3f489f2ef98f0d5dfac05d3c63339b13802886d53fc05",
-    "c7176a703d4dd84fba3c0b760d10670f2a2053fa2c39ccc64ec7fd7792ac037a")]
-SMALL = (0, 1, PRIME - 1, *ORDER_8)
 
 
 # ---- values
@@ -40,58 +32,6 @@ def date(moment):
     """A time as ISO 8601 has it, in UTC."""
     found = datetime.datetime.fromtimestamp(min(moment, LAST_MOMENT), datetime.timezone.utc)
     return found.strftime("%Y-%m-%dT%H:%M:%SZ").zfill(20)
-
-
-def is_of_small_order(point):
-    """Whether 32 bytes encode a point of Ed25519 of order 1, 2, 4 or 8, whatever the sign, and with the second
-    coordinate below the prime or not."""
-    return (int.from_bytes(point, "little") & (1 << 255) - 1) % PRIME in SMALL
-
-
-def point_of(line):
-    """The 32 bytes of the key in a public-key line."""
-    return base64.b64decode(line.split()[1])[-32:]
-
-
-def refuse_small_order(point):
-    """Refuses a key for which no private key is needed: there are signatures that fit any text."""
-    if is_of_small_order(point):
-        raise BadFormat("the public key is of small order: everybody has a valid signature for this key")
-
-
-def key_line(text):
-    """The first line of a public key's file, which has to be an Ed25519 key's."""
-    line = text.partition("\n")[0].rstrip("\r")
-    if not KEY_LINE.fullmatch(line):
-        raise BadFormat("the file has no Ed25519 public key: ssh-keygen -t ed25519 makes one")
-    refuse_small_order(point_of(line))
-    return line
-
-
-def subject_line(text):
-    """The first line of a public key's file, of any type that a department may permit."""
-    line = text.partition("\n")[0].rstrip("\r")
-    blob = blob_of(line)
-    kind, *strings = strings_in(blob) if blob else [b""]
-    if TYPES.get(kind.decode("latin-1")) != len(strings):
-        raise BadFormat(f"the file has no public key of a type that an office takes: {', '.join(TYPES)}")
-    refuse_weak(blob)
-    return line
-
-
-def strings_in(blob):
-    """The strings of a key blob."""
-    it, found = Reader(blob), []
-    while not it.is_at_end():
-        found.append(it.string())
-    return found
-
-
-def refuse_weak(blob):
-    """Refuses a key of Ed25519, in a security key or not, for which no private key is needed."""
-    kind, *strings = strings_in(blob)
-    if kind in (b"ssh-ed25519", b"sk-ssh-ed25519@openssh.com"):
-        refuse_small_order(strings[0])
 
 
 # ---- departments

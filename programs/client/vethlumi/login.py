@@ -19,6 +19,7 @@ from vethlumi.office import NoAnswer, Server, trying
 from vethlumi.printing import plain, say
 from vethlumi.services import accepted, ask, ask_json
 from vethlumi.settings import NO_ANSWER, NOT_SIGNED, REFUSED, BadSettings
+from vethlumi_common.subjects import point_of
 
 # Seconds between two looks at a lock, and between two at a certificate that isn't signed yet.
 LOCK_PAUSE, SIGNATURE_PAUSE = 0.1, 0.5
@@ -161,7 +162,7 @@ def get_certificate(job, department, cas, is_pasted):
     seed, line = keys.new_key()
     token = whoever.token(base64.b64decode(line.split()[1]), is_pasted)
     serial, text = registrar.certificate(department, token, line)
-    blob, found = looked_through(serial, text, formats.point_of(line), department, cas)
+    blob, found = looked_through(serial, text, point_of(line), department, cas)
     agent.add(seed, blob, f"{signon.MARK} {found.key_id}", max(int(found.before - time.time()), 1))
     # sshd lets six keys be tried, so an earlier certificate would be in the way.
     forget(blob, department)

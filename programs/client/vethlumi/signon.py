@@ -7,9 +7,9 @@ import os
 import time
 
 from vethlumi import agent
-from vethlumi.formats import KEY_LINE
 from vethlumi.settings import BadSettings, read_settings
 from vethlumi_common import files
+from vethlumi_common.ssh import ED25519_LINE
 
 # With what the comments of the keys begin that a login has given to the agent.
 MARK = "vethlumi login"
@@ -30,7 +30,7 @@ def believed_cas(settings):
     except (OSError, UnicodeDecodeError) as fault:
         raise BadSettings(f"no CA is known here: {file}: {fault}") from None
     lines = [it for it in lines if it and not it.startswith("#")]
-    if wrong := [it for it in lines if not KEY_LINE.fullmatch(it)] or [""] * (not lines):
+    if wrong := [it for it in lines if not ED25519_LINE.fullmatch(it)] or [""] * (not lines):
         raise BadSettings(f"{file} is no list of CAs' public keys: {wrong[0][:60]!r}")
     return [base64.b64decode(it.split()[1]) for it in lines]
 

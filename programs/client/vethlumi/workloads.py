@@ -14,6 +14,7 @@ from vethlumi.formats import BadFormat, Certificate
 from vethlumi.login import SLOW_CLOCK, Registrar
 from vethlumi.office import NoAnswer
 from vethlumi.signon import believed_cas
+from vethlumi_common.subjects import ed25519_line, point_of
 
 # The longest token that the registrar takes, and how many bytes around it are read; and how long a command may take for
 # one, in seconds.
@@ -86,7 +87,7 @@ def workload(job, public, department, token, token_command, is_audience, out):
     audience that is for this public key alone, and the registrar turns the token into a certificate. The same again
     with a fresh token renews it.
     """
-    line = formats.key_line(read_text(public))
+    line = ed25519_line(read_text(public))
     line = " ".join(line.split()[:2])
     if is_audience:
         click.echo(audience_of(line))
@@ -99,7 +100,7 @@ def workload(job, public, department, token, token_command, is_audience, out):
     cas = believed_cas(job.settings)
     found = token_of_file(token) if token else token_of_command(token_command, audience_of(line))
     serial, text = Registrar(job.settings, job.ends).certificate(department, found, line)
-    check(cas, text, serial, formats.point_of(line), department)
+    check(cas, text, serial, point_of(line), department)
     out = out or f"{public[:-4]}-cert.pub"
     put_file(out, text.rstrip("\n") + "\n")
     click.echo(f"{out} serial {serial}")

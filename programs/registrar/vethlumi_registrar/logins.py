@@ -13,6 +13,7 @@ from vethlumi import formats
 from vethlumi.formats import BadFormat
 from vethlumi.refusals import Refused
 from vethlumi_common.signon import evidence_name
+from vethlumi_common.subjects import ed25519_line
 from vethlumi_signon import tokens
 from vethlumi_signon.keys import Keys, NoProvider
 from vethlumi_signon.rights import BEFORE_TOKEN, NoRight, groups_of, key_id_of, name_of, principals_of, times_of
@@ -248,7 +249,7 @@ def answers_of_office():
 def key_of(text):
     """A public key's line without its comment, and its blob."""
     try:
-        words = formats.key_line(text).split(" ")
+        words = ed25519_line(text).split(" ")
         if "\n" in text:
             raise BadFormat("a public key is one line")
     except BadFormat as fault:

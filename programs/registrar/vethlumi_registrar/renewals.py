@@ -13,6 +13,7 @@ from vethlumi.formats import BadFormat, Certificate
 from vethlumi.refusals import Refused
 from vethlumi_common.renewal import LONGEST_AGE, NAMESPACE, Statement
 from vethlumi_common.ssh import TextSignature, fingerprint, signed_bytes, string
+from vethlumi_common.subjects import refuse_weak
 from vethlumi_signon.rights import BEFORE_TOKEN, NoRight, principals_of
 
 from vethlumi_registrar.logins import Refusal, answers_of_office, hashed
@@ -30,7 +31,7 @@ def certificate_of(line, now):
         raise BadFormat("it isn't for a host")
     if not found.key:
         raise BadFormat("it isn't for a plain Ed25519 key")
-    formats.refuse_weak(found.blob)
+    refuse_weak(found.blob)
     if not found.ca.startswith(CA):
         raise BadFormat("its CA has no Ed25519 key")
     keys.verify(found.ca[-32:], signature, body)
