@@ -42,6 +42,8 @@ def pytest_addoption(parser):
     group.addoption("--sites", type=int, default=1,
                     help="how many sets of machines have these faults side by side, each with 6 GB of memory (1)")
     group.addoption("--fleet", type=int, default=5, help="how many machines test_fleet sets up (5)")
+    group.addoption("--earlier-packages", metavar="FOLDER", type=pathlib.Path,
+                    help="the packages of an earlier version, from which test_upgrade upgrades machines")
     group.addoption("--judgements", type=int, default=100_000,
                     help="how many random bodies test_guard has judged (100000)")
     group.addoption("--lists", type=int, default=600, help="how many random lists test_list_guard has judged (600)")

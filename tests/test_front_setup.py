@@ -341,6 +341,17 @@ def test_what_a_set_up_revokes_reaches_nginx_in_the_same_run(room, copying):
     assert [serial_of(old)] == revoked_in(room / "front") == revoked_in(room / "authority")
 
 
+@pytest.mark.parametrize("spoil", [lambda it: it.chmod(0o600), lambda it: it.write_text("earlier\n"),
+                                   lambda it: it.unlink()], ids=["mode", "text", "gone"])
+def test_what_a_backup_has_brought_back_is_as_nginx_needs_it(room, copying, spoil):
+    """Files of a machine that is gone, on which the front's user had another number, or a group without a right."""
+    copying()
+    spoil(room / "front/server.key")
+    assert ["copy server.crt, server.key, ca.crt, crl.pem to " + str(room / "front")] == copying()
+    assert 0o640 == (room / "front/server.key").stat().st_mode & 0o777
+    assert [] == copying()
+
+
 def test_others_read_no_private_key_of_the_front(room, copying):
     """Of all that it copies for nginx only the user of the front may read anything."""
     copying()

@@ -20,6 +20,7 @@ from running import TOP, left_out
 # The first test may have to make the folder that every box starts from.
 pytestmark = [pytest.mark.boxes, pytest.mark.root, pytest.mark.slow, pytest.mark.timeout(1800)]
 IN_SERVICE = "In service"
+DRILLS = (TOP / "docs/DRILLS.md").read_text()
 MACHINES = ["admin", "office", "station", "server"]
 # The programs that are built on a machine.
 PROGRAMS = {"office": ["sshoffice"], "spare": ["sshoffice"], "station": ["sshstation"]}
@@ -143,7 +144,9 @@ def make_site(base, installed, built_programs, tmp_path):
 
     def switch_on(*names):
         made.add(*names)
-        made.shell("admin").run("\n".join(NAMES.findall(set_up())))
+        [names] = pages.blocks(DRILLS.partition("\n## ")[0])
+        assert NAMES.findall(set_up()) == names.commands.splitlines()
+        made.type(DRILLS.partition("\n## ")[0])
         wait_until_up(made.boxes["office"])
         return made
     with contextlib.closing(made):
@@ -474,7 +477,7 @@ def test_a_bad_copy_is_not_restored(site, office, spoil, why):
 def drill(site, heading):
     """Types a drill's commands, and returns what they print. The time is printed too."""
     begun = time.monotonic()
-    printed = site.type(pages.section((TOP / "docs/DRILLS.md").read_text(), heading))
+    printed = site.type(pages.section(DRILLS, heading))
     print(f"figure: the drill '{heading}' was done after {time.monotonic() - begun:.0f} s")
     return printed
 

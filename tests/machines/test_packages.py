@@ -75,19 +75,19 @@ def packages(program, sshstation, tmp_path_factory):
             shutil.rmtree(new, ignore_errors=True)
             for name, it in packed(new, program, sshstation).items():
                 if name.endswith(".deb"):
-                    make_older(it)
+                    with_version(it, OLDER, new)
             new.rename(folder)
     return folder
 
 
-def make_older(package):
-    """Makes a package of a lower version, which has the same files."""
-    folder = package.with_name("older")
+def with_version(package, version, to):
+    """Makes a package of another version, which has the same files."""
+    folder = to / "unpacked"
     run(["dpkg-deb", "-R", package, folder], check=True)
     control = folder / "DEBIAN/control"
-    text = control.read_text().replace("\nVersion: 1.0.0\n", f"\nVersion: {OLDER}\n")
-    control.write_text(text.replace("vethlumi-common (>= 1.0.0)", f"vethlumi-common (>= {OLDER})"))
-    run(["dpkg-deb", "-Znone", "-b", folder, package.parent / package.name.replace("1.0.0", OLDER)], check=True)
+    text = control.read_text().replace("\nVersion: 1.0.0\n", f"\nVersion: {version}\n")
+    control.write_text(text.replace("vethlumi-common (>= 1.0.0)", f"vethlumi-common (>= {version})"))
+    run(["dpkg-deb", "-Znone", "-b", folder, to / package.name.replace("1.0.0", version)], check=True)
     shutil.rmtree(folder)
 
 
@@ -1687,6 +1687,17 @@ def test_what_is_there_is_not_installed_again(installing):
     assert 0 == installing("office", "o", "--station", "s", "--packages", ".", "--yes", **there)[0]
     status, told, _ = installing("station", "o", "--packages", ".", **there)
     assert (1, True) == (status, "has no vethlumi-station_" in told)
+
+
+@pytest.mark.parametrize("words, due", [([], []), (["--allow-downgrades"], ["--allow-downgrades"])])
+def test_an_earlier_version_is_installed_if_somebody_says_so(installing, words, due):
+    """apt refuses it otherwise, and says by which option it wouldn't."""
+    there = {".* dpkg .*": f"amd64\ninstalled vethlumi-common 1.0.0\ninstalled vethlumi-station 1.0.1\n{LISTS}"}
+    status, told, said = installing("station", "s", *words, "--yes", **there)
+    assert 0 == status, told
+    assert [("root@s", "env", "DEBIAN_FRONTEND=noninteractive", "apt-get", "install", "-y", "-o",
+             "Dpkg::Options::=--force-confold", *due, "./vethlumi-station_1.0.0_amd64.deb")] == [
+                 it for it in said if "install" in it]
 
 
 def test_where_the_packages_are(installing, room):
