@@ -5,6 +5,7 @@
 file, and over a file that the other one has made. What has one the earlier programs can't read. They say so, and change
 nothing, and once the addition is gone they go on.
 """
+import collections
 import itertools
 import os
 import pathlib
@@ -15,8 +16,8 @@ from hypothesis import strategies as some
 from hypothesis.stateful import rule, run_state_machine_as_test
 
 import test_registers
-from asking import (CA, LAST_SERIAL, body, department, digest_of, exchange, get, issue, key_blob, key_line, post, renew,
-                    revoke_serial)
+from asking import (CA, LAST_SERIAL, answers, body, department, digest_of, exchange, get, issue, key_blob, key_line,
+                    post, renew, revoke_serial)
 from running import Office, applied, sql
 from stations import WIDE, Guard
 from subject_keys import CERTIFICATES, ED25519, KEYS, LINES, SK_ED25519
@@ -41,6 +42,10 @@ def asked_in(row):
     return [one for one in row.exchanges if one.request != NEWER]
 
 
+def due_to(row):
+    return [it for one, it in zip(row.exchanges, answers(row.expected)) if one.request != NEWER]
+
+
 def reports_of(office):
     """What an office says of all it has."""
     serials = range(1, 1 + int(sql(office.db, "SELECT count(*) FROM cert")))
@@ -53,11 +58,8 @@ def reports_of(office):
 def test_both_answer_the_rows_in_memory(program, earlier, room):
     for name in NAMES:
         row = Row(name)
-        if not row.opening:
-            last = row.last_answers()
-            given = [applied(it, asked_in(row)) for it in (earlier, program)]
-            assert (name, given[0]) == (name, given[1])
-            assert {one.request for one in asked_in(row)} <= {*last}
+        for it in (earlier, program) if not row.opening else ():
+            assert (name, due_to(row)) == (name, applied(it, asked_in(row))), it
 
 
 def opened(program, row, db):
@@ -78,7 +80,7 @@ def test_one_goes_on_over_the_file_of_the_other(turns, room):
         row = Row(name)
         office, given = opened(maker, row, f"{name}.db")
         twin, alike = opened(other, row, f"{name}-twin.db")
-        assert (name, given) == (name, alike)
+        assert (name, due_to(row), due_to(row)) == (name, given, alike)
         tables, reports = sql(office.db, ".dump"), reports_of(office)
         assert (name, sql(twin.db, ".dump")) == (name, tables)
         office.program = other
@@ -126,7 +128,7 @@ class Alike(Registers):
 @pytest.mark.timeout(3600)
 def test_both_answer_random_histories(request, program, earlier, room):
     class Machine(Alike):
-        programs, kinds, additions = (earlier, program), Registers.kinds.copy(), Registers.additions.copy()
+        programs, kinds, additions = (earlier, program), collections.Counter(), collections.Counter()
 
     run_state_machine_as_test(Machine, settings=settings(
         max_examples=max(1, request.config.getoption("--steps") // 60), stateful_step_count=50, deadline=None,
@@ -220,7 +222,7 @@ def test_a_key_of_another_type_is_refused_by_another_number(program, earlier, ro
 # ---- guards
 
 def bodies(room):
-    """Files with bodies: permitted ones, one of another CA, one that ended, and one of another key type."""
+    """Files with bodies: permitted ones, and others that are refused, each for another reason."""
     made = {f"p{it}": body(it, ca=key_blob(0x11), key_id=f"web/{it}") for it in range(1, 6)} | {
         "again": body(1, ca=key_blob(0x11), key_id="web/other"), "other": body(7, ca=key_blob(0x12)),
         "ended": body(8, ca=key_blob(0x11), after=1, before=2), "root": body(9, ca=key_blob(0x11), principals=["root"]),
