@@ -13,12 +13,12 @@ import pytest
 from browsing import Relay, new_browser
 from differences import difference
 from fronts import Front, new_authority
-from running import TOP, Office, Programs
+from running import TOP, Office, Programs, left_out
 from stations import new_station
 
 
 # The fixtures of programs that are built, the last one by the test itself.
-BUILT = {"program", "sshstation", "krl_tool", "trial", "heads_tool", "bad_lines"}
+BUILT = {"program", "sshstation", "krl_tool", "trial", "heads_tool", "bad_lines", "earlier", "earlier_station"}
 
 # A shell that starts the tests in the background has them ignore interrupts, and so would each program that they start.
 if signal.getsignal(signal.SIGINT) == signal.SIG_IGN:
@@ -32,6 +32,9 @@ def pytest_addoption(parser):
                          ("--trial", "trial"), ("--heads-tool", "heads_tool")):
         group.addoption(option, metavar="PATH", type=pathlib.Path, default=TOP / f"crates/{name}/out/{name}",
                         help=f"the {name} to test")
+    for option, name in (("--earlier", "sshoffice"), ("--earlier-station", "sshstation")):
+        group.addoption(option, metavar="PATH", type=pathlib.Path,
+                        help=f"the {name} of an earlier version, for test_earlier (without it: left out)")
     group.addoption("--steps", type=int, default=5000, help="how many random exchanges test_registers asks (5000)")
     group.addoption("--rounds", type=int, default=0,
                     help="how many faults test_three_machines has happen (0: left out)")
@@ -176,6 +179,22 @@ def heads_tool(request):
 @pytest.fixture(scope="session")
 def sshstation(request):
     return built(request.config.getoption("--sshstation"))
+
+
+def of_before(request, option):
+    """A program of an earlier version."""
+    path = request.config.getoption(option)
+    return built(path) if path else left_out(f"{option} names no program of an earlier version")
+
+
+@pytest.fixture(scope="session")
+def earlier(request):
+    return of_before(request, "--earlier")
+
+
+@pytest.fixture(scope="session")
+def earlier_station(request):
+    return of_before(request, "--earlier-station")
 
 
 @pytest.fixture

@@ -1,4 +1,5 @@
 """request and list-of-table: what they ask is bounded, names no secret, and what fails is said."""
+import base64
 import concurrent.futures
 import contextlib
 import os
@@ -282,6 +283,7 @@ NO_SUBJECTS = [
     ("capitals", line_of(ED25519.upper(), KEYS[ED25519]), NO_TYPE), ("no line", "@", NO_TYPE), ("nothing", "", NO_TYPE),
     ("options before it", f"restrict {LINES[ED25519]}", NO_TYPE),
     ("a blob of another type", f"{RSA} {LINES[ED25519].split()[1]}", NO_KEY),
+    ("a long one", f"{RSA} {base64.b64encode(bytes(12000)).decode()}", NO_KEY),
     ("damaged base64", f"{LINES[P256][:-9]}!{LINES[P256][-8:]}", NO_KEY), ("half of it", LINES[RSA][:80], NO_KEY),
     *((f"{len(strings)} strings of {kind}", line_of(kind, strings), NO_KEY) for kind, strings in MISCOUNTED),
 ]

@@ -1,4 +1,5 @@
 """What the programs in Python share (programs/common): files, public-key lines, times and lines of the audit trail."""
+import contextlib
 import json
 import os
 import random
@@ -11,7 +12,7 @@ import pytest
 from asking import body, key_blob
 from running import PROGRAMS, loaded, new_key, run
 from stations import part
-from subject_keys import CERTIFICATES, KEYS
+from subject_keys import CERTIFICATES, KEYS, MORE, RSA, line_of, mpint
 
 sys.path += [str(PROGRAMS / it) for it in ("common", "setup")]
 from vethlumi_common import addresses, deadlines, files, ssh, subjects, trail
@@ -76,6 +77,20 @@ def test_a_regular_file_is_read_to_its_limit(room, length):
 
 
 # ---- public keys
+
+@pytest.mark.parametrize("kind, strings", [*KEYS.items(), *MORE])
+def test_the_line_of_a_subjects_key(kind, strings):
+    line = line_of(kind, strings)
+    assert line == subjects.subject_line(f"{line}\nanother line\n") == subjects.subject_line(f"{line}\r\n")
+
+
+@pytest.mark.parametrize("bits, is_taken", [(1, False), (2047, False), (2048, True), (16384, True), (16385, False)])
+def test_the_bits_of_an_rsa_key(bits, is_taken):
+    line = line_of(RSA, [mpint(65537), mpint((1 << bits) - 1)])
+    with contextlib.nullcontext() if is_taken else pytest.raises(
+            ssh.BadFormat, match=f"^the RSA key has {bits} bits: an office takes 2048 to 16384$"):
+        assert line == subjects.subject_line(line)
+
 
 @pytest.mark.parametrize("kind", ["ed25519", "rsa", "ecdsa"])
 def test_a_key_line_and_its_fingerprint_are_those_of_ssh_keygen(room, kind):

@@ -32,6 +32,16 @@ def people(principals="alice", admins="admin"):
     return department("people", principals=principals, admins=admins, extensions="permit-pty")
 
 
+def demanding(principals="alice", admins="admin"):
+    """With lines that only some departments have."""
+    return department("people", principals=principals, admins=admins, extensions="permit-pty",
+                      musts=["source-address 10.0.0.0/8", "verify-required"], key_types="sk-ssh-ed25519@openssh.com")
+
+
+def typed(text):
+    return text.replace("maxlife", "key-types ssh-rsa,ssh-ed25519\nmaxlife")
+
+
 def permitting(monkeypatch):
     monkeypatch.syspath_prepend(str(PROGRAMS / "setup"))
     import permitting
@@ -93,6 +103,14 @@ CHANGES = [
     # A department of its own counts as before, and one that was closed stays closed beside one for everybody.
     (HOSTS + HOST, "remove-server db.example.org", HOSTS + CLOSED), (HOSTS + CLOSED, "add-server db.example.org",
                                                                     HOSTS + CLOSED),
+    # What certificates must have, and the types of keys, stay. A server that goes takes its types along.
+    (demanding() + HOST, "add-user bob", demanding("alice,bob") + HOST),
+    (AROUND.format(demanding("alice,bob")), "remove-user bob", AROUND.format(demanding())),
+    (demanding(), "add-caller carol", demanding(admins="admin,carol")),
+    (demanding(admins="carol"), "remove-caller carol", demanding(admins="")),
+    (demanding() + typed(HOST) + demanding().replace("people", "b"), "remove-server db.example.org",
+     demanding() + CLOSED + demanding().replace("people", "b")),
+    (typed(HOSTS), "add-server db.example.org", typed(HOSTS)),
     # One department for users is meant by itself.
     (department("web") + HOST, "add-user bob", department("web", principals="alice,bob") + HOST),
 ]

@@ -8,6 +8,8 @@ from vethlumi_common.ssh import ED25519_LINE, BadFormat, Reader, blob_of
 TYPES = {"ssh-ed25519": 1, "sk-ssh-ed25519@openssh.com": 2, "ecdsa-sha2-nistp256": 2, "ecdsa-sha2-nistp384": 2,
          "ecdsa-sha2-nistp521": 2, "sk-ecdsa-sha2-nistp256@openssh.com": 3, "ssh-rsa": 2}
 CERTIFICATES = {f"{it.partition('@')[0]}-cert-v01@openssh.com": it for it in TYPES}
+# How many bits the modulus of an RSA key has.
+RSA_BITS = range(2048, 16385)
 # RFC 8032, section 5.1: the prime of Ed25519.
 PRIME = 2 ** 255 - 19
 # The second coordinates of the eight points whose order divides 8: 0, 1 and -1, and these two of order 8.
@@ -36,6 +38,7 @@ def subject_line(text):
     if not blob or not is_of_type(blob):
         raise BadFormat(f"the file has no public key of a type that an office takes: {', '.join(TYPES)}")
     refuse_weak(blob)
+    refuse_size(blob)
     return line
 
 
@@ -70,6 +73,13 @@ def refuse_weak(blob):
     kind, *strings = strings_in(blob)
     if kind in (b"ssh-ed25519", b"sk-ssh-ed25519@openssh.com"):
         refuse_small_order(strings[0])
+
+
+def refuse_size(blob):
+    """Refuses an RSA key that is shorter or longer than those that an office takes."""
+    kind, *strings = strings_in(blob)
+    if kind == b"ssh-rsa" and (bits := int.from_bytes(strings[1], "big").bit_length()) not in RSA_BITS:
+        raise BadFormat(f"the RSA key has {bits} bits: an office takes {RSA_BITS[0]} to {RSA_BITS[-1]}")
 
 
 def refuse_small_order(point):
