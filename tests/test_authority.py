@@ -621,7 +621,7 @@ def test_bad_words_change_nothing(folder, words, status, why):
 
 @pytest.mark.parametrize("number", ["0", "-1", "1.5", "100000", "ten", " 7"])
 def test_days_are_a_number(folder, number):
-    why = f"authority: DAYS is no number of days: {number}"
+    why = f"authority: DAYS isn't a number of days: {number}"
     assert (2, "", why) == authority("caller", folder, "bob", **days(number))
     look(folder)
 

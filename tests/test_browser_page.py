@@ -189,7 +189,7 @@ def wanted_of(office):
         count = counts[row[5].partition("/")[0]]
         count[0] = row[1]
         count[1 + STATES.index(shown_state(row))] += 1
-    ends = [str(int(since) - 1) for _, since, _ in cas[1:]] + ["the last"]
+    ends = [str(int(since) - 1) for _, since, _ in cas[1:]] + [None]
     served = [sum(authority(row[0], cas) == ca[0] for row in rows) for ca in cas]
     newest = cas[-1][0]
     signers = []
@@ -202,7 +202,8 @@ def wanted_of(office):
     list_version, changed = struct.unpack(">QQ", krl[12:28])
     return {
         "waiting": waiting,
-        "cas": [[number + (" (issues)" if number == newest else ""), f"{since} to {end}", str(count), mark]
+        "cas": [[number + (" (active)" if number == newest else ""), f"{since} to {end}" if end else f"{since} and up",
+                 str(count), mark]
                 for (number, since, mark), end, count in zip(cas, ends, served)],
         "departments": [[name, kind, *map(str, count)] for name, (kind, *count) in sorted(counts.items())],
         "certificates": [certificate_cells(row, cas) for row in reversed(rows)],
@@ -337,8 +338,8 @@ class Page:
 
 
 FAULT = re.compile(r"(.+) can't be read since (\S+ \S+) \S+: (.+)\. "
-                   r"(?:What is shown was read at (\S+ \S+) \S+ and is old|Nothing of it was ever read)\.")
-WHAT = {"pending": "What waits", "table": "The table of certificates", "krl": "The revocation list", "cas": "The CAs",
+                   r"(?:The data shown is old: it was read at (\S+ \S+) \S+|It was never read)\.")
+WHAT = {"pending": "The pending certificates", "table": "The table of certificates", "krl": "The revocation list", "cas": "The CAs",
         "signers": "The allowed signers"}
 
 
@@ -414,7 +415,7 @@ def test_each_table_shows_what_the_routes_say(harmless):
     harmless.must_show(wanted_of(harmless.office))
     look, office = harmless.look(), harmless.office
     assert "0" not in look["counts"], "no state is without a certificate"
-    assert (True, [], []) == (look["read"].startswith("All was read at "), look["faults"], look["old"])
+    assert (True, [], []) == (look["read"].startswith("Read at "), look["faults"], look["old"])
     assert [[f"/v1/{it}", str(len(office.get(it)))] for it in ROUTES] == [[it[0], it[2]] for it in look["routes"]]
     rows, _ = table_of(office.get("table"))
     links = harmless.value("[...document.querySelectorAll('#certificates a')].map((it) => it.getAttribute('href'))")
@@ -526,16 +527,17 @@ UNREADABLE = [
     ("table", lambda page: (200, b"".join(cut(page)[1:])), "the table has 17 lines, and its end says 18"),
     ("table", lambda page: (403, b"front: only a client with a certificate may read this\n"),
      "403 front: only a client with a certificate may read this"),
-    ("krl", lambda page: (200, page.office.get("krl")[:43]), "the answer is no revocation list"),
-    ("krl", lambda page: (200, b"<html>sign in to the network</html>" + bytes(44)), "the answer is no revocation list"),
+    ("krl", lambda page: (200, page.office.get("krl")[:43]), "the answer isn't a revocation list"),
+    ("krl", lambda page: (200, b"<html>sign in to the network</html>" + bytes(44)),
+     "the answer isn't a revocation list"),
     ("krl", lambda page: (200, page.office.get("krl")[:20] + b"\xff" * 8 + bytes(16)),
-     "the answer is no revocation list"),
+     "the answer isn't a revocation list"),
     ("table", lambda page: (200, b"".join(cut(page)).replace(b"  user  ", b"  User  ", 1)),
      "the answer is cut off, or has another form"),
     ("table", lambda page: (200, b""), "the table has 0 lines, and its end says nothing"),
     ("cas", lambda page: (200, b"1 1 SHA256:short\n"), "the answer is cut off, or has another form"),
     ("pending", lambda page: (200, b"1 82e0\n"), "the answer is cut off, or has another form"),
-    ("signers", lambda page: (0, b""), "no answer came"),
+    ("signers", lambda page: (0, b""), "no answer"),
 ]
 
 
@@ -551,7 +553,7 @@ def test_a_route_that_can_not_be_read(page, route, answer, cause):
     _, (since, at) = faults[route]
     assert (True, True, [f"old {route}"]) == (
         0 <= time.time() + offset - since < 30, at <= since and time.time() + offset - at < 60, sorted({*look["old"]}))
-    assert "Not all could be read." == look["read"]
+    assert "Some data can't be read." == look["read"]
     assert wanted == page.shown(), "what was read stays"
     page.read_again()
     assert ([], []) == (page.look()["faults"], page.look()["old"]), "the next answer takes the fault away"
@@ -574,7 +576,7 @@ def test_an_office_that_is_away_and_back(page):
     until(lambda: len(page.look()["faults"]) == 5)
     look = page.look()
     assert (5, {"never"}, [["not read"]]) == (
-        "".join(look["faults"]).count("Nothing of it was ever read."), {it.split()[0] for it in look["old"]},
+        "".join(look["faults"]).count("It was never read."), {it.split()[0] for it in look["old"]},
         look["certificates"]), "a page that never read says so"
     page.office.begin()
     page.read_again()
@@ -598,7 +600,7 @@ def test_hostile_key_ids_stand_there_as_they_are(hostile):
     look = hostile.look()
     assert [*reversed(HOSTILE)] == [it[1].partition("/")[2] for it in look["certificates"]]
     assert hostile.names == look["names"], "no element is there that harmless key ids don't have"
-    assert ("undefined", "SSH certificate office") == (look["hit"], look["title"]), "nothing of them was run"
+    assert ("undefined", "Vethlumi: SSH certificate office") == (look["hit"], look["title"]), "nothing of them was run"
     assert {path for _, path, _ in hostile.relay.asked} <= {
         "/page/", "/page/page.css", "/page/page.js", "/favicon.ico", *(f"/v1/{it}" for it in ROUTES)}
     hostile.type("<img/src=x/onerror=hit()>")
@@ -622,7 +624,7 @@ def test_what_an_office_never_says_is_a_fault(hostile, status, body):
     hostile.relay.instead.clear()
     assert (1, {"old table"}) == (len(look["faults"]), {*look["old"]})
     assert ("undefined", {*hostile.names, "p"}) == (look["hit"], {*look["names"]}), "it makes no element"
-    assert status == 200 or f": 500 {body.decode()}. What" in look["faults"][0], "it is shown as text"
+    assert status == 200 or f": 500 {body.decode()}. The data" in look["faults"][0], "it is shown as text"
     hostile.read_again()
     assert [] == hostile.look()["faults"]
 

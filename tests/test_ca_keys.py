@@ -193,7 +193,7 @@ def test_a_line_of_another_form_is_left_out(fetch, room, line):
     (room / "keys").write_text(text(B))
     status, errors = fetch(line.encode() + b"\n" + body(B), A, B)
     assert 1 == status
-    assert "1 of the lines that came are no Ed25519 public keys; they were left out" in errors
+    assert "lines that aren't Ed25519 public keys were ignored: 1" in errors
     assert text(B) == of()
     assert ["keys"] == shown()
 
@@ -241,8 +241,8 @@ FAILURES = [
     ("an error", response(body(A), "502 Bad Gateway"), "no keys came from {url}"),
     ("another place", response(b"", "302 Found\r\nlocation: /other"), "no keys came from {url}"),
     ("half of what was announced", response(body(B), length=700), "no keys came from {url}"),
-    ("a long body", response(body(B) * 300), "what came from {url} is longer than 16384 bytes"),
-    ("a long line", response(b"ssh-ed25519 " + 20000 * b"A"), "what came from {url} is longer than 16384 bytes"),
+    ("a long body", response(body(B) * 300), "the answer from {url} is longer than 16384 bytes"),
+    ("a long line", response(b"ssh-ed25519 " + 20000 * b"A"), "the answer from {url} is longer than 16384 bytes"),
     ("no HTTP", b"HTTP/1.1", "no keys came from {url}"),
 ]
 
@@ -262,7 +262,7 @@ def test_an_endless_body_ends(fetch, web, room):
     (room / "keys").write_text(text(A))
     web.endless = body(B) * 100
     status, errors = fetch(response(b"", length=""), A, B)
-    assert (1, f"what came from {web.url} is longer than 16384 bytes") == (status, errors[0])
+    assert (1, f"the answer from {web.url} is longer than 16384 bytes") == (status, errors[0])
     assert text(A) == of()
 
 
@@ -270,7 +270,7 @@ def test_an_endless_body_ends(fetch, web, room):
 
 def test_a_folder_in_place_of_the_file(fetch, room):
     (room / "keys").mkdir()
-    assert (1, ["keys is no file; keys is as it was"]) == fetch(body(A), A)
+    assert (1, ["keys isn't a regular file; keys is as it was"]) == fetch(body(A), A)
     assert [] == os.listdir("keys")
 
 
@@ -309,7 +309,7 @@ def test_root_runs_as_the_user_whose_folder_it_is(web, names, room):
 def test_a_link_to_a_folder_or_to_nothing(fetch, room):
     (room / "folder").mkdir()
     (room / "keys").symlink_to("folder")
-    assert (1, ["keys is no file; keys is as it was"]) == fetch(body(A), A)
+    assert (1, ["keys isn't a regular file; keys is as it was"]) == fetch(body(A), A)
     (room / "keys").unlink()
     (room / "keys").symlink_to("nothing")
     assert (0, []) == fetch(body(A), A)
@@ -490,8 +490,8 @@ def put_socket(path):
 # What the user whose file it is may put in its place, and why none of it is read.
 PLACES = [
     ("a link", lambda path: path.symlink_to("elsewhere"), "Too many levels of symbolic links"),
-    ("a pipe", os.mkfifo, "it is no regular file"),
-    ("a folder", os.mkdir, "it is no regular file"),
+    ("a pipe", os.mkfifo, "not a regular file"),
+    ("a folder", os.mkdir, "not a regular file"),
     ("a socket", put_socket, "No such device or address"),
     ("a long file", lambda path: path.write_text(text(A).ljust(16385, "#")), "it has more than 16384 bytes"),
     ("nothing", lambda path: None, "No such file or directory"),

@@ -222,7 +222,7 @@ def test_a_pause_is_no_longer_than_there_is_time(room):
 
 @pytest.mark.parametrize("answer, why", [
     (response(b"", "302 Found\r\nlocation: {other}"), "the front redirects (status 302), which isn't followed"),
-    (response(HTML, "403 Forbidden"), "no answer that an office gives (status 403)"),
+    (response(HTML, "403 Forbidden"), "unexpected answer from the office (status 403)"),
     (response(b"front: no such path\n", "404 Not Found"), "front: no such path (status 404)"),
     (response(HTML), "an answer that no office gives: <html>"), (response(b""), "an answer that no office gives: "),
     (response(b"issued 0\n"), "an answer that no office gives: "),

@@ -258,7 +258,7 @@ def test_a_bundle_is_handed_over_and_not_shown(module, room):
     (HOST + "[host]\nweb.example.org\n", {"host": "db.example.org"}, "the host db.example.org, web.example.org, and"),
     ("[caller]\nroot\n", {"caller": "admin"}, "the bundle of the caller root, and not of admin"),
     ("[office]\nhttps://a\n", {"caller": "admin"}, "the bundle of the caller -, and not of admin"),
-    ("ssh-ed25519 AAAA\n" + HOST, {"host": "db.example.org"}, "is no bundle"),
+    ("ssh-ed25519 AAAA\n" + HOST, {"host": "db.example.org"}, "isn't a valid bundle"),
 ])
 def test_a_bundle_of_somebody_else_is_refused(module, room, bundle, whose, why):
     """A front that was taken could make the bundle of another, or bring a CA of its own."""

@@ -29,7 +29,7 @@ def test_a_body_is_read_behind_a_key_of_any_type(kind):
     assert ("user", "web/a", ["alice", "bob"]) == tuple(told[it] for it in ("kind", "keyid", "principals"))
     principals_of = loaded(PROGRAMS / "setup/issued.py").principals_of
     assert ["alice", "bob"] == principals_of(text)
-    with pytest.raises(Exception, match="a certificate of the office ends too early"):
+    with pytest.raises(Exception, match="a certificate of the office is truncated"):
         principals_of(text[:text.index(b"bob") + 2])
 
 
@@ -59,7 +59,7 @@ def test_what_a_check_raises_leaves_everything_as_it_was(room):
 
 @pytest.mark.parametrize("put, why", [
     (lambda file: file.write_bytes(b"x" * 101), "it has more than 100 bytes"),
-    (lambda file: file.mkdir(), "it is no regular file"), (os.mkfifo, "it is no regular file"),
+    (lambda file: file.mkdir(), "not a regular file"), (os.mkfifo, "not a regular file"),
     (lambda file: file.symlink_to("/etc/hostname"), "Too many levels of symbolic links"),
     (lambda file: None, "No such file or directory"),
 ], ids=["too long", "a folder", "a pipe", "a link", "nothing"])

@@ -142,13 +142,13 @@ REFUSED = [
     (PEOPLE, "add-user *bob", "no name of a user"), (PEOPLE, "add-caller a.b", "no name of a caller"),
     (PEOPLE, "add-caller " + 33 * "a", "no name of a caller"), (PEOPLE, "add-caller host-a", "no name of a caller"),
     (PEOPLE, "add-caller registrar --department hosts", "there is no department hosts, but people"),
-    (HOSTS, "add-caller carol", "name the department by --department: there is none for users"),
+    (HOSTS, "add-caller carol", "choose the department with --department: there is none for users"),
     ("", "add-caller carol --department people", "there is no department people, but none"),
-    (PEOPLE, "add-caller root", "root is no caller's name"), (PEOPLE, "add-user bob --department web",
-                                                             "there is no department web for users, but people"),
-    (HOST, "add-user bob", "name the department by --department: there is none for users"),
-    (HOST, "add-user bob --department db-example-org", "no department db-example-org for users, but none"),
-    (department("a") + department("b"), "add-caller bob", "name the department by --department: a, b"),
+    (PEOPLE, "add-caller root", "root isn't a valid caller name"),
+    (PEOPLE, "add-user bob --department web", "there is no department web for users. Departments: people"),
+    (HOST, "add-user bob", "choose the department with --department: there is none for users"),
+    (HOST, "add-user bob --department db-example-org", "no department db-example-org for users. Departments: none"),
+    (department("a") + department("b"), "add-caller bob", "choose the department with --department: a, b"),
     (PEOPLE, "add-server a_b", "no name of a host: 'a_b'"), (PEOPLE, "add-server " + 28 * "a", "gives no name of 1 to"),
     (HOSTS, f"add-server {28 * 'a'}.example.org", "gives no name of 1 to"),
     (PEOPLE, "add-server people", "the department people is there, and isn't one in which people asks for its own"),
@@ -268,7 +268,7 @@ def test_a_station_without_a_key_that_signs_asks_which(keeping):
     keeping.key("first", enabled=False)
     assert "+ principals alice,bob" in keeping("add-user bob")
     keeping.key("second", enabled=False)
-    with pytest.raises(keeping.script.Fault, match="the unit of no key is enabled: name one by --name: first, second"):
+    with pytest.raises(keeping.script.Fault, match="no key's unit is enabled: choose one with --name: first, second"):
         keeping("add-user carol")
     for name in ("third", "../first"):
         with pytest.raises(keeping.script.Fault):
@@ -279,7 +279,7 @@ def test_a_policy_that_the_guard_would_not_take_stays_as_it_is(room, keeping):
     """Another of its departments was spoilt by hand."""
     text = PEOPLE + department("web").replace("kind user", "kind users")
     keeping.key("first", text)
-    with pytest.raises(keeping.script.Fault, match="the guard doesn't take .*first.policy with this change: .*BadPol"):
+    with pytest.raises(keeping.script.Fault, match="the guard refuses .*first.policy with this change: .*BadPol"):
         keeping("add-user bob")
     assert text == keeping.policy("first") and [] == [*(room / "station").glob(".*")]
 
@@ -474,7 +474,7 @@ def test_root_sends_a_message_on_the_machine(room, rooted):
     told = rooted("send", str(room / "message"))
     assert ("revoked\nversion 1\n", "  send the office, as root: revoke-keyid people/nobody\n" in told) == (
         rooted.printed, True)
-    for text, why in (("", "is no message"), (16385 * "a", "is no message"), ("revoke-serial 7\n",
+    for text, why in (("", "isn't a message"), (16385 * "a", "isn't a message"), ("revoke-serial 7\n",
                                                                             "the office refuses it: refused 17 Unkn")):
         (room / "message").write_text(text)
         with pytest.raises(rooted.script.Fault, match=why):
@@ -482,6 +482,6 @@ def test_root_sends_a_message_on_the_machine(room, rooted):
     with pytest.raises(rooted.script.Fault, match="can't read .*nothing"):
         rooted("send", str(room / "nothing"))
     (room / "message").write_text("revoke-keyid people/other\n")
-    with pytest.raises(rooted.script.BadWords, match="give --yes"):
+    with pytest.raises(rooted.script.BadWords, match="Pass --yes"):
         rooted("send", str(room / "message"), yes=False)
     assert {"people/nobody"} == rooted.door.office.key_ids

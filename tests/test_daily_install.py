@@ -202,13 +202,13 @@ def test_a_restored_office_is_recovered_while_the_station_is_stopped(installing)
     assert "stop 'office-station@*'" in found[0][-1] and "systemctl start" in found[4][-1]
     status, told, said = installing(*words, **{r".* vethlumi-office-root recover .*": 1}, **RECOVER)
     assert (1, ["s", "c", "d", "o"]) == (status, [it[0] for it in told_to(said)]), told
-    assert "if this is interrupted, the station stays stopped: type it again\n" in told
+    assert "if this is interrupted, the station stays stopped: run it again\n" in told
 
 
 @pytest.mark.parametrize("text", ["", "7 x\n", GUARDS + "[list]\n", GUARDS.replace("0 17", "\x1b 17")], ids=range(4))
 def test_a_station_that_says_something_else_has_nothing_recovered(installing, text):
     status, told, said = installing("recover", "--server", "c", *OF, **{**RECOVER, [*RECOVER][0]: text})
-    assert (1, True) == (status, "s has no guard, or says something else than what it has approved" in told), told
+    assert (1, True) == (status, "s has no guard, or its answer isn't a list of what it approved" in told), told
     assert [] == [it for it in told_to(said) if "vethlumi-office-root" in it]
 
 
@@ -219,11 +219,11 @@ def test_a_station_that_says_something_else_has_nothing_recovered(installing, te
     (["leave", "a.b"], "no name of a caller: 'a.b': for somebody who is none, type remove-user a.b"),
     (["leave", "admin"], "admin is a name that set-up makes"), (["remove-caller", "root"], "root is a name that set"),
     (["add-server", "a b"], "no machine"), (["add-user", "bob", "--server", "a b"], "no machine"),
-    (["add-user", "bob@corp", "--server", "c"], "bob@corp is no name of an account, so leave out --server"),
+    (["add-user", "bob@corp", "--server", "c"], "bob@corp isn't a valid account name: leave out --server"),
     (["remove-user", "bob", "--client", "c"], "remove-user takes no --client"), (["add-user", "bob", "--hosts", "x"],
                                                                                 "add-user has no option --hosts"),
-    (["add-user", "bob@corp", "--client", "c"], "bob@corp is no name of a caller, so leave out --client"),
-    (["add-user", "root", "--client", "c"], "root is no name of a caller, so leave out --client"),
+    (["add-user", "bob@corp", "--client", "c"], "bob@corp isn't a valid caller name: leave out --client"),
+    (["add-user", "root", "--client", "c"], "root isn't a valid caller name: leave out --client"),
     (["add-caller", "bob", "--hosts", "x"], "add-caller has no option --hosts"), (["recover"], "recover needs --s"),
     (["recover", "bob", "--server", "c"], "recover takes no name: bob"), (["recover", "--server", "c", "--to", "0"],
                                                                          "--to is a serial: '0'"),
@@ -236,7 +236,7 @@ def test_a_station_that_says_something_else_has_nothing_recovered(installing, te
     (["enrolment", "f", "--client", "c"], "enrolment takes no --client"), (["enrolment", "f", "--caller", "c"],
                                                                           "enrolment takes no --caller"),
     (["enrolment", "f", "--hosts", "x"], "enrolment has no option --hosts"), (["enrolment", "f", "--department", "a.b"],
-                                                                             "no name of a department: 'a.b'"),
+                                                                             "invalid department name: 'a.b'"),
 ], ids=range(30))
 def test_bad_words_change_nothing(installing, words, why):
     status, told, said = installing(*words, *OF)

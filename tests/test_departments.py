@@ -184,7 +184,7 @@ def test_what_root_put_by_hand_is_shown_before_it_is_changed_back(door, set_up):
     # Nobody agrees, so nothing changes.
     door.root_puts(C, "by-hand-2")
     told, why = set_up.fails(A, yes=False)
-    assert "- admins admin,carol\n" in told and "nobody can be asked here: give --yes" == why
+    assert "- admins admin,carol\n" in told and "Not a terminal. Pass --yes to confirm." == why
     assert [C] == door.office.texts()
 
 
@@ -276,7 +276,7 @@ def test_what_changes_after_it_was_shown_is_not_changed(door, set_up):
         return answer
     door.spoil = spoil
     _, why = set_up.fails(B)
-    assert "somebody has changed the department people meanwhile: type this again" in why
+    assert "the department people was changed meanwhile: run this again" in why
     assert [C] == door.office.texts()
     assert set_up(B) == changed("- admins admin,carol", "+ admins admin") and [B] == door.office.texts()
 
@@ -332,7 +332,7 @@ def test_an_office_of_an_earlier_version_has_to_be_upgraded(room, monkeypatch, c
         set_up = SetUp(room, monkeypatch, capsys)
         set_up()
         _, why = set_up.fails(A)
-        assert "upgrade the package vethlumi-office, type systemctl restart office, and type this again" in why
+        assert "upgrade the package vethlumi-office, run systemctl restart office, and run this again" in why
         assert [] == door.sent() and NOTHING == set_up()
 
 
@@ -611,7 +611,7 @@ def test_an_office_or_a_front_of_an_earlier_version_is_told(room, port, root):
         port.spoil = lambda request, answer, text=text: (
             b"HTTP/1.1 404 Not Found\r\ncontent-length: %d\r\n\r\n" % len(text) + text)
         status, out, told = root("department", "show")
-        assert (1, "", True) == (status, out, "it or its front is of an earlier version. Upgrade both" in told), told
+        assert (1, "", True) == (status, out, "it or its front is an earlier version. Upgrade both" in told), told
     # What the front refuses is told as it says it.
     text = b"front: only a caller may read this\n"
     port.spoil = lambda *_: b"HTTP/1.1 403 Forbidden\r\ncontent-length: %d\r\n\r\n" % len(text) + text

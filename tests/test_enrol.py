@@ -158,15 +158,17 @@ def by_key(file):
 
 
 BAD_WORDS = {
-    "nobody": ([*ENROL], "one of HOST, --new-key and --public-key is wanted"),
-    "two": ([*ENROL, "web", "--public-key"], "one of HOST, --new-key and --public-key is wanted"),
-    "a capital": ([*ENROL, "Web"], "'Web' is no name"), "a person": ([*ENROL, "a@b"], "'a@b' is no name"),
-    "a slash": ([*ENROL, "a/b"], "'a/b' is no name"), "41 letters": ([*ENROL, 41 * "a"], "is no name"),
+    "nobody": ([*ENROL], "pass one of HOST, --new-key and --public-key"),
+    "two": ([*ENROL, "web", "--public-key"], "pass one of HOST, --new-key and --public-key"),
+    "a capital": ([*ENROL, "Web"], "'Web' isn't a valid name"),
+    "a person": ([*ENROL, "a@b"], "'a@b' isn't a valid name"),
+    "a slash": ([*ENROL, "a/b"], "'a/b' isn't a valid name"), "41 letters": ([*ENROL, 41 * "a"], "isn't a valid name"),
     "no office": (["enrol", "--key", "enrol.key", "web"], "no office"),
-    "a key that is there": ([*ENROL, "--new-key"], "enrol.key is there already"),
-    "no key": (by_key("none"), "none: No such file"), "a key for others": (by_key("open.key"), "others than its owner"),
-    "a key of RSA": (by_key("rsa.key"), "is no Ed25519 key"),
-    "no private key": (by_key("text.key"), "is no private key in PEM"),
+    "a key that is there": ([*ENROL, "--new-key"], "enrol.key already exists"),
+    "no key": (by_key("none"), "none: No such file"),
+    "a key for others": (by_key("open.key"), "is open to other users"),
+    "a key of RSA": (by_key("rsa.key"), "isn't an Ed25519 key"),
+    "no private key": (by_key("text.key"), "isn't a PEM private key"),
 }
 
 
@@ -527,7 +529,7 @@ def stated(form, *values):
 STATED = "renewal\naudience {url}\ntime {now}\nkey {digest}\n"
 # What is refused, as what, and a part of why. None of it comes to the office.
 BAD_RENEWALS = {
-    "of another CA": (of_other_ca, "BadCertificate", "its CA is none of the office's"),
+    "of another CA": (of_other_ca, "BadCertificate", "its CA isn't one of the office's"),
     "of a user": (lambda it: {"certificate": certify(kind="", key_id="hosts/web")}, "BadCertificate",
                   "isn't for a host"),
     "a person's": (lambda it: {"certificate": certify(kind="", key_id="people/ana/a", names="ana")}, "BadCertificate",
@@ -535,37 +537,38 @@ BAD_RENEWALS = {
     "ended": (lambda it: {"certificate": certify(valid="-2d:-1d")}, "BadCertificate", "it is valid from"),
     "not yet valid": (lambda it: {"certificate": certify(valid="+1d:+2d")}, "BadCertificate", "it is valid from"),
     "a changed certificate": (signed_again, "BadCertificate", "the signature is false"),
-    "a longer certificate": (longer, "BadCertificate", "follows the signature"),
-    "no certificate": (lambda it: {"certificate": it.line}, "BadCertificate", "no line of a certificate"),
-    "a damaged one": (lambda it: {"certificate": it.certificate[:200]}, "BadCertificate", "isn't taken"),
+    "a longer certificate": (longer, "BadCertificate", "after the signature"),
+    "no certificate": (lambda it: {"certificate": it.line}, "BadCertificate", "the file has no certificate"),
+    "a damaged one": (lambda it: {"certificate": it.certificate[:200]}, "BadCertificate", "isn't accepted"),
     "for a key of small order": (small_order, "BadCertificate", "small order"),
     "for a key of RSA": (of_a_kind("rsa", "-b", "2048"), "BadCertificate", "isn't for a plain Ed25519 key"),
     "for a key of ECDSA": (of_a_kind("ecdsa"), "BadCertificate", "isn't for a plain Ed25519 key"),
-    "another host's certificate": (with_other_certificate, "BadStatement", "another key than the certificate's"),
+    "another host's certificate": (with_other_certificate, "BadStatement", "its key isn't the certificate's"),
     "signed by another key": (of_other_key, "BadStatement", "another key has signed it"),
-    "for another key": (for_other_key, "BadStatement", "another key than the certificate's"),
-    "signed in another namespace": (in_another_namespace, "BadStatement", "another namespace"),
+    "for another key": (for_other_key, "BadStatement", "its key isn't the certificate's"),
+    "signed in another namespace": (in_another_namespace, "BadStatement", "a different namespace"),
     "signed over another statement": (over_another_statement, "BadStatement", "the signature is false"),
-    "for another office": (stated(STATED.replace("{url}", "https://other.example")), "BadStatement", "another office"),
-    "for an office with more": (stated(STATED.replace("{url}", "{url}/")), "BadStatement", "another office"),
+    "for another office": (stated(STATED.replace("{url}", "https://other.example")), "BadStatement",
+                         "different office"),
+    "for an office with more": (stated(STATED.replace("{url}", "{url}/")), "BadStatement", "different office"),
     "of a minute and five seconds ago": (lambda it: {"moment": int(time.time()) - 65}, "BadStatement", "clocks"),
     "of the future": (lambda it: {"moment": int(time.time()) + 65}, "BadStatement", "clocks"),
-    "of no time": (stated(STATED.replace("time {now}\n", "")), "BadStatement", "none of a renewal"),
-    "of a time below zero": (stated(STATED.replace("{now}", "-{now}")), "BadStatement", "none of a renewal"),
-    "of a time with zeros": (stated(STATED.replace("{now}", "0{now}")), "BadStatement", "none of a renewal"),
-    "of another form": (stated("Renewal" + STATED[7:]), "BadStatement", "none of a renewal"),
-    "with a line more": (stated(STATED + "more\n"), "BadStatement", "none of a renewal"),
-    "without its end": (stated(STATED[:-1]), "BadStatement", "none of a renewal"),
-    "with CR": (stated(STATED.replace("\n", "\r\n")), "BadStatement", "none of a renewal"),
-    "in another script": (stated(STATED.replace("{now}", "\u0661{now}")), "BadStatement", "none of a renewal"),
+    "of no time": (stated(STATED.replace("time {now}\n", "")), "BadStatement", "not a renewal statement"),
+    "of a time below zero": (stated(STATED.replace("{now}", "-{now}")), "BadStatement", "not a renewal statement"),
+    "of a time with zeros": (stated(STATED.replace("{now}", "0{now}")), "BadStatement", "not a renewal statement"),
+    "of another form": (stated("Renewal" + STATED[7:]), "BadStatement", "not a renewal statement"),
+    "with a line more": (stated(STATED + "more\n"), "BadStatement", "not a renewal statement"),
+    "without its end": (stated(STATED[:-1]), "BadStatement", "not a renewal statement"),
+    "with CR": (stated(STATED.replace("\n", "\r\n")), "BadStatement", "not a renewal statement"),
+    "in another script": (stated(STATED.replace("{now}", "\u0661{now}")), "BadStatement", "not a renewal statement"),
     "no signature": (lambda it: {"signature": "none"}, "BadStatement", "no armored signature"),
     "a cut signature": (lambda it: {"signature": armored(sign("a"), lambda data: data[:-9])}, "BadStatement",
-                        "too early"),
+                        "truncated"),
     "a longer signature": (lambda it: {"signature": armored(sign("a"), lambda data: data + b"a")}, "BadStatement",
-                           "follows the signature"),
+                           "after the signature"),
     "a signature of another version": (
         lambda it: {"signature": armored(sign("a"), lambda data: data[:6] + bytes([0, 0, 0, 2]) + data[10:])},
-        "BadStatement", "another version"),
+        "BadStatement", "unsupported signature version"),
 }
 
 
@@ -753,10 +756,11 @@ def test_a_renewal_whose_answer_was_lost_is_typed_again(asker, room):
 
 
 @pytest.mark.parametrize("more, why", [
-    ({"key": "other"}, "it is for another key"), ({"serial": 3}, "has another serial"), ({"ca": "second"}, "isn't known"),
-    ({"key_id": "others/web/a"}, "of another department"), ({"valid": "-2d:-1d"}, "it is valid from"),
-    ({"key_id": "hosts/db/a"}, "what came is no renewal"), ({"kind": ""}, "what came is no renewal"),
-    ({"names": "web.example.org,db.example.org"}, "what came is no renewal"),
+    ({"key": "other"}, "it is for a different key"), ({"serial": 3}, "has a different serial"),
+    ({"ca": "second"}, "isn't trusted here"),
+    ({"key_id": "others/web/a"}, "to a different department"), ({"valid": "-2d:-1d"}, "it is valid from"),
+    ({"key_id": "hosts/db/a"}, "that isn't a renewal"), ({"kind": ""}, "that isn't a renewal"),
+    ({"names": "web.example.org,db.example.org"}, "that isn't a renewal"),
 ])
 def test_what_is_no_renewal_is_not_taken(giving, room, more, why):
     old, giving.line = (room / "old.pub").read_bytes(), certify(**{"serial": 2} | more)

@@ -144,12 +144,12 @@ def test_what_is_missing_is_named(host):
     assert 1 == host()[0] and ["workload"] == asked(host)
     (host.room / "host").unlink()
     status, told = host("--sign")
-    assert 1 == status and "ssh-keygen doesn't sign with the key of" in told and not host.statement.exists()
+    assert 1 == status and "ssh-keygen can't sign with the key of" in told and not host.statement.exists()
 
 
 @pytest.mark.parametrize("more, why", [
     ({"names": "db.example.org"}, "it is for db.example.org"), ({"kind": ""}, "it is for a user"),
-    ({"key_id": "others/web/a"}, "it is of another department"), ({"ca": "second"}, "doesn't trust its CA"),
+    ({"key_id": "others/web/a"}, "it belongs to a different department"), ({"ca": "second"}, "doesn't trust its CA"),
 ])
 def test_what_a_token_may_not_give_is_left_out(host, more, why):
     """As the token of another host would."""
@@ -323,7 +323,7 @@ def test_what_enrolment_cannot_be_set_up_with_changes_nothing(registering, room)
     registering.refuses("the first run needs SETTINGS, or --enrol-department", "--enrol-keys", "keys")
     registering.refuses("the office has no department web", "--enrol-keys", "keys", "--enrol-department", "web")
     registering.refuses("may be standard input, and not both", "logins.toml", "-", "--enrol-keys", "-")
-    registering.refuses("enrol.jwks is no file", "--enrol-department", "hosts")
+    registering.refuses("enrol.jwks isn't a regular file", "--enrol-department", "hosts")
     for text in (OF_HOSTS.replace("{name}.example", "web.example"), OF_HOSTS.replace("kind host", "kind user")):
         (room / "door").write_text(text)
         registering.refuses("isn't one of hosts with a rule such as {name}.example.org", *ENROL)

@@ -109,7 +109,7 @@ def test_a_front_does_not_say_how_long_it_is_waited_for(either, web, room):
     """By Retry-After it would hold the lock for years, and nothing would say that no list comes."""
     (room / "list").write_bytes(LIST)
     busy = response(b"", "503 Busy\r\nretry-after: 1000000000")
-    assert (1, f"no list came from {web.url}; list is as it was") == either.raw(busy, timeout=60)
+    assert (1, f"no list from {web.url}; list is as it was") == either.raw(busy, timeout=60)
     assert LIST == (room / "list").read_bytes()
 
 
@@ -127,7 +127,7 @@ def test_its_time_is_that_of_the_last_fetch(either, room):
 def test_a_version_that_no_office_gives(either, room, version, old):
     if old:
         (room / "list").write_bytes(old)
-    said = f"refused as BadVersion: version {version} came, which no office gives; list is as it was"
+    said = f"refused as BadVersion: no office has a version {version}; list is as it was"
     assert (1, said) == either(krl(version, [1]))
     assert not old or old == (room / "list").read_bytes()
     assert (["list"] if old else []) == [it for it in shown() if it.startswith("list")]
@@ -137,7 +137,7 @@ def test_a_version_that_no_office_gives(either, room, version, old):
 def test_a_lower_version_is_not_taken(either, room, old):
     (room / "list").write_bytes(krl(old))
     for version in (0, 8):
-        said = f"refused as OlderVersion: version {version} came, and {old} is in place; list is as it was"
+        said = f"refused as OlderVersion: got version {version}, and {old} is in place; list is as it was"
         assert (1, said) == either(krl(version))
         assert krl(old) == (room / "list").read_bytes()
 
@@ -156,7 +156,7 @@ def test_a_list_that_is_not_read_for_lack_of_memory_stays(either, room, end):
                                          f'exec {shutil.which("ssh-keygen")} "$@"\n')
     (room / "bin/ssh-keygen").chmod(0o755)
     env = os.environ | {"PATH": f"{room / 'bin'}:{os.environ['PATH']}"}
-    said = "ssh-keygen was killed, or has too little memory, and has read no list; list is as it was"
+    said = "ssh-keygen was killed, or ran out of memory, before it had read the list; list is as it was"
     assert (1, said) == either(krl(0), env=env)
     assert LIST == (room / "list").read_bytes()
 
@@ -168,7 +168,7 @@ def test_a_list_that_takes_too_much_memory_to_read_is_left_out(believe, room):
     (room / "list").write_bytes(LIST)
     status, why = believe(bitmaps(4), "list", "--metrics", "metrics")
     # A slow machine's time may be over before its memory.
-    said = "ssh-keygen was killed, or has too little memory, and has read no list; list is as it was"
+    said = "ssh-keygen was killed, or ran out of memory, before it had read the list; list is as it was"
     assert (1, True) == (status, why in (said, TOO_SLOW)), why
     assert (LIST, 0) == ((room / "list").read_bytes(), metrics()["office_list_taken"])
 
@@ -176,15 +176,15 @@ def test_a_list_that_takes_too_much_memory_to_read_is_left_out(believe, room):
 def test_no_two_lists_of_one_version(either, room):
     (room / "list").write_bytes(LIST)
     for other in (krl(3, [1, 2, 9, 11]), krl(3, [1, 2, 9], date=1001), krl(3)):
-        said = "refused as OtherBytes: another list of version 3 is in place; list is as it was"
+        said = "refused as OtherBytes: a different list of version 3 is in place; list is as it was"
         assert (1, said) == either(other)
         assert LIST == (room / "list").read_bytes()
 
 
 FAILURES = [
-    ("no such path", response(NEWER, "404 Not Found"), "no list came from {url}"),
+    ("no such path", response(NEWER, "404 Not Found"), "no list from {url}"),
     ("another place", response(b"", "302 Found\r\nlocation: /other"), None),
-    ("half of what was announced", response(NEWER, length=len(NEWER) + 1), "no list came from {url}"),
+    ("half of what was announced", response(NEWER, length=len(NEWER) + 1), "no list from {url}"),
     ("more behind the list", response(NEWER + b"more"), None),
     ("no body", response(b""), None),
     ("public keys", response(b"ssh-ed25519 AAAA\n"), None),
@@ -204,11 +204,11 @@ def test_if_no_list_comes_the_one_in_place_stays(request, web, room, answer, why
     (room / "list").write_bytes(LIST)
     os.utime("list", (1000, 1000))
     if why is None:
-        why = "refused as NotAList: ssh-keygen can't read what came"
+        why = "refused as NotAList: ssh-keygen can't read the new list"
         if is_signed:
-            why = "refused as NotStated: what came has no statement"
+            why = "refused as NotStated: the answer has no statement"
         if is_signed and NEWER in answer:
-            why = "refused as OtherDigest: the list that came isn't the one that is stated"
+            why = "refused as OtherDigest: the list doesn't match its statement"
     assert (1, f"{why.format(url=web.url)}; list is as it was") == run_script(answer)
     assert LIST == (room / "list").read_bytes()
     assert 1000 == os.stat("list").st_mtime
@@ -226,7 +226,7 @@ def test_an_endless_body_ends(either, web, room):
         status, why = either.raw(response(either.of(NEWER), length=""), file, timeout=200)
         assert (1, f"; {file} is as it was") == (status, why[why.index(";"):])
         # On a busy machine the time may be over before.
-        assert why.startswith(("what came is longer than any list;", "no list came from "))
+        assert why.startswith(("the answer is longer than any list;", "no list from "))
         assert LIST == file.read_bytes()
         assert ["list"] == shown(folder)
 
@@ -235,8 +235,8 @@ def test_an_endless_body_ends(either, web, room):
 def test_a_list_that_would_take_hours_to_read_is_left_out(believe, room):
     """ssh-keygen's time grows with the square of the sections: 250,000 in 16 MB took it 35 s. Here it never ends."""
     (room / "list").write_bytes(LIST)
-    said = ("refused as TooSlow: ssh-keygen reads what came for more than 60 seconds, and sshd would at each login; "
-            "list is as it was")
+    said = ("refused as TooSlow: ssh-keygen took more than 60 seconds to read the new list, and sshd would at "
+            "each login; list is as it was")
     assert (1, said) == believe(NEWER, env=around(room, "ssh-keygen", "exec sleep 1000"), timeout=300)
     assert LIST == (room / "list").read_bytes()
 
@@ -247,8 +247,8 @@ while time.process_time() < {}:
     pass
 os.execv("{}", sys.argv[1:])' ssh-keygen "$@" ;; esac
 """
-TOO_SLOW = ("refused as TooSlow: ssh-keygen reads what came for more than 5 seconds of processor time, and sshd would "
-            "at each login; list is as it was")
+TOO_SLOW = ("refused as TooSlow: ssh-keygen took more than 5 seconds of processor time to read the new "
+            "list, and sshd would at each login; list is as it was")
 
 
 @pytest.mark.slow
@@ -460,7 +460,7 @@ def test_a_front_that_gives_nothing_is_seen_within_the_hour(fetch, web, room):
     assert (0, 1) == (metrics()["office_list_taken"], metrics()["office_list_fresh"])
     status, said = later(61, web, signer, "--metrics", "metrics")
     assert (3, True) == (status, said[-1].startswith("fetch-list: list is stale: "))
-    assert f"fetch-list: no list came from {web.url}; list is as it was" in said
+    assert f"fetch-list: no list from {web.url}; list is as it was" in said
     assert (0, 0) == (metrics()["office_list_taken"], metrics()["office_list_fresh"])
 
 
@@ -603,8 +603,8 @@ def test_random_lists_beside_plain_sets(believe, room, request):
 
 
 @pytest.mark.parametrize("text, why", [
-    (None, "can't read ca.pub: No such file or directory"), ("no key\n", "ca.pub has another line than those of public "
-                                                                         "keys")])
+    (None, "can't read ca.pub: No such file or directory"), ("no key\n", "ca.pub has a line that isn't a public "
+                                                                         "key")])
 def test_cas_that_cannot_be_read_are_said(believe, room, text, why):
     (room / "ca.pub").unlink()
     if text:
@@ -616,22 +616,22 @@ def test_cas_that_cannot_be_read_are_said(believe, room, text, why):
 
 def test_a_folder_in_place_of_the_list(either, room):
     (room / "list").mkdir()
-    assert (1, "list is no file; list is as it was") == either(LIST)
+    assert (1, "list isn't a regular file; list is as it was") == either(LIST)
     (room / "link").symlink_to("list")
-    assert (1, "link is no file; link is as it was") == either(LIST, "link")
+    assert (1, "link isn't a regular file; link is as it was") == either(LIST, "link")
     assert [] == os.listdir("list")
 
 
 def test_a_folder_in_place_of_the_statement(fetch, room):
     (room / "list").write_bytes(LIST)
     (room / "list.statement").mkdir()
-    assert (1, "list.statement is no file; list is as it was") == fetch(fetch.signer.published(NEWER))
+    assert (1, "list.statement isn't a regular file; list is as it was") == fetch(fetch.signer.published(NEWER))
     assert LIST == (room / "list").read_bytes()
 
 
 def test_a_pipe_in_place_of_the_list_is_not_waited_for(either, room):
     os.mkfifo("list")
-    assert (1, "list is no file; list is as it was") == either(LIST)
+    assert (1, "list isn't a regular file; list is as it was") == either(LIST)
 
 
 def test_a_link_in_place_of_the_list_is_replaced_and_not_followed(either, room):
@@ -665,7 +665,7 @@ def test_a_full_disk_loses_nothing(either, room):
             results.append(status)
             assert (LIST if status else long) == (room / "disk/list").read_bytes()
             assert {"filling", "list"} == {*shown("disk")} - {"list.statement"}
-            said = "can't (write what came|put the new list in place|lock disk/.list.lock).*; disk/list is as it was"
+            said = "can't (write the new list|put the new list in place|lock disk/.list.lock).*; disk/list is as it was"
             assert not status or re.fullmatch(said, why), why
         assert [1, 0] == [results[0], results[-1]]
 
@@ -784,7 +784,7 @@ def test_a_kill_between_the_list_and_its_statement(fetch, room):
     signer, now = fetch.signer, int(time.time())
     assert (0, "") == fetch(signer.published(LIST, moment=now - 9))
     (room / "list").write_bytes(NEWER)
-    said = "refused as OlderVersion: version 3 came, and 4 is in place; list is as it was"
+    said = "refused as OlderVersion: got version 3, and 4 is in place; list is as it was"
     assert (1, said) == fetch(signer.published(LIST, moment=now), "list", "--metrics", "metrics")
     assert (NEWER, 4, 0) == ((room / "list").read_bytes(), metrics()["office_list_version"],
                              metrics()["office_list_fresh"])

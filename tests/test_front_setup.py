@@ -286,7 +286,7 @@ def test_a_removal_that_was_cut_off_is_finished(setting, is_left):
 @pytest.mark.parametrize("name", ["root", "station", "admin", "watch"])
 def test_what_each_run_makes_does_not_go(setting, name):
     """It would be there again at once, by another key, and somebody would think that it is gone."""
-    with pytest.raises(setting.fault, match=f"{name} is made again by each run: type authority renew .* {name} --rev"):
+    with pytest.raises(setting.fault, match=f"{name} is made again by each run: run authority renew .* {name} --rev"):
         setting("--remove", name)
     assert [] == revoked_in(setting.folder) and (setting.folder / f"{name}.pem").exists()
 

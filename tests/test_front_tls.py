@@ -93,7 +93,7 @@ def test_what_a_killed_run_has_made_is_copied_by_the_next(room, monkeypatch):
 def test_a_machine_without_the_authority_renews_nothing(room, monkeypatch):
     renewing = Renewing(room, monkeypatch, 10)
     (renewing.folder / "ca.key").unlink()
-    with pytest.raises(renewing.script.Fault, match="authority has no authority: type this on the machine that has it"):
+    with pytest.raises(renewing.script.Fault, match="authority has no authority: run this on the machine that has it"):
         renewing()
     assert [] == [*(room / "front").iterdir()]
 

@@ -170,7 +170,7 @@ def test_what_is_as_it_should_be_takes_its_place(given, room):
 
 
 @pytest.mark.parametrize("key, more, why", [
-    ("other.pub", {}, "it is for another key"),
+    ("other.pub", {}, "it is for a different key"),
     ("host.pub", {"principals": "web.example.org"}, "it is for web.example.org"),
     ("host.pub", {"host": ()}, "it is for a user"), ("host.pub", {"days": "+1d:+20d"}, "it isn't valid now"),
     ("host.pub", {"days": "-20d:-1d"}, "it isn't valid now"), ("host.pub", {"days": "-1d:+1h"}, "it ends no later"),
@@ -213,7 +213,7 @@ def test_what_cannot_be_put_in_place_costs_few_serials(given, room):
 
 @pytest.mark.parametrize("amiss, why", [
     (lambda room: (room / "given-cert.pub").write_text("none\n"), "host-cert.new.pub"),
-    (lambda room: certify(room, "host.pub", days="always:forever"), "has no validity that ends"),
+    (lambda room: certify(room, "host.pub", days="always:forever"), "never expires"),
     (lambda room: run(["ssh-keygen", "-q", "-h", "-I", "db/db.example.org", "-V", "-1d:+10d", "-z", "7", "-s",
                        room / "ca", room / "given.pub"], check=True),
      "rejected the new certificate: it is for every host"),
@@ -401,14 +401,15 @@ def link(path, text):
 
 # What the user office-host may put in the place of a certificate, and why root doesn't copy it.
 PUT = [
-    ("a pipe", lambda path, text: os.mkfifo(path), "it is no regular file"),
-    ("a folder", lambda path, text: path.mkdir(), "it is no regular file"),
+    ("a pipe", lambda path, text: os.mkfifo(path), "not a regular file"),
+    ("a folder", lambda path, text: path.mkdir(), "not a regular file"),
     ("a link", link, "Too many levels of symbolic links"),
-    ("two lines", second_line, "it is no certificate"),
-    ("a comment without an end", lambda path, text: path.write_bytes(text[:-1].ljust(16385, b"a")), "it is no certif"),
-    ("no line", lambda path, text: path.write_bytes(text[:-1]), "it is no certificate"),
-    ("a public key", lambda path, text: path.write_bytes(text.replace(b"-cert-v01@openssh.com", b"")), "it is no cert"),
-    ("another file", lambda path, text: path.write_bytes(b"\1\2\n"), "it is no certificate"),
+    ("two lines", second_line, "it isn't a certificate"),
+    ("a comment without an end", lambda path, text: path.write_bytes(text[:-1].ljust(16385, b"a")), "it isn't a cert"),
+    ("no line", lambda path, text: path.write_bytes(text[:-1]), "it isn't a certificate"),
+    ("a public key", lambda path, text: path.write_bytes(text.replace(b"-cert-v01@openssh.com", b"")),
+     "it isn't a cert"),
+    ("another file", lambda path, text: path.write_bytes(b"\1\2\n"), "it isn't a certificate"),
     ("a type of key that no office takes", lambda path, text: path.write_bytes(text.replace(b"ed25519", b"dss", 1)),
      "no office gives a certificate of the type ssh-dss-cert-v01@openssh.com"),
     ("the name of another type", lambda path, text: path.write_bytes(text.replace(b"ed25519", b"rsa", 1)),
@@ -429,7 +430,7 @@ def test_what_is_no_certificate_is_not_copied(copying, given, room, put, why):
 
 
 @pytest.mark.parametrize("key, more, why", [
-    ("other.pub", {}, "it is for another key"), ("host.pub", {"host": ()}, "it is for a user"),
+    ("other.pub", {}, "it is for a different key"), ("host.pub", {"host": ()}, "it is for a user"),
     ("host.pub", {"principals": "web.example.org"}, "it is for web.example.org"),
     ("host.pub", {"days": "+1d:+20d"}, "it isn't valid now"), ("host.pub", {"days": "-20d:-1d"}, "it isn't valid now"),
     ("host.pub", {"ca": "another"}, "this server doesn't trust its CA"),

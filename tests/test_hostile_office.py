@@ -323,7 +323,7 @@ def test_a_silent_name_server_is_given_up(room, line):
     silent_name = {"LD_PRELOAD": str(preloaded("strange_library.c", room)), "SILENT_NAME": "front.test"}
     for words in ("status", "doctor --krl none", "revoke 1 --yes"):
         done = run(client.words("--wait", "2", *words.split()), env=client.environment() | silent_name, timeout=100)
-        assert b"no whole answer came within " in done.stdout + done.stderr and done.returncode in (1, 3), done
+        assert b"no complete answer within " in done.stdout + done.stderr and done.returncode in (1, 3), done
     assert 1 == len(client.kept())
 
 

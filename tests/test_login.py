@@ -257,7 +257,7 @@ def test_a_login_that_fails_is_not_begun_again_for_each(ana, provider):
     (ana.home / "go").touch()
     first, *others = ends_of(begun)
     assert 1 == first[1] and "refused: the provider: access_denied" in first[0][1], first
-    due = "vethlumi: the other login has ended without a certificate: type `vethlumi login`\n"
+    due = "vethlumi: the other login ended without a certificate: run `vethlumi login`\n"
     assert 3 * [(("", due), 1)] == others
     assert 1 == len(ana.windows())
 
@@ -410,7 +410,7 @@ def test_an_address_is_pasted(ana, provider):
     assert "http://127.0.0.1:8400/callback" == query["redirect_uri"]
 
 
-OTHER = "this address isn't that of this login"
+OTHER = "this address belongs to a different login"
 PASTED = {
     "another login's": (lambda where: re.sub(r"state=[^&]*", f"state={'A' * 32}", where) + "\n", 1, OTHER),
     "no state": (lambda where: re.sub(r"&state=[^&]*", "", where) + "\n", 1, OTHER),
@@ -423,7 +423,7 @@ PASTED = {
     "many fields": (lambda where: where + "&a=b" * 100 + "\n", 1, OTHER),
     "longer than any": (lambda where: f"{where}&a={'b' * 20000}\n", 0, ""),
     "another provider's": (lambda where: re.sub(r"iss=[^&]*", "iss=https%3A%2F%2Fevil.example", where) + "\n", 1,
-                           "the answer of the login is another provider's"),
+                           "the answer to the login came from a different provider"),
     "another code": (lambda where: re.sub(r"code=[^&]*", "code=abc", where) + "\n", 1, "the provider: invalid_grant"),
 }
 
@@ -599,7 +599,7 @@ def documents(provider):
     """What a provider may say of itself, each with what is told."""
     good = {"issuer": provider.issuer, "authorization_endpoint": f"{provider.url}/authorize",
             "token_endpoint": f"{provider.url}/token"}
-    other = "the provider names another issuer"
+    other = "the provider's issuer differs"
     yield "slash", good | {"issuer": f"{provider.issuer}/"}, other
     yield "another issuer", good | {"issuer": "https://evil.example"}, other
     yield "no issuer", {it: good[it] for it in good if it != "issuer"}, other
@@ -757,22 +757,22 @@ def changed(line, at):
 
 
 OTHERS = {
-    "another CA": ({"ca": "other"}, None, "isn't known here"),
+    "another CA": ({"ca": "other"}, None, "isn't trusted here"),
     "another department": ({"key_id": "operators/{1}/aaaabbbbccccdddd"}, None, "another department"),
     "a department that begins so": ({"key_id": "people2/{1}/a"}, None, "another department"),
     "a key ID that steers": ({"key_id": "people/{1}/\x1b[2J"}, None, "another department"),
-    "a host's": ({"kind": "host"}, None, "another department or kind"),
+    "a host's": ({"kind": "host"}, None, "its department or kind is a different one"),
     "ended": ({"validity": "-1h:-1s"}, None, "Check this machine's clock"),
     "not yet valid": ({"validity": "+5m:+10h"}, None, "Check this machine's clock"),
     "a changed signature": ({}, lambda line: changed(line, -1), "the signature is false"),
     "a changed validity": ({}, lambda line: changed(line, -150), "a certificate for this login"),
-    "another serial": ({"first": 1}, lambda line: line, "has another serial"),
-    "no line": ({}, lambda line: "hello\n", "the file has no line of a certificate"),
-    "nothing": ({}, lambda line: "", "the file has no line of a certificate"),
-    "a public key": ({}, lambda line: f"ssh-ed25519 {'A' * 68}\n", "the file has no line of a certificate"),
+    "another serial": ({"first": 1}, lambda line: line, "has a different serial"),
+    "no line": ({}, lambda line: "hello\n", "the file has no certificate"),
+    "nothing": ({}, lambda line: "", "the file has no certificate"),
+    "a public key": ({}, lambda line: f"ssh-ed25519 {'A' * 68}\n", "the file has no certificate"),
     "bad base64": ({}, lambda line: f"{line.split()[0]} \x1b[2J\n", "base64 is damaged"),
-    "cut off": ({}, lambda line: f"{line.split()[0]} {line.split()[1][:100]}\n", "the bytes end too early"),
-    "longer": ({}, lambda line: f"{line.split()[0]} {longer(line)}\n", "something follows the signature"),
+    "cut off": ({}, lambda line: f"{line.split()[0]} {line.split()[1][:100]}\n", "the data is truncated"),
+    "longer": ({}, lambda line: f"{line.split()[0]} {longer(line)}\n", "there is data after the signature"),
 }
 
 
@@ -801,7 +801,7 @@ def test_a_certificate_for_another_key_does_not_go_into_the_agent(ana, registrar
     registrar.certificate = lambda asked, *rest: made(
         asked | {"public_key": " ".join((room / "own.pub").read_text().split()[:2])}, *rest)
     status, out, told = ana("login")
-    assert (3, "", []) == (status, out, ana.agent.keys()) and "it is for another key" in told, told
+    assert (3, "", []) == (status, out, ana.agent.keys()) and "it is for a different key" in told, told
 
 
 @pytest.mark.parametrize("validity", ["+50s:+10h", "-1h:+60s"])
@@ -817,18 +817,18 @@ MISTAKES = {
     "provider": ({"provider": ""}, "no sign-on here: `provider` isn't set"),
     "client": ({"client_id": ""}, "no sign-on here: `client_id` isn't set"),
     "department": ({"department": ""}, "no sign-on here: `department` isn't set"),
-    "department's name": ({"department": "people/ana"}, "'people/ana' is no department"),
+    "department's name": ({"department": "people/ana"}, "'people/ana' isn't a valid department"),
     "registrar": ({"registrar": ""}, "no sign-on here: `office` isn't set"),
-    "provider without TLS": ({"provider": "http://login.example.org"}, "is no URL that begins with https://"),
-    "registrar without TLS": ({"registrar": "http://office.example.org"}, "is no URL that begins with https://"),
-    "a host that begins so": ({"provider": "http://localhost.example.org"}, "is no URL that begins with https://"),
-    "ports": ({"ports": "8400;8401"}, "is no list of ports"), "no ports": ({"ports": ""}, "is no list of ports"),
-    "a port that is none": ({"ports": "65536"}, "is no list of ports"),
-    "many ports": ({"ports": ",".join(["8400"] * 17)}, "is no list of ports"),
+    "provider without TLS": ({"provider": "http://login.example.org"}, "isn't a URL that begins with https://"),
+    "registrar without TLS": ({"registrar": "http://office.example.org"}, "isn't a URL that begins with https://"),
+    "a host that begins so": ({"provider": "http://localhost.example.org"}, "isn't a URL that begins with https://"),
+    "ports": ({"ports": "8400;8401"}, "isn't a list of ports"), "no ports": ({"ports": ""}, "isn't a list of ports"),
+    "a port that is none": ({"ports": "65536"}, "isn't a list of ports"),
+    "many ports": ({"ports": ",".join(["8400"] * 17)}, "isn't a list of ports"),
     "scope": ({"scope": "profile"}, "has no word openid"), "no CAs": ({"cas": ""}, "`cas` isn't set"),
     "CAs that aren't there": ({"cas": "/nonexistent"}, "no CA is known here"),
-    "CAs that are none": ({"cas": "/etc/passwd"}, "is no list of CAs' public keys"),
-    "no CA in the file": ({"cas": "empty"}, "is no list of CAs' public keys"),
+    "CAs that are none": ({"cas": "/etc/passwd"}, "has a line that isn't a CA's public key"),
+    "no CA in the file": ({"cas": "empty"}, "has a line that isn't a CA's public key"),
 }
 
 
@@ -858,7 +858,7 @@ def test_several_cas(ana, room):
 @pytest.mark.parametrize("words", [["login"], ["login", "--if-needed"], ["login", "--paste"], ["logout"]], ids=" ".join)
 def test_no_agent(ana, words):
     status, out, told = ana(*words, SSH_AUTH_SOCK="")
-    assert (2, "", "vethlumi: there is no ssh-agent: SSH_AUTH_SOCK isn't set\n") == (status, out, told)
+    assert (2, "", "vethlumi: no ssh-agent: SSH_AUTH_SOCK isn't set\n") == (status, out, told)
     status, out, told = ana(*words, SSH_AUTH_SOCK="/nonexistent")
     assert (2, "") == (status, out) and "vethlumi: the ssh-agent doesn't answer: " in told
     assert [] == ana.windows()
@@ -906,12 +906,12 @@ def test_a_locked_agent(ana):
         time.sleep(0.5)
     assert 0 == locking.wait(20)
     status, out, told = ana("login")
-    assert (2, "") == (status, out) and "the ssh-agent doesn't take the certificate: it is locked" in told, told
+    assert (2, "") == (status, out) and "the ssh-agent refused the certificate: it is locked" in told, told
 
 
 @pytest.mark.parametrize("words", [["login"], ["login", "--if-needed"]], ids=" ".join)
 def test_no_browser(ana, provider, words):
-    told = "vethlumi: there is no browser here: type `vethlumi login --paste`\n"
+    told = "vethlumi: no browser here: run `vethlumi login --paste`\n"
     assert (1, "", told) == ana(*words, BROWSER="")
     assert [] == provider.asked
 
@@ -970,7 +970,7 @@ def test_doctor_says_who_is_logged_in(ana, registrar, room):
     end = re.search(r"Valid: from \S+ to (\S+)", shown(ana.agent.keys(), room))[1]
     assert ("ok", f"people/ana/aaaabbbbccccdddd until {end}Z") == (state, found)
     [(state, found)] = login_lines(SSH_AUTH_SOCK="")
-    assert ("bad", "there is no ssh-agent: SSH_AUTH_SOCK isn't set") == (state, found)
+    assert ("bad", "no ssh-agent: SSH_AUTH_SOCK isn't set") == (state, found)
     ana.write_settings(provider="")
     assert [] == login_lines()
 

@@ -17,9 +17,9 @@ from vethlumi_common.helps import folded, on_a_screen
 
 SAYS = tomllib.loads((TOP / "debian/commands.toml").read_text())
 COMMANDS = [it for it in SAYS if it not in ("sshoffice", "sshstation")]
-# Of a screen, in lines and letters; more have the lists of the client's commands and of what can be installed.
+# Of a screen, in lines and letters; more have the lists of commands.
 LINES, LETTERS = 40, 80
-MORE_LINES = {"vethlumi": 55, "vethlumi-install": 75}
+MORE_LINES = {"vethlumi": 46, "vethlumi-install": 42}
 
 
 def program_of(name):
@@ -47,6 +47,21 @@ def test_a_help_that_leaves_out_notes_says_where_they_are(name):
     has_notes = "\nNotes:\n" in help_of(name, VETHLUMI_MANUAL="1")
     assert has_notes == (help_of(name).splitlines()[-1] == f"The manual page has notes: man {name}")
     assert "\nNotes:\n" not in help_of(name)
+
+
+def names_below(text, *titles):
+    """The names in the lists of a help that have one of these titles."""
+    lists = re.findall(rf"^(?:{'|'.join(titles)}):\n((?:  .*\n)+)", text, re.M)
+    return [it for found in lists for it in re.findall(r"^  ([a-z][a-z-]*)", found, re.M)]
+
+
+def test_the_screen_shows_each_command_of_the_client_once():
+    """Without the second names that two of them have: the manual page says what they are the same as."""
+    whole = help_of("vethlumi", VETHLUMI_MANUAL="1")
+    others = re.findall(r"^  (\w+) +The same as \w+\.$", whole, re.M)
+    assert ["figures", "list"] == others
+    shown = names_below(help_of("vethlumi"), "Certificates", "Sign-on", "Office")
+    assert sorted(shown) == sorted({*names_below(whole, "Commands")} - {*others})
 
 
 # ---- manual pages

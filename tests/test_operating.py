@@ -49,7 +49,7 @@ LINES = [
     ("and that its statement is new", "office_list_fresh 1"),
     ("a certificate of the front that was taken back is refused",
      "front: the certificate is another authority's, has expired or was revoked"),
-    ("the front gives the page for browsers", "<title>SSH certificate office</title>"),
+    ("the front gives the page for browsers", "<title>Vethlumi: SSH certificate office</title>"),
     ("the figures say that the office answers", "office_up 1"),
 ]
 

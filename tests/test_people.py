@@ -126,7 +126,7 @@ def test_a_name_of_two_accounts(leaving):
     office = leaving(f"people/ana/{ANA}", f"people/ana/{LATER}")
     status, out, told = office.leave("ana")
     assert (2, "", []) == (status, out, office.revoked())
-    assert f"several accounts had the name ana: say which by --tag {ANA} or --tag {LATER}, or by --subject" in told
+    assert f"several accounts had the name ana: pass --tag {ANA} or --tag {LATER}, or --subject" in told
     # The first one by half isn't enough.
     office.gone = [f"people/ana/{ANA}"]
     assert 2 == office.leave("ana")[0]
@@ -185,11 +185,13 @@ def test_it_asks_before(leaving):
 
 
 @pytest.mark.parametrize("words, why", [
-    (["zoe"], "no certificate has a key ID DEPARTMENT/zoe/TAG"), (["Ana"], "'Ana' is no name"), (["a/b"], "is no name"),
-    ([41 * "a"], "is no name"), (["a b"], "is no name"), ([""], "is no name"), (["ana\n"], "is no name"),
+    (["zoe"], "no certificate has a key ID DEPARTMENT/zoe/TAG"), (["Ana"], "'Ana' isn't a valid name"),
+    (["a/b"], "isn't a valid name"), ([41 * "a"], "isn't a valid name"), (["a b"], "isn't a valid name"),
+    ([""], "isn't a valid name"), (["ana\n"], "isn't a valid name"),
     (["ana", "--tag", "aaaa"], "--tag with 16 letters"), (["ana", "--tag", ANA.upper()], "--tag with 16 letters"),
     (["ana", "--tag", ANA, "--subject", "a"], "give --subject, or --tag"),
-    (["ana", "--subject", "sub-ana"], "`provider` isn't set"), (["ana", "--department", "a/b"], "is no department"),
+    (["ana", "--subject", "sub-ana"], "`provider` isn't set"),
+    (["ana", "--department", "a/b"], "isn't a valid department"),
 ], ids=str)
 def test_words_that_name_nobody(leaving, words, why):
     office = leaving(f"people/ana/{ANA}")

@@ -106,7 +106,7 @@ def test_another_command_of_the_administrator_is_told(room, settle):
     """sshd takes the first one. What is written is taken back."""
     (room / "conf.d/00-own.conf").write_text("AuthorizedPrincipalsCommand /bin/own %u\n"
                                              "AuthorizedPrincipalsCommandUser nobody\n")
-    with pytest.raises(settle.Fault, match="sshd doesn't take `AuthorizedPrincipalsCommand.* no file before this one"):
+    with pytest.raises(settle.Fault, match="sshd doesn't apply `AuthorizedPrincipalsCommand.* no file before this one"):
         asked(settle, "people")
     assert not settle.SETTINGS.exists()
 
@@ -135,7 +135,7 @@ def test_a_break_glass_that_would_open_nothing_is_told(settle, capsys, glass, is
 @pytest.mark.parametrize("name", ["a b", "-a", "People", "a@b", "", 33 * "a"])
 def test_what_is_no_department_of_people(settle, name):
     given = argparse.Namespace(life="30d", account=[], people=["people", name])
-    with pytest.raises(settle.BadWords, match="no name of a department"):
+    with pytest.raises(settle.BadWords, match="invalid department name"):
         settle.check_words(given)
 
 

@@ -548,7 +548,7 @@ def test_a_guard_that_was_not_begun_publishes_nothing(make_site):
     assert (1, [], said) == site.station().once()
     assert not site.file.exists()
     status, why = site.fetch()
-    assert (1, f"no list came from {site.front.url}; list is as it was") == (status, why[0])
+    assert (1, f"no list from {site.front.url}; list is as it was") == (status, why[0])
 
 
 def test_what_the_guard_meets_is_said(site):
@@ -629,7 +629,7 @@ def test_an_old_file_of_the_front_is_not_taken_again(site, room):
     assert 0 == site.station().once()[0]
     assert (0, []) == site.fetch()
     site.file.write_bytes(old)
-    assert (1, ["refused as OlderVersion: version 3 came, and 4 is in place; list is as it was"]) == site.fetch()
+    assert (1, ["refused as OlderVersion: got version 3, and 4 is in place; list is as it was"]) == site.fetch()
     assert site.office.list == site.got()
 
 

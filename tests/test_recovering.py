@@ -311,10 +311,11 @@ def test_a_department_of_somebody_else_stays(loss):
 
 @pytest.mark.parametrize("change, why", [
     (lambda it: it.partition("[list]")[0], "the file has no list of a server"), (lambda it: "", "has no list"),
-    (lambda it: f"hello\n{it}", "the file isn't one of what is out: it has 'hello'"),
-    (lambda it: it.replace("1 ", "0 ", 1), "it has '0 "), (lambda it: f"{it}hash: SHA256:x\n", "has a line that none"),
+    (lambda it: f"hello\n{it}", "the file has an unexpected line: 'hello'"),
+    (lambda it: it.replace("1 ", "0 ", 1), "unexpected line: '0 "),
+    (lambda it: f"{it}hash: SHA256:x\n", "a list has an unexpected line"),
     (lambda it: it.replace("# KRL version", "# KRL"), "a list has no version"),
-    (lambda it: f"{it}serial: 7-x\n", "a list has a line that none"), (lambda it: f"{it}[guard x]\n", "a list has a "),
+    (lambda it: f"{it}serial: 7-x\n", "a list has an unexpected line"), (lambda it: f"{it}[guard x]\n", "a list has an "),
 ], ids=range(8))
 def test_a_file_that_says_something_else_changes_nothing(loss, change, why):
     loss.copy()
@@ -339,7 +340,7 @@ def test_a_serial_that_somebody_else_takes_meanwhile_ends_it(loss, monkeypatch):
         if loss.office.next() == 1:
             loss.issue("people/eve")
     monkeypatch.setattr(loss.rooted.script.recovering.Recovery, "prepare", slow)
-    with pytest.raises(loss.rooted.script.Fault, match="somebody else has taken the serial 1: type this again"):
+    with pytest.raises(loss.rooted.script.Fault, match="serial 1 was used meanwhile: run this again"):
         loss.recover(text)
 
 

@@ -218,14 +218,14 @@ def folder_server(room):
     made.end()
 
 
-UNREADABLE = "refused as NotAList: ssh-keygen can't read what came"
+UNREADABLE = "refused as NotAList: ssh-keygen can't read the new list"
 # What comes in the place of a list, of which the office's newest and its first are given, and the complaint.
 OTHERS = [
-    ("an error", None, "no list came from {url}"),
+    ("an error", None, "no list from {url}"),
     ("another page", lambda krl, first: b"<html>sign in to the network</html>\n", UNREADABLE),
     ("half a list", lambda krl, first: krl[:60], UNREADABLE),
     ("an empty file", lambda krl, first: b"", UNREADABLE),
-    ("an older list", lambda krl, first: first, "refused as OlderVersion: version 0 came, and 1 is in place"),
+    ("an older list", lambda krl, first: first, "refused as OlderVersion: got version 0, and 1 is in place"),
 ]
 
 
@@ -275,11 +275,11 @@ def test_the_latest_moment_has_a_date(room):
 
 
 ROW = f"{1:19d}  user  signed   {0:12d}  {1:12d}  web/a\n"
-CUT = "the table has no last line with its total: it was cut off, or is none"
+CUT = "the table doesn't end with its total: it was cut off, or isn't a table"
 TABLES = [
     ("a table without its end", 2 * ROW, CUT),
     ("a table that lacks a line", ROW + "total 2 version 0\n", "the table has 1 lines, and its last line says 2"),
-    ("a table with another line", "web/a\ntotal 1 version 0\n", "line 1 is no line of a table"),
+    ("a table with another line", "web/a\ntotal 1 version 0\n", "line 1 isn't a line of a table"),
     ("nothing", "", CUT),
 ]
 

@@ -402,7 +402,7 @@ PENDING = [
 @pytest.mark.parametrize("rows", [it[1] for it in PENDING], ids=[it[0] for it in PENDING])
 def test_what_is_no_list_of_pending_certificates_is_not_followed(alone, rows):
     with Web(response(rows)) as web:
-        said = f"station: {web.url} doesn't answer: what came isn't a list of pending certificates"
+        said = f"station: {web.url} doesn't answer: the answer isn't a list of pending certificates"
         assert (1, [], [said]) == Station(alone, web.url, alone.key).once()
         assert 1 == len(web.requests)
 
@@ -412,7 +412,7 @@ def test_short_lines_take_no_more_memory_than_long_ones(alone):
     with Web(response(b"ab\n" * ((1 << 26) // 3))) as web:
         station = Station(alone, web.url, alone.key)
         station.words = ["prlimit", f"--as={1 << 30}", "--", *station.words]
-        said = f"station: {web.url} doesn't answer: what came isn't a list of pending certificates"
+        said = f"station: {web.url} doesn't answer: the answer isn't a list of pending certificates"
         assert (1, [], [said]) == station.once()
 
 
@@ -456,7 +456,7 @@ NEGATIVE_CHUNK = b"HTTP/1.1 200 OK\r\ntransfer-encoding: chunked\r\n\r\n-5\r\nab
 @pytest.mark.parametrize("answer, why", [
     (response(b"", "302 Found\r\nlocation: http://127.0.0.1:1/"), "302"),
     (response(b"", "302 Found\r\nlocation: http://["), "302"),
-    (response(b"1 " + 64 * b"a" + b"\n", length=500), "half an answer"),
+    (response(b"1 " + 64 * b"a" + b"\n", length=500), "incomplete answer"),
     (response(b"\x1b[2Jrefused\n", "502 Bad Gateway"), "502 ?[2Jrefused"),
     (b"no answer of HTTP\r\n\r\n", None),
     (b"HTTP/1.1 200 OK\r\ntransfer-encoding: chunked\r\n\r\nfff\r\n1 ", None),
@@ -973,8 +973,8 @@ def test_many_are_counted_in_a_line(alone):
 
 def test_the_office_says_why_a_delivery_is_refused(alone):
     with RefusingOffice({1: body(ca=alone.blob)}) as web:
-        said = ["station: the signature of 1 isn't taken: 409 refused 19 Revoked",
-                "station: not signed: 1, its signature isn't taken: 409 refused 19 Revoked: 1"]
+        said = ["station: the signature of 1 isn't accepted: 409 refused 19 Revoked",
+                "station: not signed: 1, its signature isn't accepted: 409 refused 19 Revoked: 1"]
         assert (1, [], said) == Station(alone, web.url, alone.key).once()
 
 
@@ -986,8 +986,8 @@ def test_another_answer_to_a_delivery_than_its_own_is_none(alone, answer):
 
     with Answering({1: body(ca=alone.blob)}) as web:
         why = f"the answer to the delivery is {answer}".replace("\n", "?")
-        said = [f"station: the signature of 1 isn't taken: {why}",
-                f"station: not signed: 1, its signature isn't taken: {why}: 1"]
+        said = [f"station: the signature of 1 isn't accepted: {why}",
+                f"station: not signed: 1, its signature isn't accepted: {why}: 1"]
         assert (1, [], said) == Station(alone, web.url, alone.key).once()
 
 
@@ -1009,7 +1009,7 @@ def test_each_signature_that_is_not_taken_has_a_line(alone, programs):
         web.begins_rounds(2)
         status, out, errors = stopped(process)
     assert (0, []) == (status, out)
-    said = [f"station: the signature of {it} isn't taken: 409 refused 19 Revoked" for it in [*FAR, later]]
+    said = [f"station: the signature of {it} isn't accepted: 409 refused 19 Revoked" for it in [*FAR, later]]
     assert said == [it for it in errors if "the signature of" in it and it.endswith(": 409 refused 19 Revoked")]
 
 
@@ -1056,8 +1056,9 @@ def test_a_signature_that_is_not_taken_is_shown_apart(alone):
     assert (1, []) == (status, out)
     assert [f"station: not signed: 1, 500 reason {it}: {it}" for it in range(1, 21)] + [
         "station: not signed: 2, for other reasons: 21-22"
-    ] + [f"station: not signed: 1, its signature isn't taken: 500 reason {it}: {it + 78}" for it in range(23, 43)] + [
-        "station: not signed: 2, its signature isn't taken, for other reasons: 121-122"] == errors[-42:]
+    ] + [f"station: not signed: 1, its signature isn't accepted: 500 reason {it}: {it + 78}"
+         for it in range(23, 43)] + [
+        "station: not signed: 2, its signature isn't accepted, for other reasons: 121-122"] == errors[-42:]
 
 
 def test_another_key_than_the_cas_delivers_nothing(alone):
@@ -1383,7 +1384,7 @@ def in_place_of(path, put):
 
 @pytest.mark.parametrize("spoil, fault, why", [
     (lambda guard: guard.policy.unlink(), "File", "{guard.policy}: No such file or directory"),
-    (lambda guard: in_place_of(guard.policy, lambda it: it.mkdir()), "File", "{guard.policy} is no regular file"),
+    (lambda guard: in_place_of(guard.policy, lambda it: it.mkdir()), "File", "{guard.policy} isn't a regular file"),
     (lambda guard: in_place_of(guard.policy, lambda it: it.symlink_to("gone")), "File",
      "{guard.policy} is a link to gone: No such file or directory"),
     (lambda guard: guard.permit(f"{'#' * 1023}\n" * 1024 + "\n"), "File",
@@ -1392,7 +1393,7 @@ def in_place_of(path, put):
     (lambda guard: guard.db.rename("elsewhere"), "NotAGuard", "{guard.db}: No such file or directory"),
     (lambda guard: os.link(guard.db, "another"), "Device", "{guard.db} has 2 names, and a guard's file only one"),
     (lambda guard: in_place_of(pathlib.Path(f"{guard.db}-wal"), lambda it: it.mkdir()), "Device",
-     "{guard.db}-wal is no regular file"),
+     "{guard.db}-wal isn't a regular file"),
 ], ids=["no policy", "a folder", "a link", "a long policy", "a bad policy", "no guard", "two names", "no log"])
 def test_it_is_said_which_file_a_guard_cannot_use(alone, programs, spoil, fault, why):
     """The guard names its fault, and the station the file, once: with --once, and if it would go on."""
@@ -1745,7 +1746,7 @@ def test_a_statement_of_another_list_is_not_signed(listing, room, text):
     with ListingOffice({}, listing.list) as web:
         station = Station(listing, web.url, listing.key, lists=listing.lists)
         states(text(digest_of(listing.list)))
-        said = ["station: the list isn't published: what sshstation prints is no statement of this list"]
+        said = ["station: the list isn't published: sshstation's output isn't a statement of this list"]
         assert (1, [], said, []) == (*station.once(), web.published)
         states(f"list {digest_of(listing.list)} 3 1000")
         assert (0, ["published 3"], [], 1) == (*station.once(), len(web.published)), "it takes the right one"
@@ -2037,7 +2038,7 @@ def test_an_agent_without_the_key_signs_nothing(alone, programs, room):
     agent = begin_agent(programs, room / "agent")
     alone.key = ["--agent", alone.ca]
     with FalseOffice({1: body(ca=alone.blob)}) as false:
-        said = ["station: not signed: 1, the agent doesn't sign with this key: 1"]
+        said = ["station: not signed: 1, the agent refused to sign with this key: 1"]
         made = Station(alone, false.url, alone.key)
         assert (1, [], said) == made.once(**agent)
         status, _, errors = made.once(SSH_AUTH_SOCK=str(room / "nobody"))
@@ -2131,8 +2132,8 @@ def test_a_key_in_a_token_signs(make_office, sshstation, sshd, token, room):
 TOKENS_THAT_DO_NOT_SIGN = [
     ("no such key", ["--pkcs11", MODULE, "--id", "02"], "the token has no private keys with the ID 02"),
     ("no such token", ["--pkcs11", MODULE, "--id", "01", "--token", "no"],
-     r"no such token is there: 'ca' in slot \d+"),
-    ("no such slot", ["--pkcs11", MODULE, "--id", "01", "--slot", "7"], r"no such token is there: 'ca' in slot \d+"),
+     r"no such token: 'ca' in slot \d+"),
+    ("no such slot", ["--pkcs11", MODULE, "--id", "01", "--slot", "7"], r"no such token: 'ca' in slot \d+"),
     ("no such module", ["--pkcs11", "none.so", "--id", "01"], r"Load \(none\.so\)"),
 ]
 
@@ -2172,7 +2173,7 @@ def test_the_pin_is_tried_at_no_other_token(sshstation, make_office, token, room
     with FalseOffice({1: body(ca=blob_of(line))}) as false:
         status, out, errors = Station(guard, false.url, key).once(**environment)
         assert (1, [], 1) == (status, out, len(errors))
-        named = re.fullmatch(r"station: not signed: 1, several tokens are there, name one by --token or --slot: "
+        named = re.fullmatch(r"station: not signed: 1, several tokens: choose one with --token or --slot: "
                              r"'(\w+)' in slot (\d+), '(\w+)' in slot (\d+): 1", errors[0])
         assert {"ca", "other"} == {named[1], named[3]}
         slot = {named[1]: named[2], named[3]: named[4]}["ca"]

@@ -274,7 +274,7 @@ def test_known_hosts_may_be_a_link_but_no_other_user_s(client):
     client.own.rename(client.room / "kept/hosts")
     client.own.symlink_to(client.room / "kept/hosts")
     os.chown(client.own, 65534, 65534, follow_symlinks=False)
-    with pytest.raises(client.common.Fault, match="is a link of another user"):
+    with pytest.raises(client.common.Fault, match="is a link that belongs to another user"):
         client.set_up_client("new", before=["new"])
     os.chown(client.own, 0, 0, follow_symlinks=False)
     client.set_up_client("new", before=["new"])

@@ -103,7 +103,7 @@ TIMERS = [
     ("office-list.timer", 120, 20, "docs/THREATS.md", "at the server's next fetch, within two and a half minutes"),
     ("office-ca-keys.timer", 600, 20, "docs/OPERATING.md", "whose fingerprints you have named, every ten minutes"),
     ("office-ca-keys.timer", 600, 20, "docs/THREATS.md", "at the next run of `office-ca-keys`, within ten minutes"),
-    ("vethlumi-host.timer", 60, 10, "docs/OPERATING.md", "looks at the host's certificate each minute"),
+    ("vethlumi-host.timer", 60, 10, "docs/OPERATING.md", "checks the host's certificate each minute"),
     ("vethlumi-figures.timer", 60, 10, "docs/OPERATING.md", "for node_exporter, each minute"),
 ]
 

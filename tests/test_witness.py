@@ -677,7 +677,7 @@ def test_evidence_that_comes_a_moment_later_is_enough(guarded, programs):
 
 @pytest.mark.parametrize("answer, why", [
     (b"HTTP/1.1 200 OK\r\ncontent-length: 16385\r\n\r\n" + 16385 * b"a", "an answer of more than 16384 bytes"),
-    (b"HTTP/1.1 200 OK\r\ncontent-length: 9\r\n\r\na", "half an answer"),
+    (b"HTTP/1.1 200 OK\r\ncontent-length: 9\r\n\r\na", "incomplete answer"),
     (b"HTTP/1.1 302 Found\r\nlocation: /v1/pending\r\ncontent-length: 0\r\n\r\n", "302"),
     (b"HTTP/1.1 500 X\r\ncontent-length: 0\r\n\r\n", "500"),
     (16384 * b"a", "refused as NotWitnessed BadToken, no JWT in compact form"),

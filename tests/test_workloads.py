@@ -79,19 +79,19 @@ def test_a_job_gets_a_certificate_by_its_token(cloud, provider, room, programs):
 
 # The words of the command, and what is said. Nothing is asked for, and no file is made.
 BAD = {
-    "no token": (["--department", "jobs"], "one of --token and --token-command is wanted", 2),
+    "no token": (["--department", "jobs"], "pass either --token or --token-command", 2),
     "two tokens": (["--department", "jobs", "--token", "token", "--token-command", "cat token"],
-                   "one of --token and --token-command is wanted", 2),
+                   "pass either --token or --token-command", 2),
     "no department": (["--token", "token"], "department", 2),
     "no file": (["--department", "jobs", "--token", "nowhere"], "nowhere: No such file or directory", 2),
-    "an empty file": (["--department", "jobs", "--token", "empty"], "empty gives no token", 2),
-    "two words": (["--department", "jobs", "--token", "two"], "two gives no token", 2),
-    "a long one": (["--department", "jobs", "--token", "long"], "long gives no token", 2),
+    "an empty file": (["--department", "jobs", "--token", "empty"], "empty has no token", 2),
+    "two words": (["--department", "jobs", "--token", "two"], "two has no token", 2),
+    "a long one": (["--department", "jobs", "--token", "long"], "long has no token", 2),
     "a command that fails": (["--department", "jobs", "--token-command", "echo secret; echo why >&2; exit 3"],
-                             "the command for a token fails: why", 3),
+                             "the token command failed: why", 3),
     "a command that fails without a word": (["--department", "jobs", "--token-command", "echo secret; exit 3"],
-                                            "the command for a token fails: status 3", 3),
-    "a command that says nothing": (["--department", "jobs", "--token-command", "true"], "the command gives no token",
+                                            "the token command failed: status 3", 3),
+    "a command that says nothing": (["--department", "jobs", "--token-command", "true"], "the command has no token",
                                     2),
     "another key": (["--department", "jobs", "--token", "token"], "the registrar: BadToken: the token isn't valid", 1),
     "another department": (["--department", "none", "--token", "token"], "the registrar: NoDepartment", 1),
@@ -128,7 +128,7 @@ def test_a_certificate_of_another_ca_is_not_taken(cloud, provider, room, program
     (room / "cas").write_text((room / "other.pub").read_text())
     (room / "token").write_text(job(provider, workload("key.pub", "--audience")[1].strip()))
     status, out, errors = workload("key.pub", "--department", "jobs", "--token", "token")
-    assert (3, "") == (status, out) and "which isn't known here" in errors and not (room / "key-cert.pub").exists()
+    assert (3, "") == (status, out) and "isn't trusted here" in errors and not (room / "key-cert.pub").exists()
 
 
 # ---- hosts
@@ -194,7 +194,7 @@ def test_a_host_takes_no_certificate_of_another_department(cloud, provider, room
     shim.write_text(f'#!/bin/sh\nwhile [ $# -gt 1 ]; do [ "$1" != --out ] || cp {host.present} "$2"; shift; done\n')
     settle(host, cloud, command, department_name="others")
     status, told = host()
-    assert 1 == status and "it is of another department: hosts/web.example.org/" in told
+    assert 1 == status and "it belongs to a different department: hosts/web.example.org/" in told
     assert kept == host.present.read_bytes()
 
 

@@ -47,16 +47,12 @@ LONGEST, LONGEST_STOP = 1 << 26, 900
 
 def options(parser):
     parser.add_argument("--department", metavar="NAME",
-                        help="the department for users, or with add-caller, remove-caller and enrolment one of hosts "
-                             "[default: people, or the only one; to remove, all; for enrolment hosts]")
+                        help="the department [default: people; hosts, for enrolment]")
     parser.add_argument("--server", action="append", default=[], metavar="MACHINE",
-                        help="with add-user, remove-user and leave: a server on which the account is created, or ended "
-                             "with its sessions; with recover, one whose list is read; may be repeated")
-    parser.add_argument("--client", metavar="MACHINE",
-                        help="with add-user and add-caller: the machine to set up for NAME, with a bundle by which "
-                             "NAME requests certificates")
-    parser.add_argument("--most", metavar="N", help="with recover: how many serials may be missing")
-    parser.add_argument("--to", metavar="N", help="with recover: only up to this serial")
+                        help="an account's server, or one to recover from (repeatable)")
+    parser.add_argument("--client", metavar="MACHINE", help="the machine to set up for a new user or caller")
+    parser.add_argument("--most", metavar="N", help="how many serials may be missing, for `recover`")
+    parser.add_argument("--to", metavar="N", help="the last serial to recover")
 
 
 def check(given):
@@ -70,7 +66,7 @@ def check(given):
         if getattr(given, name) and job not in jobs:
             raise BadWords(f"{job} takes no --{name}")
     if given.department and not NAME.fullmatch(given.department):
-        raise BadWords(f"no name of a department: {given.department!r}")
+        raise BadWords(f"invalid department name: {given.department!r}")
     # Without a machine there is nothing to set up.
     is_without = job in ("add-user", "add-caller") and not given.client
     if given.further and (job not in SET_UPS or is_without):
@@ -78,7 +74,7 @@ def check(given):
     if given.ca and is_without:
         raise BadWords(f"{job} takes no --ca without --client")
     if job == "add-user" and given.client and (who in OF_SET_UP or not NAME.fullmatch(who)):
-        raise BadWords(f"{who} is no name of a caller, so leave out --client")
+        raise BadWords(f"{who} isn't a valid caller name: leave out --client")
     if job in ("remove-caller", "leave") and (given.caller or who) in OF_SET_UP:
         raise BadWords(f"{given.caller or who} is a name that set-up makes, and nobody's who leaves")
     if job in ("add-caller", "remove-caller", "leave") and not NAME.fullmatch(given.caller or who):
@@ -87,7 +83,7 @@ def check(given):
     if job in ("add-user", "remove-user", "leave") and not USER.fullmatch(who):
         raise BadWords(f"no name of a user: {who!r}")
     if given.server and job != "recover" and not ACCOUNT.fullmatch(who):
-        raise BadWords(f"{who} is no name of an account, so leave out --server")
+        raise BadWords(f"{who} isn't a valid account name: leave out --server")
     if job == "recover" and not given.server:
         raise BadWords("recover needs --server: a machine that has the list of revoked certificates")
     for name in ("most", "to"):
@@ -148,6 +144,6 @@ def recover(given, machines):
     def read():
         guards = machines["station"].run("sh", "-c", GUARDS, seconds=LONGEST_STOP, most=LONGEST)
         if not is_known(guards):
-            raise Fault(f"{machines['station'].host} has no guard, or says something else than what it has approved")
+            raise Fault(f"{machines['station'].host} has no guard, or its answer isn't a list of what it approved")
         return guards + "".join(it.run("sh", "-c", LIST, most=LONGEST) for it in machines["servers"])
     return words, read

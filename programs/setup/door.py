@@ -12,7 +12,7 @@ from setting_up import Fault
 DOOR = "/run/office-door.sock"
 # In seconds: how long one answer may take, and how long the same is asked again until one comes.
 LONGEST_ANSWER, LONGEST_WAIT = 60, 60
-AWAY = "see journalctl -u office, and type this again"
+AWAY = "see journalctl -u office, and run this again"
 
 
 class Refused(Fault):
@@ -48,7 +48,7 @@ class Door:
             asked.request("POST" if message else "GET", path, message)
             answer = asked.getresponse()
             if answer.length is None:
-                raise http.client.HTTPException("what came was cut off")
+                raise http.client.HTTPException("the answer was cut off")
             return answer.status, answer.read()
 
     def answered(self, path, message=None):
@@ -90,9 +90,9 @@ class Door:
     def put(self, name, old, new):
         """Has the office take a department, if it has the old one still."""
         if self.department(name) not in (old, new):
-            raise Fault(f"somebody has changed the department {name} meanwhile: type this again")
+            raise Fault(f"the department {name} was changed meanwhile: run this again")
         if self.department(name) != new and self.send(new) != f"department {name}\n":
-            raise Fault(f"the office doesn't take the department {name}")
+            raise Fault(f"the office refused the department {name}")
 
     def department(self, name):
         text = self.departments()

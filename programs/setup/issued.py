@@ -65,7 +65,7 @@ def principals_of(body):
         it.string()
         return [name.decode(errors="replace") for name in it.strings()]
     except BadFormat:
-        raise Fault("a certificate of the office ends too early") from None
+        raise Fault("a certificate of the office is truncated") from None
 
 
 def principals_in(door, kind):

@@ -84,12 +84,12 @@ class Policy:
         users = self.of_kind("user")
         if named:
             if named not in users:
-                raise Fault(f"there is no department {named} for users, but {', '.join(users) or 'none'}")
+                raise Fault(f"there is no department {named} for users. Departments: {', '.join(users) or 'none'}")
             return named
         if "people" in users:
             return "people"
         if len(users) != 1:
-            raise BadWords(f"name the department by --department: {', '.join(users) or 'there is none for users'}")
+            raise BadWords(f"choose the department with --department: {', '.join(users) or 'there is none for users'}")
         return users[0]
 
     def administered(self, named):
@@ -126,7 +126,7 @@ def check_caller(caller):
     if not setting_up.NAME.fullmatch(caller) or caller.startswith("host-"):
         raise BadWords(f"no name of a caller: {caller!r}: 1 to 32 of a-z, 0-9 and -, and not with host- before it")
     if caller in ("root", "station", "server"):
-        raise BadWords(f"{caller} is no caller's name")
+        raise BadWords(f"{caller} isn't a valid caller name")
 
 
 # ---- what comes and goes

@@ -1,4 +1,4 @@
-"""Policies as set-up commands see them: the departments in one, which line of it isn't valid, and how two texts of a
+"""Policies as set-up commands read them: the departments in one, which line of it isn't valid, and how two texts of a
 department differ. docs/FORMATS.md has the form of each line.
 """
 import collections

@@ -60,7 +60,7 @@ class List:
             elif (found := KEY_ID.fullmatch(line)) and ca:
                 self.key_ids[found[1]] = ca
             elif line and not line.startswith("# "):
-                raise Fault(f"a list has a line that none of an office has: {line[:80]!r}")
+                raise Fault(f"a list has an unexpected line: {line[:80]!r}")
         if self.version is None:
             raise Fault("a list has no version")
         self.ascending = sorted(self.runs)
@@ -85,7 +85,7 @@ class Known:
             elif part and (found := BODY.fullmatch(line)):
                 self.approved[int(found[1])] = part, found[2], found[3]
             elif line:
-                raise Fault(f"the file isn't one of what is out: it has {line[:80]!r}")
+                raise Fault(f"the file has an unexpected line: {line[:80]!r}")
         self.lists = [List(it) for it in self.lists]
         if not self.lists:
             raise Fault("the file has no list of a server")
@@ -117,7 +117,7 @@ def own_list(office):
     told = subprocess.run(["ssh-keygen", "-Q", "-l", "-f", "/dev/stdin"], input=office.read("/v1/krl"),
                           capture_output=True)
     if told.returncode:
-        raise Fault(f"ssh-keygen doesn't read the office's list: {told.stderr.decode(errors='replace').strip()}")
+        raise Fault(f"ssh-keygen can't read the office's list: {told.stderr.decode(errors='replace').strip()}")
     return List(told.stdout.decode().splitlines())
 
 
@@ -156,7 +156,7 @@ class Recovery:
         """Sees that the serials can be taken: by the CAs that have used them, and not too many."""
         if len(self.gap) > most:
             raise Fault(f"{len(self.gap)} serials are missing, from {self.next} to {self.highest}: if that is right, "
-                        f"say so by --most {len(self.gap)}")
+                        f"pass --most {len(self.gap)}")
         for serial, ca in sorted(self.known.serials()):
             due = next((it[2] for it in reversed(self.cas) if int(it[1]) <= serial), self.cas[0][2])
             if ca != due and serial <= self.highest:
@@ -206,7 +206,7 @@ class Recovery:
         reply = self.office.send(ISSUE.format(department=DEPARTMENT, serial=self.next, key=key, after=tomorrow,
                                               before=tomorrow + 1))
         if not reply.startswith(f"issued {self.next}\n"):
-            raise Fault(f"somebody else has taken the serial {self.next}: type this again")
+            raise Fault(f"serial {self.next} was used meanwhile: run this again")
         self.left.append(self.next)
         self.next += 1
 
@@ -244,7 +244,7 @@ def is_front(state):
 def recover(given, steps, office):
     known = read_known(given.name)
     if given.name == "-" and not given.yes:
-        raise BadWords("give --yes: nobody can be asked while the file is read")
+        raise BadWords("the file is standard input, so nothing can be confirmed. Pass --yes")
     it = Recovery(office, known, given)
     is_needed = it.is_needed()
     if is_needed:
@@ -253,7 +253,7 @@ def recover(given, steps, office):
     try:
         steps.carry_out()
     except Fault:
-        tell("the front may be stopped: it starts once this has been typed again, and is done")
+        tell("the front may be stopped: it starts again once a run of this has ended well")
         raise
     lost = it.lost()
     for line in issued.shown(lost):

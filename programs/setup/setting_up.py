@@ -79,7 +79,7 @@ def read_bundle(path):
     for line in text.splitlines():
         heading = re.fullmatch(r"\[([a-z]+)\]", line)
         if heading and heading[1] not in PARTS:
-            raise Fault(f"{path} is no bundle: it has a part {line}")
+            raise Fault(f"{path} isn't a valid bundle: it has a part {line}")
         if heading:
             part = heading[1]
             headings.add(part)
@@ -87,11 +87,11 @@ def read_bundle(path):
             found[part] = f"{found.get(part, '')}{line}\n"
     for line in found.get("ca", "").splitlines():
         if not CA_LINE.fullmatch(line):
-            raise Fault(f"{path} is no bundle, and has a line that is no CA's public key: {line[:60]!r}")
+            raise Fault(f"{path} isn't a valid bundle: this line isn't a CA's public key: {line[:60]!r}")
     if not found:
         raise Fault(f"{path} is empty")
     if "ca" in headings and headings - {"ca", "policy"}:
-        raise Fault(f"{path} is no bundle: it has a part [ca], which only a station makes")
+        raise Fault(f"{path} isn't a valid bundle: it has a part [ca], which only a station makes")
     for name in FORMS:
         if name in found:
             check_line(name, found[name].strip())
@@ -278,7 +278,7 @@ def answer(question, given, default=None, option="--help"):
             return told or default
     elif default:
         return default
-    raise BadWords(f"{question}? Nobody answers here: give {option}")
+    raise BadWords(f"{question}? Not a terminal. Pass {option}")
 
 
 def run(words, shown=None, **how):
@@ -412,7 +412,7 @@ class Steps:
             tell(f"  {what}")
         if not self.given.yes:
             if not sys.stdin.isatty():
-                raise BadWords("nobody can be asked here: give --yes")
+                raise BadWords("Not a terminal. Pass --yes to confirm.")
             if input("Go on? [y/N] ").strip().lower() not in ("y", "yes"):
                 raise Fault("nothing was done")
         for folder, mode in self.folders.items():
@@ -498,7 +498,7 @@ def main(program, doc, options, do, is_for_root=True, passes_on=False):
         parser.error(f"unrecognized arguments: {' '.join(given.further)}")
     try:
         if is_for_root and os.getuid():
-            raise Fault("only root may do this")
+            raise Fault("this has to be run as root")
         do(given, Steps(given, program))
     except (Fault, EOFError, KeyboardInterrupt) as fault:
         tell(f"{program}: {fault or 'given up'}")

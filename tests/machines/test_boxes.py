@@ -458,7 +458,7 @@ def test_a_restore_changes_nothing_elsewhere(site, office):
 @pytest.mark.parametrize("spoil, why", [
     ("truncate -s 8192 bad.db", "is not sound"),
     ("head -c 9000 /dev/urandom >bad.db", "is not sound: "),
-    ("rm bad.db && sqlite3 bad.db 'CREATE TABLE other (x)'", "is no office that this sshoffice serves"),
+    ("rm bad.db && sqlite3 bad.db 'CREATE TABLE other (x)'", "isn't a database that this sshoffice can serve"),
     (": >bad.db", "can't read bad.db, or it is empty"),
 ], ids=["cut off", "noise", "another database", "empty"])
 def test_a_bad_copy_is_not_restored(site, office, spoil, why):

@@ -244,15 +244,16 @@ def test_each_command_has_a_manual_page_with_its_options(unpacked):
         assert [] == sorted(it for it in options if it not in text), command.name
 
 
-def help_of(unpacked, command, *words):
-    environment = os.environ | {"PYTHONPATH": str(unpacked / "usr/lib/python3/dist-packages"), "COLUMNS": "80"}
+def help_of(unpacked, command, *words, **more):
+    environment = os.environ | more | {"PYTHONPATH": str(unpacked / "usr/lib/python3/dist-packages"), "COLUMNS": "80"}
     # Those in Python look only where their packages would be.
     python = ["/usr/bin/python3", "-B"] if command.read_bytes().startswith(b"#!/usr/bin/python3") else []
     return run([*python, command, *words, "--help"], env=environment, check=True).stdout.decode()
 
 
 def test_each_command_of_the_client_has_a_manual_page(unpacked):
-    found = re.search(r"^Commands:\n((?:  .*\n)+)", help_of(unpacked, unpacked / "usr/bin/vethlumi"), re.M)[1]
+    whole = help_of(unpacked, unpacked / "usr/bin/vethlumi", VETHLUMI_MANUAL="1")
+    found = re.search(r"^Commands:\n((?:  .*\n)+)", whole, re.M)[1]
     names = re.findall(r"^  ([a-z]+) ", found, re.M)
     assert {"request", "renew", "revoke", "department", "doctor", "list", "krl", "figures", "metrics"} < {*names}
     for name in [*names, "department-put", "department-show", "department-diff"]:
@@ -322,7 +323,7 @@ def test_a_bundle_is_read_as_it_was_written_behind_keys_of_cas(room):
 
 @pytest.mark.parametrize("text, told", [
     ("", "is empty"), ("[nothing]\n", "it has a part [nothing]"),
-    ("ssh-rsa AAAA\n[office]\nhttps://a\n", "no CA's public key"), (f"{CA}A\n", "no CA's public key"),
+    ("ssh-rsa AAAA\n[office]\nhttps://a\n", "isn't a CA's public key"), (f"{CA}A\n", "isn't a CA's public key"),
     # What somebody could put there who holds the front: lines for settings, another folder, a CA of their own.
     ("[office]\nhttps://a:8443\nLIST_FROM=--unsigned\n", "no URL of a front"),
     ("[office]\nhttps://a\"\n", "no URL of a front"), ("[caller]\n../a\n", "no name of a caller"),
@@ -487,7 +488,7 @@ def test_a_front_without_a_certificate_gets_one(room, authority):
     """As after a kill, when the authority's key is in place and the certificate isn't yet."""
     do, fault = authority
     (room / "authority/server.crt").unlink()
-    with pytest.raises(fault, match="no certificate of the front yet: name its HOST"):
+    with pytest.raises(fault, match="the front has no certificate yet: pass its HOST"):
         do()
     assert ["make the front's certificate again, for front.example.org"] == do("front.example.org")
     assert (room / "authority/server.crt").exists() and [] == do()
@@ -507,12 +508,13 @@ def test_what_is_no_host_of_a_front(room, hosts):
     ("station", ["--first", "9223372036854775807"], "a serial is a number"),
     ("station", ["--first", "\u0661"], "a serial is a number"), ("station", ["--nothing"], "unrecognized arguments"),
     ("station", ["--name", "-a"], "expected one argument"), ("station", ["--name=-a"], "doesn't begin with -: -a"),
-    ("station", ["--name=a/b"], "1 to 32 of a-z"), ("station", ["--name", "cas"], "that of another file"),
+    ("station", ["--name=a/b"], "1 to 32 of a-z"), ("station", ["--name", "cas"], "already used by another file"),
     ("office", ["--first", "1x", "a"], "a serial is a number"), ("office", [], "required: FILE"),
     ("office", ["--first", "9", "--last", "8", "a"], "--first 9 is above --last 8"),
     ("server", ["--life", "30"], "--life is a number followed by s, m, h, d or w: 30"),
-    ("server", ["--account", "a b"], "no name of an account: 'a b'"), ("server", ["--account=-r"], "no name of an"),
-    ("server", ["--account", "a:0"], "no name of an account"), ("server", ["--cacert", "nothing"], "no file: nothing"),
+    ("server", ["--account", "a b"], "invalid account name: 'a b'"),
+    ("server", ["--account=-r"], "invalid account name"),
+    ("server", ["--account", "a:0"], "invalid account name"), ("server", ["--cacert", "nothing"], "no file: nothing"),
     ("client", [], "required: BUNDLE"), ("client", ["a", "b"], "unrecognized arguments: b"),
 ], ids=str)
 def test_bad_words_set_nothing_up(room, command, words, why):
@@ -879,7 +881,7 @@ def check_a_killed_first_list(made, hangs, is_made):
 
 
 @pytest.mark.parametrize("content, why", [
-    (b"damaged", "ssh-keygen doesn't read "), (published(((0x11, {1}),), set()), "the list revokes something already"),
+    (b"damaged", "ssh-keygen can't read "), (published(((0x11, {1}),), set()), "the list revokes something already"),
     # Of a line for each of many serials the first one is read.
     (published(((0x11, {*range(1, 100_001, 2)}),), set()), "and approve it yourself; serial: 1\n"),
     (bytes((1 << 25) + 1), "the office's list is longer than 32 MiB"),
@@ -1156,7 +1158,8 @@ def test_a_policy_that_somebody_has_spoilt_sets_nothing_up(room, kept_policy, ch
     text = station.policy_of(policy_words())
     do(text)
     files = {it.name: it.read_bytes() for it in room.iterdir() if it.is_file() and it.suffix != ".policy"}
-    with pytest.raises(station.Fault, match=re.escape(f"{room}/first.policy is no policy: ") + ".*" + re.escape(why)):
+    with pytest.raises(station.Fault, match=re.escape(f"{room}/first.policy isn't a valid policy: ") + ".*"
+                       + re.escape(why)):
         do(text.replace(*change))
     assert files == {it.name: it.read_bytes() for it in room.iterdir() if it.is_file() and it.suffix != ".policy"}
     assert text.replace(*change) == (room / "first.policy").read_text()
@@ -1167,7 +1170,7 @@ def test_a_policy_that_is_too_long_is_none(room, kept_policy):
     station, do = kept_policy
     text, most = station.policy_of(policy_words()), station.LONGEST_POLICY
     do(f"#{(most - len(text) - 2) * 'a'}\n{text}")
-    with pytest.raises(station.Fault, match="first.policy is no policy: it has more than 1048576 bytes"):
+    with pytest.raises(station.Fault, match="first.policy isn't a valid policy: it has more than 1048576 bytes"):
         do(f"#{(most - len(text) - 1) * 'a'}\n{text}")
 
 
@@ -1255,7 +1258,7 @@ def test_nothing_is_made_before_somebody_agrees(room):
     steps = common.Steps(argparse.Namespace(yes=False), "set-up")
     steps.folders[room / "a/b"] = 0o700
     steps.file(room / "a/b/file", "one\n")
-    with pytest.raises(common.BadWords, match="nobody can be asked here"):
+    with pytest.raises(common.BadWords, match="Not a terminal"):
         steps.carry_out()
     assert [] == [*room.iterdir()]
     steps.given.yes = True
@@ -1288,13 +1291,13 @@ def test_a_set_up_waits_a_minute_for_the_first_list(monkeypatch, comes_at):
     def start(unit):
         asked.append(unit)
         if comes_at is None or now[0] < comes_at:
-            raise common.Fault("no list came")
+            raise common.Fault("no list")
 
     def sleep(seconds):
         now[0] += seconds
     monkeypatch.setattr(common, "start", start)
     monkeypatch.setattr(common, "time", types.SimpleNamespace(monotonic=lambda: now[0], sleep=sleep))
-    with contextlib.nullcontext() if comes_at is not None else pytest.raises(common.Fault, match="no list came"):
+    with contextlib.nullcontext() if comes_at is not None else pytest.raises(common.Fault, match="no list"):
         common.fetch_list()
     assert ({"office-list.service"}, True) == ({*asked}, now[0] == comes_at if comes_at is not None else 60 <= now[0])
 
@@ -1493,7 +1496,7 @@ def test_a_set_up_asks_or_wants_yes(room):
     steps.file(room / "file", "one\n")
     done = run(["/usr/bin/python3", "-B", "-c", SET_UP_ALONE, PROGRAMS / "setup", room / "file"])
     assert (2, False) == (done.returncode, (room / "file").exists())
-    assert b"write" in done.stderr and b"give --yes" in done.stderr
+    assert b"write" in done.stderr and b"Pass --yes" in done.stderr
 
 
 @pytest.mark.parametrize("typed_, due", [("y\n", "one\n"), ("\n", None), ("yes\n", "one\n"), ("\x04", None)],
@@ -1518,7 +1521,7 @@ def test_what_nobody_gave_is_asked_at_a_terminal(monkeypatch):
                                        common.answer("Whom", None))
     monkeypatch.setattr(common.sys.stdin, "isatty", lambda: False)
     assert "ana" == common.answer("Who", None, "ana")
-    with pytest.raises(common.Fault, match="Whom[?] Nobody answers here: give --whom"):
+    with pytest.raises(common.Fault, match="Whom[?] Not a terminal. Pass --whom"):
         common.answer("Whom", None, option="--whom")
 
 
@@ -1565,17 +1568,17 @@ def test_a_server_is_set_up_once_sshd_reads_the_list(room, settle):
     for line in ("RevokedKeys none", "RevokedKeys /etc/old.krl", "TrustedUserCAKeys /etc/old.pub"):
         (room / "conf.d/00-old.conf").write_text(f"{line}\n")
         name = line.split()[0]
-        with pytest.raises(fault, match=f"sshd doesn't take `{name} .*no file before this one may have {name}"):
+        with pytest.raises(fault, match=f"sshd doesn't apply `{name} .*no file before this one may have {name}"):
             do()
         assert settings == (room / "conf.d/vethlumi.conf").read_text()
         (room / "conf.d/vethlumi.conf").unlink()
-        with pytest.raises(fault, match=f"sshd doesn't take `{name} "):
+        with pytest.raises(fault, match=f"sshd doesn't apply `{name} "):
             do()
         assert not (room / "conf.d/vethlumi.conf").exists(), "they are taken back"
         (room / "conf.d/00-old.conf").unlink()
         do()
     (room / "sshd_config").write_text("")
-    with pytest.raises(fault, match="sshd_config has to include its folder"):
+    with pytest.raises(fault, match="sshd_config has to include"):
         do()
 
 
@@ -1784,7 +1787,7 @@ def test_what_machines_make_is_carried_to_others(installing):
     assert 0 == status, told
     assert ("--hosts", "*.org", "--yes", "-", f"{CA} first\n{bundle()}") == said[-1]
     status, told, said = installing(*CLIENT)
-    assert (2, True) == (status, "nobody can be asked here" in told)
+    assert (2, True) == (status, "Not a terminal. Pass --yes to confirm." in told)
     assert [] == [it for it in said if it[-1].endswith(".bundle")]
 
 
@@ -1874,7 +1877,7 @@ def test_what_names_the_cas_that_a_machine_trusts(room):
     (["office", "o"], "give --station too"), (["server", "s", "--station", "s"], "give --office too"),
     (["station", "-s"], "station needs MACHINE"), (["station", "s."], "no machine"), (["station", ".s"], "no machine"),
     (["station", "\u0455"], "no machine"), (["station", "s\n"], "no machine"), (["station", 254 * "s"], "no machine"),
-    ([*CLIENT, "--name", "first"], "client takes no --name"), (["station", "s", "--name", "a/b"], "no name of a key"),
+    ([*CLIENT, "--name", "first"], "client takes no --name"), (["station", "s", "--name", "a/b"], "invalid key name"),
     ([*CLIENT, "--first", "7"], "client takes no --first"), (["station", "s", "--first", "0"], "a serial is a number"),
     (["station", "s", "--caller", "ana"], "station takes no --caller"), ([*CLIENT, "--caller", "-a"], "expected one"),
     ([*CLIENT, "--caller", "a/b"], "no name of a caller"), ([*CLIENT, "--caller", "station"], "station isn't somebody"),
@@ -2067,12 +2070,12 @@ NOT_THERE = r".* test -e \S+/{} && echo yes \|\| true"
 @pytest.mark.parametrize("words, answers, why", [
     # A machine that isn't set up yet.
     (["office", "o", "--station", "s", "--yes"], {NOT_THERE.format("cas.pub"): ""},
-     "s has no /etc/vethlumi/station/cas.pub: first type vethlumi-install station s"),
+     "s has no /etc/vethlumi/station/cas.pub: first run vethlumi-install station s"),
     (["office", "o", "--station", "s", "--yes"], {KEYS_OF: ""},
-     "s has no /etc/vethlumi/station/NAME.office: first type vethlumi-install station s"),
+     "s has no /etc/vethlumi/station/NAME.office: first run vethlumi-install station s"),
     # Several keys, none of which signs, or one that isn't there. The new one after a lost CA, which has no part yet.
     (["office", "o", "--station", "s", "--yes"], {KEYS_OF: "+second\nfirst\n"},
-     "s has no /etc/vethlumi/station/second.office: first type vethlumi-install station s --name second"),
+     "s has no /etc/vethlumi/station/second.office: first run vethlumi-install station s --name second"),
     (["office", "o", "--station", "s", "--yes"], {KEYS_OF: "first\nsecond\n"},
      "s has several keys, and the unit of none is enabled: name one by --name: first, second"),
     # The only key was lost, and its unit is off: it would be started again.
@@ -2080,7 +2083,7 @@ NOT_THERE = r".* test -e \S+/{} && echo yes \|\| true"
      "s has signed before, and the unit of no key is enabled: name the key that is to sign by --name, and none whose "
      "CA was lost: first"),
     (["office", "o", "--station", "s", "--name", "third", "--yes"], {KEYS_OF: "+first\nfirst\n"},
-     "s has no /etc/vethlumi/station/third.office: first type vethlumi-install station s --name third"),
+     "s has no /etc/vethlumi/station/third.office: first run vethlumi-install station s --name third"),
     (["server", "c", *CLIENT[1:], "--yes"], {NOT_THERE.format("station.bundle"): ""},
      "first type vethlumi-install office o"),
     # A station's machine that gives something else, or an office's that brings a CA of its own.
@@ -2440,7 +2443,7 @@ def test_a_host_renews_its_certificate_by_its_timer(fleet):
     assert [f"hostcertificate {copy}", "trustedusercakeys /etc/vethlumi/trusted-cas"] == server.says(
         "sshd -T | grep -E '^(hostcert|trustedca|trusteduserca)' | sort").splitlines()
     assert "root 644" == server.says(f"stat -c '%U %a' {copy}")
-    for put, why in (("echo damaged >", "it is no certificate"), ("rm -f {0}; mkfifo ", "it is no regular file")):
+    for put, why in (("echo damaged >", "it isn't a certificate"), ("rm -f {0}; mkfifo ", "not a regular file")):
         server.run(f"runuser -u office-host -- sh -c '{put}{{0}}'".format("/var/lib/office-host/host-cert.pub"))
         told = server.run("vethlumi-host --reload", False)
         assert 1 == told.returncode and f"isn't read: {why}" in told.stdout
@@ -2507,7 +2510,7 @@ def test_a_lost_ca_is_not_passed_on(fleet):
     assert "second.office" not in admin.run(install("station", "station", "")), "nothing has changed"
     station.run("rm /etc/vethlumi/station/second.office")
     told = admin.run(f"{install('office', 'office', of_office).strip()} || true\n")
-    assert "has no /etc/vethlumi/station/second.office: first type vethlumi-install station" in told
+    assert "has no /etc/vethlumi/station/second.office: first run vethlumi-install station" in told
     assert "write /etc/vethlumi/station/second.office" in admin.run(install("station", "station", ""))
     assert second == office.says("cat /etc/vethlumi/front/ca-keys")
 

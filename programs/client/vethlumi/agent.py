@@ -22,7 +22,7 @@ LONGEST_LIFE = 2 ** 32 - 1
 def path():
     found = os.environ.get("SSH_AUTH_SOCK")
     if not found:
-        raise BadSettings("there is no ssh-agent: SSH_AUTH_SOCK isn't set")
+        raise BadSettings("no ssh-agent: SSH_AUTH_SOCK isn't set")
     return found
 
 
@@ -45,7 +45,7 @@ def certificates():
     """The Ed25519 certificates that the agent has: the bytes, the fields and the comment of each."""
     kind, reply = asked(LIST)
     if kind != KEYS:
-        raise BadSettings("the ssh-agent doesn't say which keys it has")
+        raise BadSettings("the ssh-agent didn't list its keys")
     found = []
     try:
         pairs = [(reply.string(), reply.string()) for _ in range(reply.number(4))]
@@ -64,7 +64,7 @@ def add(seed, blob, comment, seconds):
     kind, _ = asked(ADD, b"".join(map(string, (CERTIFICATE_TYPE, blob, public, seed + public, comment.encode())))
                     + bytes([LIFETIME]) + min(seconds, LONGEST_LIFE).to_bytes(4))
     if kind != SUCCESS:
-        raise BadSettings("the ssh-agent doesn't take the certificate: it is locked, or takes none with a lifetime")
+        raise BadSettings("the ssh-agent refused the certificate: it is locked, or doesn't support lifetimes")
 
 
 def remove(blob):

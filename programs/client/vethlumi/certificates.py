@@ -75,7 +75,7 @@ def request(job, key_id, public, principals, life, extensions, options, out):
     if not formats.KEY_ID.fullmatch(key_id):
         raise BadFormat(f"invalid key ID {key_id!r}: expected DEPARTMENT/NAME")
     if not out and (not public.endswith(".pub") or public.endswith("-cert.pub")):
-        raise BadFormat(f"{public} has to end with .pub, or name the certificate's file by --out")
+        raise BadFormat(f"{public} has to end with .pub: otherwise pass the certificate's file with --out")
     key, (department, _, name) = subject_line(read_text(public)), key_id.partition("/")
     known = job.policy().get(department)
     if extensions is None:
@@ -93,7 +93,7 @@ def certificate_of(job, what):
     if not what.isdecimal():
         return Certificate.of_line(read_text(what))
     if not (what.isascii() and 1 <= int(what[:20]) <= formats.LAST_SERIAL):
-        raise BadFormat(f"{what[:50]} is no serial")
+        raise BadFormat(f"{what[:50]} isn't a valid serial")
     return job.office.body(int(what))
 
 
@@ -144,8 +144,8 @@ def show(job, what, as_json):
 @click.option("--kind", type=click.Choice(("user", "host")))
 @click.option("--department", metavar="NAME")
 @click.option("--keyid", metavar="PATTERN", help="a key ID; * matches any text")
-@click.option("--valid", is_flag=True, help="only those that are signed, not revoked, and valid now")
-@click.option("--ends-within", metavar="TIME", help="only those that are valid now and expire within this time")
+@click.option("--valid", is_flag=True, help="only certificates that are signed, not revoked, and valid now")
+@click.option("--ends-within", metavar="TIME", help="only certificates that are valid now and expire within this time")
 @as_json
 @pass_job
 def certs(job, state, kind, department, keyid, valid, ends_within, as_json):

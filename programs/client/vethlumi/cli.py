@@ -15,7 +15,7 @@ from vethlumi.outbox import Outbox
 from vethlumi.printing import plain, say
 from vethlumi.refusals import Refused
 from vethlumi.settings import BAD_WORDS, FILES, NO_ANSWER, REFUSED, BadSettings, read_settings, state_folder
-from vethlumi_common import files
+from vethlumi_common import files, helps
 
 
 class Job:
@@ -72,8 +72,33 @@ def waiting(what):
     yield tell
 
 
+# The commands of a help that fits a screen, in the order in which they are met. The manual page has all names.
+SHOWN = {
+    "Certificates": ("request", "get", "show", "certs", "renew", "revoke", "krl", "workload", "enrol", "renew-host"),
+    "Sign-on": ("login", "logout", "people", "leave"),
+    "Office": ("status", "department", "rollover", "signers", "metrics", "events", "audit", "outbox", "doctor"),
+}
+NOTES = """A message that got no answer is kept on disk: run the same command again, and nothing happens twice.
+
+A TIME is for example 90 (seconds), 15m, 8h, 30d or 4w.
+
+Exit status: 0 success, 1 refused, 2 bad arguments or files, 3 no answer (the message is kept), 4 not signed yet.
+"""
+
+
 class Group(click.Group):
-    """Ends with the status that belongs to what went wrong."""
+    """Ends with the status that belongs to what went wrong. Its help is that of a screen, or of the manual page."""
+
+    def format_commands(self, context, formatter):
+        if os.environ.get(helps.FOR_MANUAL):
+            return super().format_commands(context, formatter)
+        widest = max(map(len, self.commands))
+        for title, names in SHOWN.items():
+            with formatter.section(title):
+                formatter.write_dl([(name.ljust(widest), self.commands[name].get_short_help_str(80)) for name in names])
+
+    def format_epilog(self, context, formatter):
+        formatter.write(f"{helps.NOTES}{NOTES}" if os.environ.get(helps.FOR_MANUAL) else "\n" + helps.where_notes_are("vethlumi"))
 
     def invoke(self, context):
         try:
@@ -99,7 +124,7 @@ class Group(click.Group):
 @click.group(cls=Group, context_settings={"help_option_names": ["-h", "--help"], "auto_envvar_prefix": "VETHLUMI"})
 @click.version_option(__version__, message="vethlumi %(version)s")
 @click.option("--config", metavar="FILE", help=f"the settings file [default: {' or '.join(FILES)}]")
-@click.option("--office", metavar="URL", help="the front's URL, for example https://office.example.org:8443")
+@click.option("--office", metavar="URL", help="the front's URL: https://office.example.org:8443")
 @click.option("--certificate", metavar="FILE", help="the client's key and certificate in one PEM file")
 @click.option("--cacert", metavar="FILE", help="the authority that issued the front's certificate (PEM)")
 @click.option("--policy", metavar="FILE", help="the departments: the policy of the CA's guard")
@@ -107,13 +132,7 @@ class Group(click.Group):
 @click.option("--wait", metavar="TIME", default="10m", show_default=True, help="how long to wait for an answer")
 @click.pass_context
 def main(context, config, wait, **given):
-    """Request SSH certificates from an office, revoke them, and show what the office has.
-
-    A message that got no answer is kept on disk: run the same command again, and nothing happens twice. A TIME is for
-    example 90 (seconds), 15m, 8h, 30d or 4w.
-
-    Exit status: 0 success, 1 refused, 2 bad arguments or files, 3 no answer (the message is kept), 4 not signed yet.
-    """
+    """Request SSH certificates from an office, revoke them, and show what it has."""
     context.obj = Job(read_settings(config, **given), formats.seconds_of(wait))
 
 

@@ -16,7 +16,7 @@ from vethlumi_common.subjects import ed25519_line
 
 # The most bytes of all departments together: over ten thousand of the usual length.
 LONGEST_DEPARTMENTS = 1 << 22
-TOO_OLD = ("the office doesn't say which departments it has: it or its front is of an earlier version. Upgrade both, "
+TOO_OLD = ("the office has no endpoint for departments: it or its front is an earlier version. Upgrade both, "
            "or name a file by --policy after the command")
 
 
@@ -142,7 +142,7 @@ def department_put(job, file, names, policy, yes):
     """Show what changes, and send the departments in FILE, or those with the given names, to the office.
 
     FILE has the format of the policy: departments, with empty lines and comments in between. With --yes, nothing is
-    shown before, and those that the office has already are sent too.
+    shown before, and departments that the office has already are sent too.
     """
     chosen = chosen_of(read_departments(file), names, file)
     warn(chosen)

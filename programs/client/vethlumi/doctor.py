@@ -176,7 +176,7 @@ def read_whole(path, longest):
     try:
         found = os.fstat(handle)
         if not stat.S_ISREG(found.st_mode) or found.st_size > longest:
-            raise BadFormat(f"{path} is no file of at most {longest} bytes")
+            raise BadFormat(f"{path} isn't a regular file, or is over {longest} bytes")
         with open(handle, "rb", closefd=False) as it:
             return it.read(longest), found.st_mtime
     finally:

@@ -33,7 +33,7 @@ def new_key(path):
     from cryptography.hazmat.primitives import serialization
     from cryptography.hazmat.primitives.asymmetric import ed25519
     if os.path.lexists(path):
-        raise BadFormat(f"{path} is there already: --public-key prints its public half")
+        raise BadFormat(f"{path} already exists: --public-key prints its public half")
     made = ed25519.Ed25519PrivateKey.generate().private_bytes(
         serialization.Encoding.PEM, serialization.PrivateFormat.PKCS8, serialization.NoEncryption())
     files.make_folder(os.path.dirname(os.path.abspath(path)))
@@ -45,16 +45,16 @@ def key_of(path):
     from cryptography.hazmat.primitives import serialization
     from cryptography.hazmat.primitives.asymmetric import ed25519
     if os.stat(path).st_mode & 0o077:
-        raise BadSettings(f"others than its owner may use {path}: chmod 600 {path}")
+        raise BadSettings(f"{path} is open to other users: chmod 600 {path}")
     with open(path, "rb") as file:
         data = file.read()
     password = click.prompt("passphrase", hide_input=True, err=True).encode() if b" ENCRYPTED " in data else None
     try:
         found = serialization.load_pem_private_key(data, password)
     except (ValueError, TypeError):
-        raise BadFormat(f"{path} is no private key in PEM, or the passphrase is another") from None
+        raise BadFormat(f"{path} isn't a PEM private key, or the passphrase is wrong") from None
     if not isinstance(found, ed25519.Ed25519PrivateKey):
-        raise BadFormat(f"{path} is no Ed25519 key: vethlumi enrol --new-key makes one")
+        raise BadFormat(f"{path} isn't an Ed25519 key: vethlumi enrol --new-key makes one")
     return found
 
 
@@ -86,15 +86,15 @@ def enrol(job, host, key, is_new, is_public):
     """Print a token by which HOST gets its first certificate.
 
     HOST is the name that the registrar puts into the department's principals, for example web for web.example.org. The
-    token counts once, for whoever sends it first, and ends after an hour. So keep it secret until HOST has its
+    token counts once, for the first to send it, and expires after an hour. So keep it secret until HOST has its
     certificate, which HOST then renews by its own key. The enrolment key signs tokens for every host: keep it on one
     machine. The registrar has its public half.
     """
     key = key or os.path.join(config_folder(), "enrol.key")
     if is_new + is_public + bool(host) != 1:
-        raise BadFormat("one of HOST, --new-key and --public-key is wanted")
+        raise BadFormat("pass one of HOST, --new-key and --public-key")
     if host and not HOST.fullmatch(host):
-        raise BadFormat(f"{host[:60]!r} is no name of 1 to 40 of a-z 0-9 . _ -")
+        raise BadFormat(f"{host[:60]!r} isn't a valid name: 1 to 40 of a-z 0-9 . _ -")
     if is_new:
         new_key(key)
     found = key_of(key)
@@ -125,7 +125,8 @@ def renew_host(job, certificate, statement, out):
     check(cas, text, serial, old.key, old.key_id.partition("/")[0])
     new = Certificate.of_line(text)
     if (new.kind, new.key_id, new.principals) != (old.kind, old.key_id, old.principals):
-        raise NoAnswer("what came is no renewal: it has another kind, key ID or principals", None)
+        raise NoAnswer("the office returned a certificate that isn't a renewal: its kind, key ID or principals "
+                       "differ", None)
     out = out or certificate
     put_file(out, text.rstrip("\n") + "\n")
     click.echo(f"{out} serial {serial}")

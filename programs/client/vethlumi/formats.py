@@ -24,7 +24,7 @@ def seconds_of(text):
     """A length of time in seconds: `90`, `15m`, `8h`, `30d`, `4w`."""
     found = re.fullmatch(r"([1-9]\d{0,10})([smhdw]?)", text, re.ASCII)
     if not found:
-        raise BadFormat(f"{text!r} is no length of time: write 90, 15m, 8h, 30d or 4w")
+        raise BadFormat(f"{text!r} isn't a valid duration: write 90, 15m, 8h, 30d or 4w")
     return int(found[1]) * UNITS[found[2] or "s"]
 
 
@@ -78,7 +78,7 @@ class Department:
             elif word == "key-types" and fields[:1] == ["maxlife"] and value and not types:
                 types = tuple(value.split(","))
             elif word != (fields[0] if fields else None) or bool(space) != bool(value):
-                raise BadFormat(f"{line!r} is no line `{fields[0] if fields else ''} ..` of a department")
+                raise BadFormat(f"{line!r} isn't a line `{fields[0] if fields else ''} ..` of a department")
             else:
                 values.append(value)
                 fields.pop(0)
@@ -86,7 +86,7 @@ class Department:
             raise BadFormat(f"the department ends before its line `{fields[0]} ..`")
         name, kind, admins, principals, options, extensions, longest, namespaces = values
         if not NAME.fullmatch(name) or kind not in ("user", "host") or not longest.isdecimal():
-            raise BadFormat(f"{name!r} is no department: its name, its kind or its longest lifetime is none")
+            raise BadFormat(f"{name!r} isn't a valid department: check its name, kind and longest lifetime")
         lists = [tuple(it.split(",")) if it else () for it in (admins, principals, options, extensions, namespaces)]
         return cls("".join(f"{line}\n" for line in lines), name, kind, *lists[:4], int(longest), lists[4],
                    tuple(demands), types)
@@ -119,7 +119,7 @@ def demand_of(value):
     """An option that certificates must have, with its value or None."""
     name, space, wanted = value.partition(" ")
     if name not in ("force-command", "source-address", "verify-required") or bool(space) != bool(wanted):
-        raise BadFormat(f"{value!r} is no option that certificates may have to have")
+        raise BadFormat(f"{value!r} isn't an option that a department can demand")
     return name, wanted if space else None
 
 
@@ -182,7 +182,7 @@ class Certificate:
         it = Reader(data)
         of = CERTIFICATES.get(it.string().decode("latin-1"))
         if not of:
-            raise BadFormat("the bytes are no certificate")
+            raise BadFormat("not a certificate")
         it.string()
         strings = [it.string() for _ in range(TYPES[of])]
         serial, kind, key_id = it.number(8), it.number(4), it.string().decode("latin-1")
@@ -202,7 +202,7 @@ class Certificate:
         """The fields of a certificate's line, as ssh-keygen writes it into a file."""
         words = text.split()
         if len(words) < 2 or words[0] not in CERTIFICATES:
-            raise BadFormat("the file has no line of a certificate")
+            raise BadFormat("the file has no certificate")
         try:
             return cls.of_bytes(base64.b64decode(words[1], validate=True))
         except ValueError:
@@ -222,7 +222,7 @@ def signed_parts(data):
     it = Reader(data)
     of = CERTIFICATES.get(it.string().decode("latin-1"))
     if not of:
-        raise BadFormat("the bytes are no certificate")
+        raise BadFormat("not a certificate")
     # Nonce and key; serial and kind; key ID and principals; validity; options, extensions, a reserved text, CA.
     for length in (0, *[0] * TYPES[of], 8, 4, 0, 0, 8, 8, 0, 0, 0, 0):
         it.take(length) if length else it.string()
@@ -231,7 +231,7 @@ def signed_parts(data):
         raise BadFormat("the signature isn't an Ed25519 key's")
     found = signature.string()
     if not (it.is_at_end() and signature.is_at_end()):
-        raise BadFormat("something follows the signature")
+        raise BadFormat("there is data after the signature")
     return body, found
 
 
@@ -240,7 +240,7 @@ def certificate_line(data):
     line = data.decode("ascii", "replace")
     found = CERTIFICATE_LINE.fullmatch(line)
     if not found or found[1] not in CERTIFICATES:
-        raise BadFormat("the answer isn't the line of a certificate")
+        raise BadFormat("the answer isn't a certificate")
     return line
 
 
@@ -250,7 +250,7 @@ def signers(data):
     while at < len(data):
         found = SIGNER.match(data, at)
         if not found:
-            raise BadFormat("the page has a line that no office writes")
+            raise BadFormat("the page has an unexpected line")
         at = found.end()
     return data.decode("ascii")
 
@@ -271,7 +271,7 @@ def reply_to(message, data):
     text = data.decode("ascii", "replace")
     found = re.fullmatch(REPLIES.get(kind, "(?!)"), text, re.ASCII)
     if not found or (kind == "department" and found[1] != rest):
-        raise BadFormat(f"{text[:100]!r} is no reply to `{kind}`")
+        raise BadFormat(f"{text[:100]!r} isn't a reply to `{kind}`")
     return text.split()
 
 

@@ -20,7 +20,7 @@ def string_at(data, at):
     begin = at + 4
     end = begin + int.from_bytes(data[at:begin])
     if end > len(data) or begin > len(data):
-        raise BadFormat("the list ends too early")
+        raise BadFormat("the list is truncated")
     return data[begin:end], end
 
 
@@ -51,7 +51,7 @@ class Section:
         for kind, text in parts_of(self.parts):
             is_whole = {SERIALS: len(text) % 8 == 0, RANGE: len(text) == 16, KEY_IDS: True}.get(kind)
             if not is_whole or not text or (kind == KEY_IDS and not all(strings_of(text))):
-                raise BadFormat("the list has a part that no office writes")
+                raise BadFormat("the list has an unexpected part")
 
     def each(self, kind):
         return (text for found, text in parts_of(self.parts) if found == kind)
@@ -86,14 +86,14 @@ class RevocationList:
         """The list of these bytes."""
         data = memoryview(data)
         if len(data) < HEAD.size or data[:len(MAGIC)] != MAGIC:
-            raise BadFormat("the bytes are no key revocation list")
+            raise BadFormat("not a key revocation list")
         _, version, moment, _ = HEAD.unpack(data[:HEAD.size])
         _, at = string_at(data, HEAD.size)
         _, at = string_at(data, at)
         sections = []
         for kind, text in parts_of(data[at:]):
             if kind != 1 or len(sections) == MOST_CAS:
-                raise BadFormat("the list has a section that no office writes")
+                raise BadFormat("the list has an unexpected section")
             sections.append(Section(text))
         return cls(version, moment, tuple(sections), len(data))
 

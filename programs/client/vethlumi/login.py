@@ -131,10 +131,10 @@ def looked_through(serial, line, public, department, cas):
     try:
         found, blob = Certificate.of_line(line), base64.b64decode(line.split()[1])
         if found.key != public or found.serial != serial:
-            raise BadFormat("it is for another key, or has another serial")
+            raise BadFormat("it is for a different key, or has a different serial")
         if not signon.is_of(found, department, cas) or not formats.KEY_ID.fullmatch(found.key_id):
-            raise BadFormat(f"it is of another department or kind, or of the CA {formats.fingerprint(found.ca)}, which "
-                            "isn't known here")
+            raise BadFormat(f"its department or kind is a different one, or its CA {formats.fingerprint(found.ca)} "
+                            "isn't trusted here")
         body, signature = formats.signed_parts(blob)
         keys.verify(found.ca[-32:], signature, body)
         if not found.after - SLOW_CLOCK <= time.time() < found.before:
@@ -189,7 +189,7 @@ def login(job, if_needed, department, is_pasted):
     """
     department = department or job.settings.needed("department")
     if not formats.NAME.fullmatch(department):
-        raise BadSettings(f"{department!r} is no department")
+        raise BadSettings(f"{department!r} isn't a valid department")
     cas = signon.believed_cas(job.settings)
 
     def is_done():
@@ -200,14 +200,14 @@ def login(job, if_needed, department, is_pasted):
     # Without an agent, nobody has to log in.
     agent.certificates()
     if not is_pasted and not has_browser():
-        end("there is no browser here: type `vethlumi login --paste`")
+        end("no browser here: run `vethlumi login --paste`")
     try:
         with alone(job.ends) as has_waited:
             if is_done():
                 return
             if if_needed and has_waited:
                 # It was for all that wait: a login that has failed isn't begun again for each of them.
-                end("the other login has ended without a certificate: type `vethlumi login`")
+                end("the other login ended without a certificate: run `vethlumi login`")
             found = get_certificate(job, department, cas, is_pasted)
     except KeyboardInterrupt:
         end("interrupted: nobody is logged in", NO_ANSWER)

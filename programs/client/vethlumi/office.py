@@ -53,7 +53,7 @@ def at_most(seconds, work):
     try:
         return deadlines.at_most(seconds, work)
     except deadlines.Overlong:
-        raise NoAnswer(f"no whole answer came within {round(seconds) or 1} s") from None
+        raise NoAnswer(f"no complete answer within {round(seconds) or 1} s") from None
 
 
 class Server:
@@ -90,7 +90,7 @@ class Server:
             longest = longest if is_page else LONGEST_ANSWER
             if answer.headers.get("content-encoding", "identity").lower() != "identity":
                 if is_page:
-                    raise NoAnswer(f"{path}: the answer is compressed, and nobody asked for that", None)
+                    raise NoAnswer(f"{path}: the answer is compressed, which wasn't requested", None)
                 return Answer(answer.status_code, answer.headers, file)
             while file.tell() <= longest and (
                     piece := answer.raw.read(min(PIECE, longest + 1 - file.tell()), decode_content=False)):

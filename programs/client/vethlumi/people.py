@@ -49,7 +49,7 @@ def signon_departments(job, named):
     departments for users that the office has."""
     found = [*named] or [it for it in job.settings.signon.replace(" ", "").split(",") if it]
     if wrong := [it for it in found if not formats.NAME.fullmatch(it)]:
-        raise BadFormat(f"{wrong[0]!r} is no department")
+        raise BadFormat(f"{wrong[0]!r} isn't a valid department")
     return found or [name for name, it in of_office(job).items() if it.kind == "user"]
 
 
@@ -76,14 +76,14 @@ class Leaving:
         """The tag of the account that has the name, if it is the only one; none if its key IDs are all revoked."""
         tags = [tag for tag, account in self.accounts.items() if self.name in account.names]
         if not tags:
-            raise BadFormat(f"no certificate has a key ID DEPARTMENT/{self.name}/TAG. If somebody has this name, say "
-                            "who by --subject")
+            raise BadFormat(f"no certificate has a key ID DEPARTMENT/{self.name}/TAG. If the name is right, pass "
+                            "--subject")
         _, revoked = self.job.office.krl()
         gone = {it for section in revoked.sections for it in section.key_ids()}
         left = [it for it in tags if not gone.issuperset(self.key_ids(it))]
         if len(left) > 1:
-            raise BadFormat(f"several accounts had the name {self.name}: say which by --tag {' or --tag '.join(left)}, "
-                            "or by --subject")
+            raise BadFormat(f"several accounts had the name {self.name}: pass --tag {' or --tag '.join(left)}, "
+                            "or --subject")
         return left
 
     def all_key_ids(self, tag):
@@ -125,7 +125,7 @@ def leave(job, name, subject, tag, departments, yes):
     each name that it had. No later login of this account gets a certificate, unless the provider gives it a new name.
     """
     if not re.fullmatch(NAME, name, re.ASCII):
-        raise BadFormat(f"{name!r} is no name: it has 1 to 40 of a-z, 0-9, `.`, `_`, `@` and `-`")
+        raise BadFormat(f"{name!r} isn't a valid name: 1 to 40 of a-z, 0-9, `.`, `_`, `@` and `-`")
     if (subject and tag) or (tag and not re.fullmatch(TAG, tag, re.ASCII)):
         raise BadFormat("give --subject, or --tag with 16 letters of a key ID")
     tag = tag_of(job.settings.secure_url("provider"), subject) if subject else tag
@@ -152,13 +152,13 @@ def users_of(text):
         try:
             found = json.loads(text)
         except (ValueError, RecursionError):
-            raise BadFormat("the file is no JSON") from None
+            raise BadFormat("the file isn't JSON") from None
         if not all(isinstance(it, str) for it in found):
-            raise BadFormat("the file is a JSON list, but not of texts: name by name")
+            raise BadFormat("the file is a JSON list, but not of names")
     else:
         found = [it for it in text.splitlines() if it]
     if not found:
-        raise BadFormat("the file names nobody: it is no export of all users")
+        raise BadFormat("the file has no names, so it isn't an export of all users")
     return {*found}
 
 

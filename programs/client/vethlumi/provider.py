@@ -168,7 +168,7 @@ def by_paste(state, url, ends):
         raise NoAnswer("no address was pasted")
     found = answer_in(address, state)
     if not found:
-        raise Refused(0, "", "this address isn't that of this login", "")
+        raise Refused(0, "", "this address belongs to a different login", "")
     return found
 
 
@@ -196,7 +196,7 @@ class Provider:
         def read():
             found = self.ask(self.issuer.rstrip("/"), "GET", "/.well-known/openid-configuration")
             if found.get("issuer") != self.issuer:
-                raise NoAnswer("the provider names another issuer than `provider` in the settings", None)
+                raise NoAnswer("the provider's issuer differs from `provider` in the settings", None)
             urls, scheme = [found.get(it) for it in ("authorization_endpoint", "token_endpoint")], self.issuer[:5]
             if not all(is_secure(it) and it.startswith(scheme) for it in urls):
                 raise NoAnswer("the provider names no https:// URLs for logins", None)
@@ -223,7 +223,7 @@ class Provider:
                 found = by_browser(listener, self.url_of_login(login, redirect, state, nonce, verifier), self.ends)
         # RFC 9207: whose answer it is.
         if found.get("iss", self.issuer) != self.issuer:
-            raise Refused(0, "", "the answer of the login is another provider's", "")
+            raise Refused(0, "", "the answer to the login came from a different provider", "")
         if "code" not in found:
             raise Refused(0, "", f"the provider: {complaint(found, COMPLAINT)}", "")
         return self.exchanged(exchange, found["code"], redirect, verifier)

@@ -40,12 +40,12 @@ def status(job, as_json):
     print_table(("CA", "since", "fingerprint"), [tuple(map(str, it.values())) for it in record["cas"]], "")
 
 
-@main.command("list")
+@main.command("krl")
 @click.option("--out", metavar="FILE", help="write the KRL to FILE")
 @click.option("--check", metavar="FILE", help="check whether the KRL revokes the certificate in FILE")
 @as_json
 @pass_job
-def list_(job, out, check, as_json):
+def krl_(job, out, check, as_json):
     """Show the key revocation list (KRL), or fetch it."""
     data, found = job.office.krl()
     if check:
@@ -70,11 +70,11 @@ def signers(job):
     print_text(job.office.signers())
 
 
-@main.command("figures")
+@main.command("metrics")
 @click.option("--last", type=click.IntRange(1, formats.LAST_SERIAL), default=formats.LAST_SERIAL,
               help="the office's last serial")
 @pass_job
-def figures_(job, last):
+def metrics_(job, last):
     """Print metrics in Prometheus' text format."""
     answered = "up", "Whether the office answered."
     try:
@@ -147,5 +147,5 @@ def also(name, command):
     main.add_command(other)
 
 
-also("krl", list_)
-also("metrics", figures_)
+also("list", krl_)
+also("figures", metrics_)

@@ -29,7 +29,7 @@ def revocation_of(what, keyid, job):
             raise BadFormat(f"{what} was issued by a CA that isn't one of this office's")
         return f"revoke-serial {found.serial}\n", lambda row: row.serial == found.serial
     if not formats.KEY_ID.fullmatch(what):
-        raise BadFormat(f"{what!r} is no serial, no range LOW-HIGH, no file, and no key ID")
+        raise BadFormat(f"{what!r} isn't a serial, a range LOW-HIGH, a file or a key ID")
     return f"revoke-keyid {what}\n", lambda row: row.key_id == what
 
 

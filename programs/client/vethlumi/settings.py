@@ -75,9 +75,9 @@ class Settings:
     def url(self):
         if not self.office.startswith(("https://", "http://")):
             raise BadSettings(f"no office: set `office` to its URL in {FILES[0]}, or use --office" if not self.office
-                              else f"{self.office!r} is no URL that begins with https:// or http://")
+                              else f"{self.office!r} isn't a URL that begins with https:// or http://")
         if not is_url(self.office):
-            raise BadSettings(f"{self.office!r} is no URL with a host's name, and a port if there is a colon")
+            raise BadSettings(f"{self.office!r} isn't a URL with a host name, and a port after any colon")
         if is_in_the_open(self.office):
             raise BadSettings(f"{self.office!r}: http is only for an office on this machine")
         return self.office.rstrip("/")
@@ -86,7 +86,7 @@ class Settings:
         """The URL of a setting, of a server to which tokens are sent."""
         url = self.needed(name)
         if not is_secure(url):
-            raise BadSettings(f"{name}: {url!r} is no URL that begins with https://")
+            raise BadSettings(f"{name}: {url!r} isn't a URL that begins with https://")
         return url
 
     def needed(self, name):
@@ -100,7 +100,7 @@ class Settings:
         found = self.ports.replace(" ", "").split(",")
         are_ports = [re.fullmatch(r"\d{1,5}", it, re.ASCII) and int(it) < 65536 for it in found]
         if len(found) > MOST_PORTS or not all(are_ports):
-            raise BadSettings(f"ports: {self.ports!r} is no list of ports, such as 8400,8401,8402")
+            raise BadSettings(f"ports: {self.ports!r} isn't a list of ports such as 8400,8401,8402")
         return [*map(int, found)]
 
     def file(self, name):
@@ -151,7 +151,8 @@ def read_settings(path=None, **given):
             raise BadSettings(f"{file}: {fault}") from None
         for name, value in found.items():
             if name not in names or not isinstance(value, str):
-                raise BadSettings(f"{file}: {name} is no setting with a text; settings are {', '.join(names)}")
+                raise BadSettings(f"{file}: {name} isn't a setting, or its value isn't a string; settings are "
+                                  f"{', '.join(names)}")
             setattr(made, name, value)
     for name, value in given.items():
         if value:

@@ -31,7 +31,7 @@ def believed_cas(settings):
         raise BadSettings(f"no CA is known here: {file}: {fault}") from None
     lines = [it for it in lines if it and not it.startswith("#")]
     if wrong := [it for it in lines if not ED25519_LINE.fullmatch(it)] or [""] * (not lines):
-        raise BadSettings(f"{file} is no list of CAs' public keys: {wrong[0][:60]!r}")
+        raise BadSettings(f"{file} has a line that isn't a CA's public key: {wrong[0][:60]!r}")
     return [base64.b64decode(it.split()[1]) for it in lines]
 
 

@@ -29,7 +29,7 @@ class Row:
     def of(cls, line):
         found = ROW.fullmatch(line)
         if not found:
-            raise BadFormat("the table has a line that no office writes")
+            raise BadFormat("the table has an unexpected line")
         serial, kind, state, after, before, key_id = map(bytes.decode, found.groups())
         return cls(int(serial), kind, state.strip(), int(after), int(before), key_id)
 
@@ -55,7 +55,7 @@ class Table:
             self.count, self.last = self.count + 1, max(self.last, row.serial)
         total = TOTAL.fullmatch(self.total)
         if not total or int(total[1]) != self.count:
-            raise BadFormat("the table was cut off, or is none")
+            raise BadFormat("the table was cut off, or isn't a table")
         self.version = int(total[2])
 
     def __len__(self):
@@ -74,7 +74,7 @@ class Table:
                     return
                 yield Row.of(line)
             if not piece:
-                raise BadFormat("the table was cut off, or is none")
+                raise BadFormat("the table was cut off, or isn't a table")
 
 
 def cas(data):
@@ -82,5 +82,5 @@ def cas(data):
     lines = data.decode("ascii").splitlines(keepends=True)
     found = [CA.fullmatch(it) for it in lines]
     if None in found or [int(it[1]) for it in found] != [*range(1, len(found) + 1)] or not found:
-        raise BadFormat("the page has a line that no office writes, or no CA")
+        raise BadFormat("the page has an unexpected line, or no CA")
     return [(int(it[1]), int(it[2]), it[3]) for it in found]

@@ -30,7 +30,7 @@ def token_in(data, where):
     """The token in what was read, with blanks around it."""
     found = data.decode("ascii", "replace").strip()
     if not found or len(found) > LONGEST_TOKEN or len(found.split()) != 1 or not found.isprintable():
-        raise BadFormat(f"{where} gives no token: one word of at most {LONGEST_TOKEN} letters")
+        raise BadFormat(f"{where} has no token: expected one word of at most {LONGEST_TOKEN} characters")
     return found
 
 
@@ -45,10 +45,10 @@ def token_of_command(command, audience):
         done = subprocess.run(["sh", "-c", command], stdin=subprocess.DEVNULL, capture_output=True,
                               timeout=LONGEST_COMMAND, env=os.environ | {"AUDIENCE": audience})
     except subprocess.TimeoutExpired:
-        raise NoAnswer(f"the command for a token takes more than {LONGEST_COMMAND} seconds") from None
+        raise NoAnswer(f"the token command took more than {LONGEST_COMMAND} seconds") from None
     if done.returncode:
         said = " ".join(done.stderr.decode(errors="replace").split())[-200:]
-        raise NoAnswer(f"the command for a token fails: {said or f'status {done.returncode}'}")
+        raise NoAnswer(f"the token command failed: {said or f'status {done.returncode}'}")
     return token_in(done.stdout[:LONGEST_OUTPUT], "the command")
 
 
@@ -60,11 +60,11 @@ def check(cas, line, serial, public, department):
         body, signature = formats.signed_parts(base64.b64decode(line.split()[1]))
         keys.verify(found.ca[-32:], signature, body)
         if found.key != public or found.serial != serial:
-            raise BadFormat("it is for another key, or has another serial")
+            raise BadFormat("it is for a different key, or has a different serial")
         if not found.key_id.startswith(f"{department}/") or not formats.KEY_ID.fullmatch(found.key_id):
-            raise BadFormat("it is of another department")
+            raise BadFormat("it belongs to a different department")
         if found.ca not in cas:
-            raise BadFormat(f"it is of the CA {formats.fingerprint(found.ca)}, which isn't known here")
+            raise BadFormat(f"its CA {formats.fingerprint(found.ca)} isn't trusted here")
         if not found.after - SLOW_CLOCK <= time.time() < found.before:
             raise BadFormat(f"it is valid from {formats.date(found.after)} to {formats.date(found.before)}. Check this "
                             "machine's clock")
@@ -94,9 +94,9 @@ def workload(job, public, department, token, token_command, is_audience, out):
         return
     department = department or job.settings.needed("department")
     if not out and (not public.endswith(".pub") or public.endswith("-cert.pub")):
-        raise BadFormat(f"{public} has to end with .pub, or name the certificate's file by --out")
+        raise BadFormat(f"{public} has to end with .pub: otherwise pass the certificate's file with --out")
     if bool(token) == bool(token_command):
-        raise BadFormat("one of --token and --token-command is wanted")
+        raise BadFormat("pass either --token or --token-command")
     cas = believed_cas(job.settings)
     found = token_of_file(token) if token else token_of_command(token_command, audience_of(line))
     serial, text = Registrar(job.settings, job.ends).certificate(department, found, line)

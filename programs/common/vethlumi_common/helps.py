@@ -17,7 +17,11 @@ def of_screen(text, name):
     shown = f"{shown.rstrip()}\n"
     if os.environ.get(FOR_MANUAL):
         return shown, heading.lstrip() + notes
-    return folded(shown, name), f"The manual page has notes: man {name}\n" if notes else ""
+    return folded(shown, name), where_notes_are(name) if notes else ""
+
+
+def where_notes_are(name):
+    return f"The manual page has notes: man {name}\n"
 
 
 def on_a_screen(text, name):

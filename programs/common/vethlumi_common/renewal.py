@@ -22,7 +22,7 @@ class Statement(NamedTuple):
     def of(cls, text):
         found = FORM.fullmatch(text)
         if not found:
-            raise BadFormat("the statement is none of a renewal")
+            raise BadFormat("not a renewal statement")
         return cls(found[1], int(found[2]), found[3])
 
 

@@ -43,7 +43,7 @@ class Reader:
 
     def take(self, count):
         if self.at + count > len(self.data):
-            raise BadFormat("the bytes end too early")
+            raise BadFormat("the data is truncated")
         self.at += count
         return bytes(self.data[self.at - count:self.at])
 
@@ -90,14 +90,14 @@ class TextSignature(NamedTuple):
         try:
             it = Reader(base64.b64decode(found[1].replace("\n", ""), validate=True))
         except (TypeError, ValueError):
-            raise BadFormat("there is no armored signature") from None
+            raise BadFormat("no armored signature") from None
         if (it.take(len(SSHSIG)), it.number(4)) != (SSHSIG, 1):
-            raise BadFormat("the signature is of another version")
+            raise BadFormat("unsupported signature version")
         key, namespace, reserved, algorithm, inner = (it.string() for _ in range(5))
         inner = Reader(inner)
         kind, raw = inner.string(), inner.string()
         if reserved or algorithm not in HASHES or kind != b"ssh-ed25519":
-            raise BadFormat("the signature isn't an Ed25519 key's, of SHA-256 or SHA-512")
+            raise BadFormat("the signature isn't by an Ed25519 key over SHA-256 or SHA-512")
         if not (it.is_at_end() and inner.is_at_end()):
-            raise BadFormat("something follows the signature")
+            raise BadFormat("there is data after the signature")
         return cls(key, namespace, algorithm, raw)

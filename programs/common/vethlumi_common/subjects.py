@@ -36,7 +36,7 @@ def subject_line(text):
     line = text.partition("\n")[0].rstrip("\r")
     blob = blob_of(line)
     if not blob or not is_of_type(blob):
-        raise BadFormat(f"the file has no public key of a type that an office takes: {', '.join(TYPES)}")
+        raise BadFormat(f"the file has no public key of a supported type: {', '.join(TYPES)}")
     refuse_weak(blob)
     refuse_size(blob)
     return line

@@ -35,7 +35,7 @@ function readList(bytes) {
   const view = new DataView(bytes);
   const isList = bytes.byteLength >= 44 && view.getBigUint64(0) === 0x5353484b524c0a00n && view.getUint32(8) === 1;
   const date = isList ? Number(view.getBigUint64(20)) : Infinity;
-  if (date >= 1e12) throw new Error("the answer is no revocation list");
+  if (date >= 1e12) throw new Error("the answer isn't a revocation list");
   return {version: String(view.getBigUint64(12)), date, length: bytes.byteLength};
 }
 
@@ -54,7 +54,7 @@ async function readSigners(bytes) {
 }
 
 const routes = {
-  pending: {what: "What waits", read: readPending}, table: {what: "The table of certificates", read: readTable},
+  pending: {what: "The pending certificates", read: readPending}, table: {what: "The table of certificates", read: readTable},
   krl: {what: "The revocation list", read: readList}, cas: {what: "The CAs", read: readCas},
   signers: {what: "The allowed signers", read: readSigners},
 };
@@ -64,7 +64,7 @@ async function ask(name) {
   const route = routes[name], now = Date.now() / 1000;
   try {
     const how = {cache: "no-store", signal: AbortSignal.timeout(1000 * WAIT)};
-    const answer = await fetch(`/v1/${name}`, how).catch(() => { throw new Error("no answer came"); });
+    const answer = await fetch(`/v1/${name}`, how).catch(() => { throw new Error("no answer"); });
     const bytes = await answer.arrayBuffer();
     if (!answer.ok) throw new Error(`${answer.status} ${new TextDecoder().decode(bytes).split("\n")[0].slice(0, 200)}`);
     Object.assign(route, {value: await route.read(bytes), bytes: bytes.byteLength, at: now, since: null, fault: null});
@@ -148,10 +148,10 @@ function show() {
   fill("waiting", pending, pending.value ?? [], ([, serial, digest]) => {
     const row = bySerial.get(serial);
     return [serial, ...(row ? [code(row.keyId), [moment(row.after), element("small", begun(row.after, now))],
-      [moment(row.before), element("small", row.before <= now ? "has ended" : "")]] : ["", "", ""]), code(digest)];
+      [moment(row.before), element("small", row.before <= now ? "expired" : "")]] : ["", "", ""]), code(digest)];
   });
   fill("cas", cas, authorities, ({number, since, fingerprint}, next) => [
-    `${number}${next ? "" : " (issues)"}`, `${since} to ${next ? next.since - 1n : "the last"}`,
+    `${number}${next ? "" : " (active)"}`, next ? `${since} to ${next.since - 1n}` : `${since} and up`,
     String(rows.filter((row) => authorityOf(row, authorities) === number).length), code(fingerprint)]);
   showDepartments(table, rows);
   showCertificates(table, rows, authorities);
@@ -163,19 +163,19 @@ function show() {
     route.at ? moment(route.at) : "never", String(route.bytes ?? "")]);
 }
 
-const begun = (after, now) => after > now ? `in ${span(after - now)}` : `for ${span(now - after)}`;
+const begun = (after, now) => after > now ? `in ${span(after - now)}` : `${span(now - after)} ago`;
 const authorityOf = (row, authorities) => authorities.findLast((ca) => ca.since <= BigInt(row.serial))?.number ?? "";
 
 function showFaults() {
   const all = Object.values(routes), faulty = all.filter((route) => route.fault);
   const texts = faulty.map(({what, fault, since, at}) => `${what} can't be read since ${local(since)}: ${fault}. `
-    + (at ? `What is shown was read at ${local(at)} and is old.` : "Nothing of it was ever read."));
+    + (at ? `The data shown is old: it was read at ${local(at)}.` : "It was never read."));
   if (texts.join("") !== byId("faults").textContent) { // A change alone is put in, since it is read aloud.
     byId("faults").replaceChildren(...texts.map((text) => element("p", text)));
   }
   if (!faulty.length && all.every((route) => route.at)) {
-    byId("read").replaceChildren("All was read at ", moment(Math.min(...all.map((route) => route.at))));
-  } else byId("read").textContent = faulty.length ? "Not all could be read." : "Reading.";
+    byId("read").replaceChildren("Read at ", moment(Math.min(...all.map((route) => route.at))));
+  } else byId("read").textContent = faulty.length ? "Some data can't be read." : "Reading.";
   for (const section of document.querySelectorAll("[data-route]")) {
     const {fault, at} = routes[section.dataset.route];
     section.classList.toggle("old", Boolean(fault && at));

@@ -25,7 +25,7 @@ class NoOffice(Exception):
 
 
 class BadOffice(Exception):
-    """What came is no answer that an office gives."""
+    """What came is unexpected answer from the office."""
 
 
 class Office:

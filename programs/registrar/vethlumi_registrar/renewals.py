@@ -44,15 +44,15 @@ def statement_of(text, armored, blob, audience, now):
     """A statement that the key of this blob has signed, for this audience and a moment ago."""
     found, signature = Statement.of(text), TextSignature.of(armored)
     if found.audience != audience:
-        raise BadFormat("it is for another office")
+        raise BadFormat("it is for a different office")
     if abs(found.moment - now) > LONGEST_AGE:
         raise BadFormat(f"its time is more than {LONGEST_AGE} seconds from that of the registrar: compare the clocks")
     if found.key != hashlib.sha256(blob).hexdigest():
-        raise BadFormat("it is for another key than the certificate's")
+        raise BadFormat("its key isn't the certificate's")
     if signature.key != blob:
         raise BadFormat("another key has signed it")
     if signature.namespace != NAMESPACE.encode():
-        raise BadFormat("its signature is for another namespace")
+        raise BadFormat("its signature has a different namespace")
     keys.verify(blob[-32:], signature.raw, signed_bytes(signature.namespace, signature.algorithm, text.encode()))
     return found
 
@@ -63,7 +63,7 @@ def read(name, make, *values):
         return make(*values)
     except BadFormat as fault:
         what = "statement" if name == "BadStatement" else "certificate"
-        raise Refusal(401, name, f"the {what} isn't taken: {fault}"[:300]) from None
+        raise Refusal(401, name, f"the {what} isn't accepted: {fault}"[:300]) from None
 
 
 def department_of(settings, found):
@@ -89,7 +89,7 @@ def renew(registrar, certificate, statement, signature, record):
     stated = read("BadStatement", statement_of, statement, signature, found.blob, registrar.settings.office, now)
     with answers_of_office():
         if not is_of_office(registrar, found):
-            raise Refusal(401, "BadCertificate", "the certificate isn't taken: its CA is none of the office's")
+            raise Refusal(401, "BadCertificate", "the certificate isn't accepted: its CA isn't one of the office's")
     # Before this, whoever asks may have made the certificate, with any texts in it.
     record |= {"department": found.key_id.partition("/")[0], "keyid": found.key_id, "of": found.serial}
     department = department_of(registrar.settings, found)
@@ -104,4 +104,4 @@ def is_of_office(registrar, found):
     try:
         return registrar.cas.has(fingerprint(found.ca))
     except Refused as refused:
-        raise Refusal(502, "BadOffice", "the office doesn't say which CAs it has", str(refused)) from None
+        raise Refusal(502, "BadOffice", "the office didn't list its CAs", str(refused)) from None

@@ -76,7 +76,8 @@ def asked_of(environ, names):
     except (ValueError, RecursionError):
         raise Refusal(400, "BadRequest", "the body is no JSON") from None
     if not isinstance(asked, dict) or {*asked} != {*names} or not all(isinstance(it, str) for it in asked.values()):
-        raise Refusal(400, "BadRequest", f"the body is no object with the texts {', '.join(names[:2])} and {names[2]}")
+        raise Refusal(400, "BadRequest",
+                      f"the body isn't an object with the strings {', '.join(names[:2])} and {names[2]}")
     return [asked[it] for it in names]
 
 
@@ -133,7 +134,7 @@ class Service:
         serial = int(found[2])
         line = self.registrar.certificate(serial, record["from"]) if serial <= LAST_SERIAL else None
         if line is None:
-            raise Refusal(404, "NoCertificate", "there is no certificate of this serial yet, or none to give here")
+            raise Refusal(404, "NoCertificate", "no certificate with this serial yet, or it isn't available here")
         return "text/plain", line
 
 

@@ -36,7 +36,7 @@ def read_office(table):
         table.refuse("NoCaller", "certificate", "the front knows a caller by its certificate; `caller` is for an "
                                                 "office without a front")
     if given.certificate and is_open(given.certificate):
-        table.refuse("ReadByOthers", "certificate", "others than its owner may use the file with the key, or its "
+        table.refuse("ReadByOthers", "certificate", "users other than its owner can use the file with the key, or its "
                                                     "group if the file is root's")
     return given
 

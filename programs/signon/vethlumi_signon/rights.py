@@ -34,7 +34,7 @@ def groups_of(department, claims):
     links = claims.get("_claim_names")
     if not isinstance(found, list) or not all(isinstance(it, str) for it in found) or (
             claim and isinstance(links, dict) and claim in links):
-        raise NoRight("BadGroups", "the provider doesn't say which groups you are in, as a list of texts")
+        raise NoRight("BadGroups", "the provider didn't send your groups as a list of strings")
     return found
 
 
@@ -66,14 +66,14 @@ def is_anothers(principal, name, template, fixed):
 def principals_of(department, name, groups, fixed):
     """What somebody of this name and of these groups may log in as."""
     if department.need and not {*department.need} & {*groups}:
-        raise NoRight("NotInGroup", f"{name} is in none of the groups that may have this")
+        raise NoRight("NotInGroup", f"{name} isn't in any of the groups that are permitted here")
     own = [it.replace(limits.HERE, name) for it in department.templates]
     if taken := [it for it, rule in zip(own, department.templates) if it != rule and it in fixed]:
         # A name that gives what the settings give to a group would be that group.
         raise NoRight("BadName", f"{name} can't be a name here: the principal {taken[0]} is a group's")
     if taken := [it for it, rule in zip(own, department.templates)
                  if it != rule and is_anothers(it, name, rule, fixed)]:
-        raise NoRight("BadName", f"{name} can't be a name here: the principal {taken[0]} is that of another name")
+        raise NoRight("BadName", f"{name} can't be a name here: the principal {taken[0]} belongs to another name")
     given = {it for group in groups for it in department.groups.get(group, ())}
     found = own + sorted(given - {*own})
     if not found:

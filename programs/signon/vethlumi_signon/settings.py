@@ -103,7 +103,7 @@ class Table:
     def take(self, key, kind, default=None):
         if key not in self.values:
             if default is None:
-                self.refuse("Missing", key, "this setting is needed")
+                self.refuse("Missing", key, "this setting is required")
             return default
         found = self.values.pop(key)
         if type(found) is not kind:
@@ -152,13 +152,13 @@ class Table:
         except ValueError:
             is_url = False
         if not is_url:
-            self.refuse("BadUrl", key, f"{found!r} is no {schemes[0]} URL of a host and a path")
+            self.refuse("BadUrl", key, f"{found!r} isn't a valid {schemes[0]} URL with a host and a path")
         return found
 
     def file(self, key, default=None):
         found = self.text(key, default)
         if found and not (found.startswith("/") and os.access(found, os.R_OK) and os.path.isfile(found)):
-            self.refuse("NoFile", key, f"{found} is no file that can be read, by its whole path")
+            self.refuse("NoFile", key, f"{found} isn't the absolute path of a readable file")
         return found
 
     def tables(self, key):
@@ -175,7 +175,7 @@ def read_principals(table, key, values, may_have_name):
     for it in values:
         bare = it.replace(HERE, "", 1) if may_have_name else it
         if not PRINCIPAL.fullmatch(bare) and not (bare == "" and may_have_name):
-            table.refuse("BadPrincipal", key, f"{it!r} is no principal" + (
+            table.refuse("BadPrincipal", key, f"{it!r} isn't a valid principal" + (
                 f", also with a name for {HERE}" if may_have_name else f": a group has no {HERE} and no star"))
         if it != bare and len(bare) + LONGEST_NAME > LONGEST_PRINCIPAL:
             table.refuse("BadPrincipal", key, f"{it!r} is over {LONGEST_PRINCIPAL} bytes with a name of {LONGEST_NAME}")
@@ -186,9 +186,10 @@ def read_names(table):
     names = table.take("names", dict, {})
     for value, name in names.items():
         if not isinstance(name, str) or not PERSON.fullmatch(name) or name in NOBODY:
-            table.refuse("BadName", "names", f"{name!r} is no name: 1 to {LONGEST_NAME} of a-z 0-9 . _ @ -, not root")
+            table.refuse("BadName", "names",
+                         f"{name!r} isn't a valid name: 1 to {LONGEST_NAME} of a-z 0-9 . _ @ -, not root")
         if not value or not value.isprintable():
-            table.refuse("BadName", "names", f"{value!r} is no value of a claim")
+            table.refuse("BadName", "names", f"{value!r} isn't a valid value of a claim")
     return names
 
 
@@ -303,7 +304,7 @@ def read_department(name, table, issuers):
     # A token that isn't bound to a key would be evidence for every key.
     is_witnessed = table.take("witness", bool, not issuer.audience)
     if is_witnessed and issuer.audience:
-        table.refuse("Unbound", "witness", f"tokens of {issuer.label} are for no key, so they are no evidence")
+        table.refuse("Unbound", "witness", f"tokens of {issuer.label} aren't bound to a key, so they aren't evidence")
     made = Department(name, issuer, table.seconds("life", LEAST_LIFE, LONGEST_LIFE), templates, groups, need,
                       read_options(table), extensions, is_witnessed, table.take("renew", bool, False))
     table.end()

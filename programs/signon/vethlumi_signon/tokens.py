@@ -39,7 +39,7 @@ def decoded(part):
     try:
         data = base64.urlsafe_b64decode(part + "=" * (-len(part) % 4))
     except ValueError:
-        raise BadToken("a part is no base64url") from None
+        raise BadToken("a part isn't base64url") from None
     if url64(data) != part:
         raise BadToken("a part has bits beyond its bytes")
     return data
@@ -61,7 +61,7 @@ def read_object(data, what):
     except (ValueError, RecursionError):
         raise BadToken(f"the {what} is no JSON, or a name occurs twice in it") from None
     if not isinstance(found, dict):
-        raise BadToken(f"the {what} is no object")
+        raise BadToken(f"the {what} isn't an object")
     return found
 
 
@@ -88,7 +88,7 @@ def header_of(token, algorithms):
         raise BadToken("an extension of the header")
     # An access token or a logout token is signed by the same key.
     if not isinstance(found.get("typ", "JWT"), str) or found.get("typ", "JWT").upper() != "JWT":
-        raise BadToken("a token of another type")
+        raise BadToken("a token of a different type")
     return found
 
 
@@ -112,7 +112,7 @@ def signed_claims(token, issuer, keys):
 def judge_times(claims, oldest, now):
     """Refuses what has ended, begins later, or was issued long ago."""
     if not is_time(claims.get("exp")) or not is_time(claims.get("iat")) or not is_time(claims.get("nbf", 0)):
-        raise BadToken("a time is missing, or is none")
+        raise BadToken("a time is missing or invalid")
     if now >= claims["exp"] + SKEW:
         raise BadToken("ended")
     if claims["iat"] > now + SKEW or claims.get("nbf", 0) > now + SKEW:

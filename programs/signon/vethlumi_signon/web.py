@@ -117,7 +117,7 @@ def fetch(method, url, data=None, certificate=None, trusted=None, seconds=10, lo
 def answered(session, method, url, data, longest):
     with session.request(method, url, data=data, timeout=PATIENCE, stream=True, allow_redirects=False) as answer:
         if answer.headers.get("content-encoding", "identity").lower() != "identity":
-            raise NoAnswer(f"{url}: the answer is compressed, and nobody asked for that")
+            raise NoAnswer(f"{url}: the answer is compressed, which wasn't requested")
         body = io.BytesIO()
         while body.tell() <= longest and (piece := answer.raw.read(longest + 1 - body.tell(), decode_content=False)):
             body.write(piece)

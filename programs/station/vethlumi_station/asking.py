@@ -167,7 +167,7 @@ class Connection:
                 return text[:longest]
             raise OSError(f"an answer of more than {longest} bytes")
         if str(len(text)) != answer.getheader("content-length", str(len(text))):
-            raise OSError("half an answer")
+            raise OSError("incomplete answer")
         return text
 
     def tag(self, path):
@@ -263,7 +263,7 @@ class Office:
             if PENDING.fullmatch(line):
                 rows[line[:-1].decode()] = None
             elif is_whole or line.endswith(b"\n"):
-                raise OSError("what came isn't a list of pending certificates")
+                raise OSError("the answer isn't a list of pending certificates")
         return list(rows), is_whole
 
     def body(self, serial, connection):

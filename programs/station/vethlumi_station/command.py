@@ -36,7 +36,7 @@ refuses the PIN.
 
 Notes:
 
-The URL of a front is for example https://office.example.org:8443, that of an office http://127.0.0.1:8022. By http the
+A front's URL is for example https://office.example.org:8443, an office's http://127.0.0.1:8022. By http the
 station only asks an office on this machine. A change of the policy takes effect at the next certificate. A token needs
 the package python3-pykcs11, and a module such as /usr/lib/softhsm/libsofthsm2.so. An agent is the one at SSH_AUTH_SOCK.
 
@@ -70,7 +70,7 @@ file. If there is no token yet, the station asks for it each second, and after a
 witness refuses is reported as NotWitnessed, with the reason. docs/FORMATS.md has the settings. It needs the packages
 python3-jwt and python3-requests.
 
-The provider's keys are kept beside the file of --db, each with its first and last sight. A key counts for tokens that
+The provider's keys are kept next to the file of --db, each with its first and last sight. A key counts for tokens that
 were issued until an hour after its last sight.
 
   station witness --db FILE               prints these keys
@@ -84,12 +84,12 @@ standard error. If the certificates that it didn't sign for a reason have change
 standard error. What a front can make up or repeat is printed up to 64 KiB at once, and 64 bytes a second in the long
 run; the first refusal of each kind by the guard and the first `signed` of a serial always are. It tries what it didn't
 sign again after a pause that grows to a minute, and at once if the policy or a file of --other-ca has changed, but
-always after all new ones. Of more than 64 MiB of pending certificates it takes the first. After a list that is long, or
+always after all new ones. If over 64 MiB of certificates are pending, it takes the first. After a list that is long, or
 an office that doesn't answer, it looks less often: at least once a second.
 
 At the start, and then every --publish-every seconds, the station fetches the office's KRL, of at most 32 MiB. It goes
-on signing certificates meanwhile. If `ssh-keygen -Q -l` can read the KRL, within five seconds of a processor and 400
-MiB of memory, the station asks the guard of lists (`sshstation list`) whether it revokes everything that the last
+on signing certificates meanwhile. If `ssh-keygen -Q -l` can read the KRL, within five seconds of processor time and
+400 MiB of memory, the station asks the guard of lists (`sshstation list`) whether it revokes everything that the last
 approved one does. If so, the station signs a statement of the KRL's digest, version and time, in the form of
 `ssh-keygen -Y sign -n krl@vethlumi`, and sends the front one file, by PUT of /published: the statement, the signature
 and the KRL. It prints `published VERSION` if it is new. If a KRL isn't published, the reason is printed on standard
@@ -101,8 +101,8 @@ minute. Each that doesn't take it is named on standard error, with the reason, a
 ten seconds. If this machine has had a route to addresses of IPv4 only, or of IPv6 only, the others are left out.
 
 A station that is told to end, by SIGTERM, SIGINT, SIGHUP or SIGQUIT, lets its guards end first, which copy the logs of
-their files: the guard gets a minute, and that of lists two. What else it has begun is killed. A second signal changes
-nothing.
+their files: the guard gets one minute, and the guard of lists two. What else it has begun is killed. A second signal
+changes nothing.
 
 Exit status in full: 0 if it was stopped by SIGTERM, 129, 130 or 131 if by SIGHUP, SIGINT or SIGQUIT; 1, with the reason
 on standard error, if the guard has exited, for example with `BadPolicy N`, if a file of CAs can't be read, if a file with

@@ -107,7 +107,7 @@ def unusable(path, is_database):
     try:
         found = os.stat(path)
         if not stat.S_ISREG(found.st_mode):
-            return f"{path} is no regular file"
+            return f"{path} isn't a regular file"
         if not os.access(path, os.R_OK | os.W_OK * is_database):
             can = "read and write" if is_database else "read"
             return (f"{user_name(os.geteuid())} can't {can} {path}: it belongs to {user_name(found.st_uid)}, and has "

@@ -68,7 +68,7 @@ class AgentKey:
             raise
         wanted = bytes([SIGN_RESPONSE]) + (83).to_bytes(4, "big") + SIGNATURE_BLOB
         if len(answer) != len(wanted) + 64 or not answer.startswith(wanted):
-            raise OSError("the agent doesn't sign with this key")
+            raise OSError("the agent refused to sign with this key")
         return answer[-64:]
 
     def asked(self, request):
@@ -82,7 +82,7 @@ class AgentKey:
             except (ConnectionError, EOFError):
                 self.close()
                 if is_last:
-                    raise OSError("the agent closes the connection") from None
+                    raise OSError("the agent closed the connection") from None
 
     @staticmethod
     def connected():

@@ -127,7 +127,7 @@ class Lists:
         if answer.startswith(b"refuse "):
             raise Refused("refused as " + answer.decode(errors="replace").split()[1])
         if not found or (found[1].decode(), int(found[2])) != (digest, version):
-            raise OSError("what sshstation prints is no statement of this list")
+            raise OSError("sshstation's output isn't a statement of this list")
         return answer, version
 
     def answer_of(self, words, handles):

@@ -32,7 +32,7 @@ from .workers import Workers
 
 # What is shown in place of more reasons.
 OTHER_REASONS, OTHER_CAS = "for other reasons", "refused as OtherCa, of other CAs"
-NOT_TAKEN = "its signature isn't taken"
+NOT_TAKEN = "its signature isn't accepted"
 NOT_TAKEN_FOR_OTHERS = f"{NOT_TAKEN}, {OTHER_REASONS}"
 
 
@@ -296,7 +296,7 @@ class Station:
         except OSError as fault:
             # Apart from what was never signed, among which a false office would hide it.
             why = f"{NOT_TAKEN}: {printable(fault)}"
-            self.say_at_once(row, f"station: the signature of {serial} isn't taken: {printable(fault)}")
+            self.say_at_once(row, f"station: the signature of {serial} isn't accepted: {printable(fault)}")
             self.leave(row, why, NOT_TAKEN_FOR_OTHERS)
         else:
             self.left.pop(row, None)

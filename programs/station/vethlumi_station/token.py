@@ -84,6 +84,6 @@ def slot_of(pkcs11, library, settings):
     if len(found) != 1:
         named = ", ".join(f"{label!r} in slot {slot}" for slot, label in labels.items())
         if not found:
-            raise OSError(f"no such token is there: {named}" if labels else "no token is there")
-        raise OSError(f"several tokens are there, name one by --token or --slot: {named}")
+            raise OSError(f"no such token: {named}" if labels else "no token found")
+        raise OSError(f"several tokens: choose one with --token or --slot: {named}")
     return found[0]

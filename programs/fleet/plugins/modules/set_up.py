@@ -75,7 +75,7 @@ said:
   returned: when it was run
 """
 
-NOTHING, ASKS = "everything is as it should be", "nobody can be asked here: give --yes"
+NOTHING, ASKS = "everything is as it should be", "Not a terminal. Pass --yes to confirm."
 # What vethlumi-server-setup does each time: it looks, and mends what it finds. The files say whether it did.
 LOOKS = ("believe the CA ", "leave the account ", "fetch the ", "have sshd ", "ask for the certificate of the host ",
          "open accounts of people to ")
@@ -109,7 +109,7 @@ def check_whose(bundle, caller, host):
     """Refuses somebody else's bundle, which would take the place of this caller's files: the machine that makes bundles
     may have been taken."""
     if not bundle.startswith("["):
-        raise Fault("what another machine has made for this one is no bundle")
+        raise Fault("another machine made an invalid bundle for this one")
     for part, due in (("caller", caller), ("host", host)):
         said = re.findall(rf"^\[{part}\]\n(.*)", bundle, re.M)
         if host and part == "caller":
