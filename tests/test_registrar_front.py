@@ -12,6 +12,9 @@ from providers import LOGINS, OPERATORS, PEOPLE, Provider, new_key, new_line, re
 from running import fingerprint, run, until
 from running import new_key as new_pair
 
+# Tokens count for an hour: a busy machine takes long for many kills.
+TABLES = LOGINS.replace('client_id = "vethlumi"\n', 'client_id = "vethlumi"\noldest = "1h"\n')
+
 
 @pytest.fixture
 def provider():
@@ -22,7 +25,7 @@ def provider():
 @pytest.fixture
 def behind(front, sshstation, provider, room):
     """A registrar between a front and its office, and a station that signs. `post` asks the front, as clients do."""
-    made = registrar_behind(front, sshstation, room, provider.issuer, LOGINS, [PEOPLE, OPERATORS])
+    made = registrar_behind(front, sshstation, room, provider.issuer, TABLES, [PEOPLE, OPERATORS])
     made.office = front.office
     yield made
     made.end()
@@ -113,6 +116,9 @@ def test_however_often_it_is_killed_each_person_gets_one_certificate(behind, pro
     """`--registrar-kills N` kills it N times while fifty people log in, one after the other."""
     kills = request.config.getoption("--registrar-kills")
     chance = random.Random(int(request.config.getoption("--hypothesis-seed")))
+    # Each of them has an address of their own, and not the limit of one.
+    behind.front.configure(("zone=logins:10m rate=5r/s;", "zone=logins:10m rate=500r/s;"))
+    behind.front.reload()
     behind.station.begin(programs)
     is_over, people = threading.Event(), [f"p{it}@example.org" for it in range(50)]
     lines, found = {name: new_line() for name in people}, {}
@@ -120,7 +126,7 @@ def test_however_often_it_is_killed_each_person_gets_one_certificate(behind, pro
     def one(name):
         # The logins are spread over the kills.
         is_over.wait(people.index(name) / len(people) * kills * 0.4)
-        token = provider.log_in(lines[name], name, groups=[])
+        token = provider.log_in(lines[name], name, groups=[], exp=int(time.time()) + 3600)
         found[name] = log_in_until_served(behind, token, lines[name], is_over)
 
     threads = [threading.Thread(target=one, args=(name,), daemon=True) for name in people]
