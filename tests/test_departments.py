@@ -291,7 +291,7 @@ def test_two_set_ups_at_once_end_with_what_one_of_them_sent(door, set_up):
         return answer
     door.spoil = spoil
     _, why = set_up.fails(B)
-    assert "somebody has changed the department people meanwhile" in why
+    assert "the department people was changed meanwhile" in why
 
 
 def test_an_office_that_changes_nothing_is_told(door, set_up, monkeypatch):

@@ -291,7 +291,7 @@ def test_many_serials_are_taken_only_if_somebody_says_so(loss, missing, most, is
     if is_taken:
         loss.recover(text, "--most", str(most))
         return loss.check()
-    with pytest.raises(loss.rooted.script.Fault, match="5 serials are missing, from 1 to 5: .* by --most 5"):
+    with pytest.raises(loss.rooted.script.Fault, match="5 serials are missing, from 1 to 5: .* pass --most 5"):
         loss.recover(text, "--most", str(most))
     assert loss.kept == loss.office
     huge = text + f"[list]\n# KRL version 1\n# CA key ssh-ed25519 {fingerprint_of(CAS[0])}\nserial: {2 ** 62}\n"

@@ -1324,7 +1324,7 @@ def test_an_account_is_created_once(room, monkeypatch):
 def test_a_host_has_a_key_of_a_type_that_the_office_takes(room):
     """Told at once, and not by each run of the timer. By tokens it is the registrar that is asked, which takes Ed25519
     keys alone."""
-    server, refused = load("vethlumi-server-setup"), "the file has no public key of a type that an office takes"
+    server, refused = load("vethlumi-server-setup"), "the file has no public key of a supported type"
     given = argparse.Namespace(yes=True, key=str(room / "other.pub"), life="30d")
     for kind, line in subject_keys.LINES.items():
         (room / "other.pub").write_text(f"{line} db\n")

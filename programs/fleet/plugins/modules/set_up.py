@@ -109,7 +109,7 @@ def check_whose(bundle, caller, host):
     """Refuses somebody else's bundle, which would take the place of this caller's files: the machine that makes bundles
     may have been taken."""
     if not bundle.startswith("["):
-        raise Fault("another machine made an invalid bundle for this one")
+        raise Fault("what another machine made for this one isn't a valid bundle")
     for part, due in (("caller", caller), ("host", host)):
         said = re.findall(rf"^\[{part}\]\n(.*)", bundle, re.M)
         if host and part == "caller":
