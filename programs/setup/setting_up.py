@@ -47,6 +47,8 @@ database.close()
 """
 # Where the list of revoked certificates is, and how long the first one is waited for, in seconds.
 LIST, LONGEST_WAIT = pathlib.Path("/var/lib/office-list"), 60
+# Why a list isn't taken, if no later one comes of itself that is: after the loss of an office, for instance.
+LASTING = re.compile(r"refused as (OlderVersion|OtherBytes|Forgets)\b")
 # In bytes: more than any file that set-up reads. Some are in folders of other users.
 LONGEST_TEXT = 1 << 24
 
@@ -471,9 +473,9 @@ def fetch_list():
     while True:
         try:
             return start("office-list.service")
-        except Fault:
+        except Fault as fault:
             # The station publishes the first list within seconds.
-            if time.monotonic() > end:
+            if time.monotonic() > end or LASTING.search(str(fault)):
                 raise
         time.sleep(2)
 

@@ -1302,6 +1302,24 @@ def test_a_set_up_waits_a_minute_for_the_first_list(monkeypatch, comes_at):
     assert ({"office-list.service"}, True) == ({*asked}, now[0] == comes_at if comes_at is not None else 60 <= now[0])
 
 
+@pytest.mark.parametrize("why, is_asked_again", [
+    ("OlderVersion", False), ("OtherBytes", False), ("Forgets", False), ("OlderStatement", True), ("NotSigned", True),
+])
+def test_a_set_up_waits_for_no_list_that_only_force_takes(monkeypatch, why, is_asked_again):
+    """So the set-up of many servers after the loss of an office doesn't take a minute for each."""
+    common, asked, now = load("setting_up.py"), [], [0]
+
+    def start(unit):
+        asked.append(unit)
+        raise common.Fault(f"{unit} failed: fetch-list: refused as {why}: version 0 came, and 7 is in place")
+    monkeypatch.setattr(common, "start", start)
+    monkeypatch.setattr(common, "time", types.SimpleNamespace(
+        monotonic=lambda: now[0], sleep=lambda seconds: now.append(now.pop() + seconds)))
+    with pytest.raises(common.Fault, match=why):
+        common.fetch_list()
+    assert is_asked_again == (len(asked) > 1) == (now[0] > 60)
+
+
 def test_an_account_is_created_once(room, monkeypatch):
     """Without a password, and never in the place of one that is there."""
     server = load("vethlumi-server-setup")
