@@ -528,7 +528,7 @@ def test_bad_words_set_nothing_up(room, command, words, why):
     ("server", "[office]\nhttps://a\n[caller]\nadmin\n", "this is the bundle of admin, and not of a server"),
     ("client", "[office]\nhttps://a\n[authority]\nb\n", "the bundle has no part [caller]"),
     ("office", "[office]\nhttps://a\n", "the bundle has no part [ca]"), ("server", "", "bundle is empty"),
-    ("client", "\0", "no CA's public key: '\\x00'"), ("server", None, "can't read bundle"),
+    ("client", "\0", "isn't a CA's public key: '\\x00'"), ("server", None, "can't read bundle"),
     ("client", b"\xff", "can't read bundle"),
 ], ids=repr)
 def test_a_bundle_of_another_sets_nothing_up(room, command, text, why):
@@ -2103,7 +2103,7 @@ NOT_THERE = r".* test -e \S+/{} && echo yes \|\| true"
     (["office", "o", "--station", "s", "--name", "third", "--yes"], {KEYS_OF: "+first\nfirst\n"},
      "s has no /etc/vethlumi/station/third.office: first run vethlumi-install station s --name third"),
     (["server", "c", *CLIENT[1:], "--yes"], {NOT_THERE.format("station.bundle"): ""},
-     "first type vethlumi-install office o"),
+     "first run vethlumi-install office o"),
     # A station's machine that gives something else, or an office's that brings a CA of its own.
     ([*CLIENT, "--yes"], {".*/cas.pub": ""}, "something else than CAs' public keys"),
     ([*CLIENT, "--yes"], {".*/cas.pub": f"{CA}\n[office]\n"}, "something else"),
