@@ -161,6 +161,21 @@ def test_what_was_interrupted_is_made_again(room, office):
     assert [] == [*(room / "backups").glob(".*")]
 
 
+def test_a_backup_is_on_the_disk_before_it_has_its_name_and_then_before_older_ones_go(room, office):
+    """After a power failure a folder with the name of a backup would have files that are empty."""
+    (room / "bin/sync").write_text(
+        f'#!/bin/sh\n[ "$*" = "-f {room}/backups" ] && find {room}/backups -printf "%P " >>{room}/found\n'
+        f'echo >>{room}/found\n')
+    (room / "bin/sync").chmod(0o755)
+    older = "office-2026-01-01T000000Z"
+    (room / "backups" / older).mkdir(parents=True)
+    made = office(keep=1).name
+    whole = [{f"{it}/databases/office.db", f"{it}/files.tar.gz"} for it in (".office.whole", made)]
+    found = [{*it.split()} for it in (room / "found").read_text().splitlines()]
+    assert [[True, False], [False, True]] == [[it <= names for it in whole] for names in found], found
+    assert [True, True, False] == [older in it for it in (*found, {it.name for it in office.made()})]
+
+
 @pytest.mark.parametrize("keep, left", [(1, 1), (3, 3), (4, 4), (9, 4)])
 def test_the_newest_backups_stay(room, office, keep, left):
     """And what isn't one of them."""

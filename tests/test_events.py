@@ -290,6 +290,19 @@ def test_an_output_that_nobody_takes_ends_it(room):
     assert 1 == len(passed_on("log"))
 
 
+def test_a_line_that_nobody_has_taken_is_passed_on_by_the_next_run(room):
+    """The output takes the first line, and no more: how far the log was passed on isn't noted beyond it."""
+    add(logged())
+    taken = run([FOLLOWS, "--once", "log", "another"]).stdout
+    add(logged(request="web-2") + logged(request="web-3"))
+    with open("taken", "wb") as file:
+        done = subprocess.run(["prlimit", f"--fsize={len(taken)}", FOLLOWS, "--once", "log", "position"], stdout=file,
+                              stderr=subprocess.PIPE)
+    assert 1 == done.returncode and b"vethlumi-front-events: output: File too large" in done.stderr
+    assert taken == (room / "taken").read_bytes()
+    assert ["web-2", "web-3"] == [it["request"] for it in passed_on("log")]
+
+
 # ---- by all together
 
 PEOPLE = department("web", admins="ana", principals="alice,bob,lost", maxlife=10 ** 11)
