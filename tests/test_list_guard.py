@@ -163,6 +163,15 @@ def test_a_list_may_speak_of_the_cas_that_are_named_alone(lists):
     assert "OtherCa" == lists.judge(both, cas=(0x12,))
 
 
+@pytest.mark.rows
+@pytest.mark.parametrize("place", ["ca17.pub/lists.db", "l" * 300], ids=["below-a-file", "too-long-a-name"])
+def test_where_nobody_can_look_it_is_not_said_that_there_is_no_guard(lists, room, place):
+    (room / "list").write_bytes(published(ONE, {ALICE}, 5))
+    before = sorted(os.listdir(room))
+    assert (1, "", "sshstation: Device\n") == lists.run("list", "--db", place, "--ca", "ca17.pub", "--begin", "list")
+    assert before == sorted(os.listdir(room))
+
+
 # ---- long lists
 
 SHORT = published(((0x11, {1}),), set(), 1)

@@ -711,6 +711,16 @@ def test_what_reads_a_guard_makes_no_file(sshstation, room, words):
     assert [] == os.listdir(room)
 
 
+@pytest.mark.parametrize("place", ["policy/guard.db", "g" * 300], ids=["below-a-file", "too-long-a-name"])
+@pytest.mark.parametrize("words", [["judge", "--policy", "policy", "a"], ["bodies"], ["body", "1"],
+                                   ["retire", "--last", "1"]], ids=lambda it: it[0])
+def test_where_nobody_can_look_it_is_not_said_that_there_is_no_guard(guard, room, words, place):
+    put(room, a=body(1))
+    before = sorted(os.listdir(room))
+    assert (1, "", "sshstation: Device\n") == guard.run(words[0], "--db", place, *words[1:])
+    assert before == sorted(os.listdir(room))
+
+
 @pytest.mark.parametrize("change, fault", [
     ("UPDATE guard SET schema = 2", "WrongSchema"), ("UPDATE guard SET ca = x'00'", "Damaged"),
     ("UPDATE guard SET first = 0", "Damaged"), ("UPDATE guard SET id = 2", "Damaged"),
