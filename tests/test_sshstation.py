@@ -864,6 +864,17 @@ def test_a_clock_past_the_latest_moment_is_a_fault(guard, room, moment, wanted):
     assert [] == guard.bodies()
 
 
+@pytest.mark.parametrize("strange", [{"EARLY_CLOCK": "yes"}, {"MOMENT": "none"}], ids=["before 1970", "fails"])
+def test_without_a_time_nothing_is_judged(guard, room, strange):
+    """No other time stands for it: not even what was valid when 1970 began is signed, as a file or in a batch."""
+    data = body(1, after=0, before=2000)
+    put(room, a=data)
+    environment = os.environ | {"LD_PRELOAD": str(preloaded("strange_system.c", room))} | strange
+    assert (1, "", "sshstation: Clock\n") == guard.judge("a", env=environment)
+    assert (1, "", "sshstation: Clock\n") == guard.judge("-", env=environment, stdin=None, input=batch(data))
+    assert [] == guard.bodies()
+
+
 def test_a_file_that_is_missing_is_told_before_a_clock_that_has_stopped(guard, room):
     strange = preloaded("strange_system.c", room)
     environment = os.environ | {"LD_PRELOAD": str(strange), "MOMENT": str(LATEST + 1)}
