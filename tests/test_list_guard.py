@@ -18,7 +18,7 @@ import pytest
 import plain_lists
 from asking import key_line
 from lists import header, key_ids, published, ranged, section, single
-from running import run
+from running import preloaded, run
 from test_lists import ALICE, BOB, LAST, grown
 
 ONE = ((0x11, {1, 2, 5}),)
@@ -161,6 +161,24 @@ def test_a_list_may_speak_of_the_cas_that_are_named_alone(lists):
     assert 1 == lists.judge(both, "--begin", cas=(0x12, 0x11))
     assert 1 == lists.judge(both, cas=(0x11, 0x12, 0x11))
     assert "OtherCa" == lists.judge(both, cas=(0x12,))
+
+
+@pytest.mark.rows
+@pytest.mark.parametrize("strange", [{"EARLY_CLOCK": "yes"}, {"MOMENT": "none"}], ids=["before 1970", "fails"])
+def test_without_a_time_no_list_is_stated(lists, room, strange):
+    (room / "list").write_bytes(published(ONE, {ALICE}, 5))
+    environment = os.environ | {"LD_PRELOAD": str(preloaded("strange_system.c", room))} | strange
+    assert (1, "", "sshstation: Clock\n") == lists.ask("list", "--begin", env=environment)
+    assert lists.kept() is None
+
+
+@pytest.mark.rows
+@pytest.mark.parametrize("place", ["ca17.pub/lists.db", "l" * 300], ids=["below-a-file", "too-long-a-name"])
+def test_where_nobody_can_look_it_is_not_said_that_there_is_no_guard(lists, room, place):
+    (room / "list").write_bytes(published(ONE, {ALICE}, 5))
+    before = sorted(os.listdir(room))
+    assert (1, "", "sshstation: Device\n") == lists.run("list", "--db", place, "--ca", "ca17.pub", "--begin", "list")
+    assert before == sorted(os.listdir(room))
 
 
 # ---- long lists

@@ -711,6 +711,16 @@ def test_what_reads_a_guard_makes_no_file(sshstation, room, words):
     assert [] == os.listdir(room)
 
 
+@pytest.mark.parametrize("place", ["policy/guard.db", "g" * 300], ids=["below-a-file", "too-long-a-name"])
+@pytest.mark.parametrize("words", [["judge", "--policy", "policy", "a"], ["bodies"], ["body", "1"],
+                                   ["retire", "--last", "1"]], ids=lambda it: it[0])
+def test_where_nobody_can_look_it_is_not_said_that_there_is_no_guard(guard, room, words, place):
+    put(room, a=body(1))
+    before = sorted(os.listdir(room))
+    assert (1, "", "sshstation: Device\n") == guard.run(words[0], "--db", place, *words[1:])
+    assert before == sorted(os.listdir(room))
+
+
 @pytest.mark.parametrize("change, fault", [
     ("UPDATE guard SET schema = 2", "WrongSchema"), ("UPDATE guard SET ca = x'00'", "Damaged"),
     ("UPDATE guard SET first = 0", "Damaged"), ("UPDATE guard SET id = 2", "Damaged"),
@@ -851,6 +861,17 @@ def test_a_clock_past_the_latest_moment_is_a_fault(guard, room, moment, wanted):
     put(room, a=body(1, before=LATEST), policy=department(maxlife=LATEST).encode())
     strange = preloaded("strange_system.c", room)
     assert wanted == guard.judge("a", env=os.environ | {"LD_PRELOAD": str(strange), "MOMENT": str(moment)})
+    assert [] == guard.bodies()
+
+
+@pytest.mark.parametrize("strange", [{"EARLY_CLOCK": "yes"}, {"MOMENT": "none"}], ids=["before 1970", "fails"])
+def test_without_a_time_nothing_is_judged(guard, room, strange):
+    """No other time stands for it: not even what was valid when 1970 began is signed, as a file or in a batch."""
+    data = body(1, after=0, before=2000)
+    put(room, a=data)
+    environment = os.environ | {"LD_PRELOAD": str(preloaded("strange_system.c", room))} | strange
+    assert (1, "", "sshstation: Clock\n") == guard.judge("a", env=environment)
+    assert (1, "", "sshstation: Clock\n") == guard.judge("-", env=environment, stdin=None, input=batch(data))
     assert [] == guard.bodies()
 
 
