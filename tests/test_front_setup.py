@@ -373,3 +373,58 @@ def test_others_read_no_private_key_of_a_caller(room):
             file.chmod(mode)
         run(words, check=True, env=os.environ | {"HOME": str(room / "home")}, umask=0)
         assert (pem, 0o600) == (file.read_text(), file.stat().st_mode & 0o777)
+
+
+# ---- units that have to read what changed
+
+SYSTEMCTL = """#!/bin/sh
+case $1 in
+is-active) shift; for it; do cat {room}/$it.state; done ;;
+is-enabled) shift; for it; do echo enabled; done ;;
+*) echo "$@" >>{room}/said; [ ! -e {room}/fails ] ;;
+esac
+"""
+
+
+@pytest.fixture
+def units(room, monkeypatch):
+    """A set-up of one file and these units, with a stand-in for systemctl: what it asks of systemd."""
+    (room / "bin").mkdir()
+    (room / "bin/systemctl").write_text(SYSTEMCTL.format(room=room))
+    (room / "bin/systemctl").chmod(0o755)
+    monkeypatch.setenv("PATH", f"{room}/bin:{os.environ['PATH']}")
+    monkeypatch.setattr(os, "getuid", lambda: 1000)
+    setting_up = loaded(TOP / "programs/setup/vethlumi-front-setup").setting_up
+    monkeypatch.setattr(setting_up, "UNREAD", room / "unread")
+
+    def do(text, *names, stopped=(), fails=False):
+        for name in names:
+            (room / f"{name}.state").write_text("inactive\n" if name in stopped else "active\n")
+        (room / "said").write_text("")
+        (room / "fails").touch() if fails else (room / "fails").unlink(missing_ok=True)
+        steps = setting_up.Steps(argparse.Namespace(yes=True), "set-up")
+        steps.file(room / "conf", text)
+        steps.units(*names)
+        steps.carry_out()
+        return (room / "said").read_text().splitlines()
+    do.fault = setting_up.Fault
+    return do
+
+
+def test_a_unit_reads_what_changed_and_no_more(units):
+    assert ["reload-or-restart a"] == units("1", "a")
+    assert [] == units("1", "a")
+    assert ["reload-or-restart a b"] == units("2", "a", "b")
+    # What is started reads it then. What runs beside it has to be told.
+    assert ["enable --now a"] == units("3", "a", stopped="a")
+    assert ["enable --now a b", "reload-or-restart a"] == units("4", "a", "b", stopped="b")
+    assert [] == units("4", "a", "b")
+
+
+def test_a_unit_that_could_not_read_what_changed_is_told_again(units):
+    """The file is as it should be by then: a client that was revoked would get in until somebody reloads the front."""
+    units("1", "a")
+    with pytest.raises(units.fault, match="have a read what changed: systemctl reload-or-restart a"):
+        units("2", "a", fails=True)
+    assert ["reload-or-restart a"] == units("2", "a")
+    assert [] == units("2", "a")

@@ -25,6 +25,7 @@ class Renewing:
         (room / "front").mkdir()
         monkeypatch.setattr(it, "FRONT", room / "front")
         monkeypatch.setattr(it, "STATE", room / "state")
+        monkeypatch.setattr(it.setting_up, "UNREAD", room / "unread")
         environment = os.environ | {"DAYS": str(days)}
         run(["authority", "new", self.folder, "front.example.org", "192.0.2.7"], check=True, env=environment)
         run(["authority", "caller", self.folder, "ana"], check=True)
@@ -88,6 +89,19 @@ def test_what_a_killed_run_has_made_is_copied_by_the_next(room, monkeypatch):
     monkeypatch.setattr(renewing.script, "copy", copy)
     assert ["reload office-front"] == renewing()
     assert made == renewing.shown("server.crt") == (renewing.folder / "server.crt").read_text()
+
+
+def test_a_front_that_could_not_read_it_is_asked_again(room, monkeypatch):
+    """The files are the same by then."""
+    renewing = Renewing(room, monkeypatch, 10)
+    systemctl = room / "bin/systemctl"
+    works = systemctl.read_text()
+    systemctl.write_text(works + "exit 1\n")
+    with pytest.raises(renewing.script.Fault, match="systemctl reload office-front"):
+        renewing()
+    systemctl.write_text(works)
+    assert ["reload office-front"] == renewing()
+    assert [] == renewing()
 
 
 def test_a_machine_without_the_authority_renews_nothing(room, monkeypatch):

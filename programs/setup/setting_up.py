@@ -47,6 +47,8 @@ database.close()
 """
 # Where the list of revoked certificates is, and how long the first one is waited for, in seconds.
 LIST, LONGEST_WAIT = pathlib.Path("/var/lib/office-list"), 60
+# A file for each unit that has to read what changed, until it has.
+UNREAD = pathlib.Path("/var/lib/vethlumi-unread")
 # Why a list isn't taken, if no later one comes of itself that is: after the loss of an office, for instance.
 LASTING = re.compile(r"refused as (OlderVersion|OtherBytes|Forgets)\b")
 # In bytes: more than any file that set-up reads. Some are in folders of other users.
@@ -353,6 +355,29 @@ def is_of(path, mode, user, group):
     return stat.S_IMODE(found.st_mode) == mode and owner in (None, (found.st_uid, found.st_gid))
 
 
+def marks_of(names):
+    return [UNREAD / it for it in names]
+
+
+def mark_unread(names):
+    """Keeps that these units have to read what changed, until they have: a run that is cut off before that has the next
+    one do it."""
+    UNREAD.mkdir(mode=0o755, parents=True, exist_ok=True)
+    for mark in marks_of(names):
+        mark.touch()
+
+
+def is_unread(*names):
+    return any(it.exists() for it in marks_of(names))
+
+
+def have_read(how, names):
+    """Has units read what changed, by a command of systemctl."""
+    run(["systemctl", *how, *names])
+    for mark in marks_of(names):
+        mark.unlink(missing_ok=True)
+
+
 class Steps:
     """What a set-up will do. A step that is done already isn't shown, so a second run shows nothing but changes."""
 
@@ -360,6 +385,8 @@ class Steps:
         self.given, self.program, self.steps, self.changed = given, program, [], set()
         # What has to be there before the first step: each folder and its mode.
         self.folders = {}
+        # The units that will have to read what changes.
+        self.readers = []
 
     def add(self, what, do):
         self.steps.append((what, do))
@@ -394,15 +421,18 @@ class Steps:
         self.add(f"make {what} {path}{left}", lambda: put_database(user, path, make))
 
     def units(self, *names):
-        """A step that enables units and starts them, and has those that run read what changed."""
+        """A step that enables units and starts them, and one that has those that run read what changed, in this run or
+        in an earlier one that was cut off."""
         states = subprocess.run(["systemctl", "is-active", *names], capture_output=True, text=True).stdout.split()
         enabled = subprocess.run(["systemctl", "is-enabled", *names], capture_output=True, text=True).stdout.split()
-        if {*states} != {"active"} or {*enabled} != {"enabled"}:
+        run_already = [name for name, state in zip(names, states) if state == "active"]
+        if [*names] != run_already or {*enabled} != {"enabled"}:
             self.add(f"start {' and '.join(names)}, now and at each boot",
                      lambda: run(["systemctl", "enable", "--now", *names]))
-        elif self.changed:
-            self.add(f"have {' and '.join(names)} read what changed",
-                     lambda: run(["systemctl", "reload-or-restart", *names]))
+        if run_already and (self.changed or is_unread(*run_already)):
+            self.readers += run_already
+            self.add(f"have {' and '.join(run_already)} read what changed",
+                     lambda: have_read(["reload-or-restart"], run_already))
 
     def carry_out(self):
         """Shows the steps, asks, and does them."""
@@ -419,6 +449,8 @@ class Steps:
                 raise Fault("nothing was done")
         for folder, mode in self.folders.items():
             folder.mkdir(mode=mode, parents=True, exist_ok=True)
+        if self.readers:
+            mark_unread(self.readers)
         for what, do in self.steps:
             try:
                 do()
