@@ -525,7 +525,7 @@ def test_bad_words_set_nothing_up(room, command, words, why):
 
 
 @pytest.mark.parametrize("command, text, why", [
-    ("server", "[office]\nhttps://a\n[caller]\nadmin\n", "this is the bundle of admin, and not of a server"),
+    ("server", "[office]\nhttps://a\n[caller]\nadmin\n", "this bundle is for admin, not for a server"),
     ("client", "[office]\nhttps://a\n[authority]\nb\n", "the bundle has no part [caller]"),
     ("office", "[office]\nhttps://a\n", "the bundle has no part [ca]"), ("server", "", "bundle is empty"),
     ("client", "\0", "isn't a CA's public key: '\\x00'"), ("server", None, "can't read bundle"),
@@ -580,15 +580,19 @@ esac
 
 @pytest.mark.parametrize("active, enabled, is_changed, due", [
     ("active", "enabled", False, []), ("active", "enabled", True, ["reload-or-restart a b"]),
-    ("inactive", "enabled", False, ["enable --now a b"]), ("failed", "enabled", True, ["enable --now a b"]),
-    ("active", "disabled", False, ["enable --now a b"]), ("active", "disabled", True, ["enable --now a b"])])
+    ("inactive", "enabled", False, ["enable --now a b"]),
+    ("failed", "enabled", True, ["enable --now a b", "reload-or-restart b"]),
+    ("active", "disabled", False, ["enable --now a b"]),
+    ("active", "disabled", True, ["enable --now a b", "reload-or-restart a b"])])
 def test_a_unit_of_a_set_up_runs_now_and_after_a_boot(room, monkeypatch, active, enabled, is_changed, due):
     """The first of two units is in this state. One that runs and isn't enabled would be gone after the next boot."""
     (room / "bin").mkdir()
     (room / "bin/systemctl").write_text(SYSTEMCTL.format(active=active, enabled=enabled, room=room))
     (room / "bin/systemctl").chmod(0o755)
     monkeypatch.setenv("PATH", f"{room}/bin:{os.environ['PATH']}")
-    steps = load("setting_up.py").Steps(None, "vethlumi-server-setup")
+    setting_up = load("setting_up.py")
+    monkeypatch.setattr(setting_up, "UNREAD", room / "unread")
+    steps = setting_up.Steps(None, "vethlumi-server-setup")
     steps.changed |= {"a file"} if is_changed else set()
     steps.units("a", "b")
     for _, do in steps.steps:
@@ -1895,7 +1899,7 @@ def test_what_names_the_cas_that_a_machine_trusts(room):
     (["office", "o"], "give --station too"), (["server", "s", "--station", "s"], "give --office too"),
     (["station", "-s"], "station needs MACHINE"), (["station", "s."], "no machine"), (["station", ".s"], "no machine"),
     (["station", "\u0455"], "no machine"), (["station", "s\n"], "no machine"), (["station", 254 * "s"], "no machine"),
-    ([*CLIENT, "--name", "first"], "client takes no --name"), (["station", "s", "--name", "a/b"], "invalid key name"),
+    ([*CLIENT, "--name", "first"], "client takes no --name"), (["station", "s", "--name", "a/b"], "no name of a key"),
     ([*CLIENT, "--first", "7"], "client takes no --first"), (["station", "s", "--first", "0"], "a serial is a number"),
     (["station", "s", "--caller", "ana"], "station takes no --caller"), ([*CLIENT, "--caller", "-a"], "expected one"),
     ([*CLIENT, "--caller", "a/b"], "no name of a caller"), ([*CLIENT, "--caller", "station"], "station isn't somebody"),
@@ -2028,7 +2032,7 @@ class StrangeSsh:
         (self.room / "strange-bin/ssh").write_text(STRANGE.format(asked=asked, does=does, room=self.room))
         (self.room / "strange-bin/ssh").chmod(0o755)
         given = argparse.Namespace(role="station", machine="s", office=None, station=None, ca=[], caller=None,
-                                   name=None, first=None, packages=None, further=[], yes=True)
+                                   name=None, first=None, packages=None, further=[], yes=True, allow_downgrades=False)
         try:
             self.script.do(given, self.script.setting_up.Steps(given, "vethlumi-install"))
             why = ""
