@@ -275,7 +275,7 @@ def test_a_key_of_each_type_gets_its_certificate(room, kind):
 
 
 # A public key's line of one type each that no office takes, and what both programs say of it.
-NO_TYPE, NO_KEY = "no public key of a type that an office takes: ", "has no key of the type "
+NO_TYPE, NO_KEY = "no public key of a supported type: ", "has no key of the type "
 NO_SUBJECTS = [
     ("ssh-dss", line_of("ssh-dss", [b"\1", b"\2", b"\3", b"\4"]), NO_TYPE),
     ("a certificate", f"{CERTIFICATES[ED25519]} {LINES[ED25519].split()[1]}", NO_TYPE),

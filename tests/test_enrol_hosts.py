@@ -323,7 +323,7 @@ def test_what_enrolment_cannot_be_set_up_with_changes_nothing(registering, room)
     registering.refuses("the first run needs SETTINGS, or --enrol-department", "--enrol-keys", "keys")
     registering.refuses("the office has no department web", "--enrol-keys", "keys", "--enrol-department", "web")
     registering.refuses("may be standard input, and not both", "logins.toml", "-", "--enrol-keys", "-")
-    registering.refuses("enrol.jwks isn't a regular file", "--enrol-department", "hosts")
+    registering.refuses("enrol.jwks isn't the absolute path of a readable file", "--enrol-department", "hosts")
     for text in (OF_HOSTS.replace("{name}.example", "web.example"), OF_HOSTS.replace("kind host", "kind user")):
         (room / "door").write_text(text)
         registering.refuses("isn't one of hosts with a rule such as {name}.example.org", *ENROL)

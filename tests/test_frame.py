@@ -33,4 +33,4 @@ def test_a_certificate_through_the_front(front, station, room):
 def test_a_page_in_the_browser(front, browser, make_relay):
     front.session("root").post(f"{front.url}/v1/requests/web", data=department())
     browser.get(make_relay(front, "watch").url + "/page/")
-    assert "SSH certificate office" == browser.title
+    assert "Vethlumi: SSH certificate office" == browser.title

@@ -104,7 +104,7 @@ def test_a_page_of_another_site_posts_nothing_as_the_caller(browsed, another_sit
 @pytest.mark.parametrize("way", ["fetch", "request", "beacon"])
 def test_the_front_s_own_page_posts_nothing_either(browsed, way):
     show(browsed.browser, f"{browsed.url}/page/")
-    assert "SSH certificate office" == browsed.browser.title
+    assert "Vethlumi: SSH certificate office" == browsed.browser.title
     refused_by_the_front(browsed, f"own-{way}", TRIES[way])
 
 

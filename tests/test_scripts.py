@@ -131,8 +131,8 @@ def test_other_words_are_refused_while_the_first_have_no_answer(asking):
     asking.ask_for("--wait", 1, asking.url, *ALICE)
     with open("alice.request", encoding="ascii") as file:
         kept = file.read()
-    why = ("request: alice.request has another message, which has no certificate yet: ask with its words again, or "
-           "remove the file")
+    why = ("request: alice.request has another message, still without a certificate: repeat that command, or remove "
+           "the file")
     assert (1, "", why) == asking.ask_for("--wait", 1, asking.url, "web", "web/other", "alice.pub", "alice", "8h")
     with open("alice.request", encoding="ascii") as file:
         assert kept == file.read()
