@@ -114,6 +114,8 @@ def test_a_host_has_a_key_of_any_type_that_its_department_lists(host, station, s
         (room / "host.pub").write_text(f"{line} db\n")
         assert "" == renewed(host, station, next(serials), "--now")
         assert CERTIFICATES[kind] == host.present.read_text().split()[0]
+        # A renewal has to end later, by a second at least.
+        time.sleep(1.1)
         assert "" == renewed(host, station, next(serials), "--now"), "a renewal"
     assert 200 == served.post("root", "plain", department(**OF_HOST, key_types=[P256, SK_ED25519])).status
     before = host.present.read_bytes()
