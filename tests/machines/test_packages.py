@@ -1052,6 +1052,18 @@ UNFIT = [
                             "token: say witness = false"),
     (NAMED_ADMINS, FITTING.partition("[department")[0] + "[department.people]\nwitness = false\n", None),
     (LOGINS, FITTING.replace('life = "10h"', 'life = "10x"'), "BadTime: line 10: department.people.life"),
+    *((LOGINS.replace("*@people", rules) + department("web", principals=others), UNWITNESSED, why and (
+        f"the department web has witness = false, and its rule {why[0]} in the policy permits principals that {why[1]} "
+        "of the witnessed department people permits too: there anybody gets them without a login. Let each principal "
+        "of people end with @people, or close web: principals nobody"))
+      for rules, others, why in (
+          ("{name}@people", "{name}@people", ("{name}@people", "{name}@people")), ("{name}@people", "{name}@web", None),
+          ("{name}@people", "ana@people", ("ana@people", "{name}@people")), ("{name}@people", "@people,people", None),
+          ("ops@people,{name}@people", "b@web,*.b@people", ("*.b@people", "{name}@people")),
+          ("{name}.b@people", "*@people", ("*@people", "{name}.b@people")), ("ana@people", "ana@web,bob@people", None),
+          ("*@people", "{name}@web.people", None), ("{name}", "ana", ("ana", "{name}")), ("{name}", "root,nobody", None),
+          ("{name}", "{name}@web", ("{name}@web", "{name}")), ("ana", "{name}", ("{name}", "ana")),
+          ("root", "root", ("root", "root")), ("*@people,nobody", "nobody", None))),
 ]
 
 
