@@ -572,7 +572,8 @@ def objections(text, kind="ssh-ed25519"):
 
 
 @pytest.mark.parametrize("kind", KEYS)
-@pytest.mark.parametrize("types", [[], ["ssh-ed25519"], ["ssh-rsa"], [*KEYS][::2], [*KEYS][1::2], [*KEYS]], ids=range(6))
+@pytest.mark.parametrize("types", [[], ["ssh-ed25519"], ["ssh-rsa"], [*KEYS][::2], [*KEYS][1::2], [*KEYS]],
+                         ids=range(6))
 def test_a_certificate_for_a_key_that_is_not_permitted_is_told(types, kind):
     """A list may come, become shorter, or go: then plain Ed25519 keys alone are permitted."""
     due = [] if kind in (types or ["ssh-ed25519"]) else [f"key type {kind}"]

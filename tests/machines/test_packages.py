@@ -1061,9 +1061,10 @@ UNFIT = [
           ("{name}@people", "ana@people", ("ana@people", "{name}@people")), ("{name}@people", "@people,people", None),
           ("ops@people,{name}@people", "b@web,*.b@people", ("*.b@people", "{name}@people")),
           ("{name}.b@people", "*@people", ("*@people", "{name}.b@people")), ("ana@people", "ana@web,bob@people", None),
-          ("*@people", "{name}@web.people", None), ("{name}", "ana", ("ana", "{name}")), ("{name}", "root,nobody", None),
-          ("{name}", "{name}@web", ("{name}@web", "{name}")), ("ana", "{name}", ("{name}", "ana")),
-          ("root", "root", ("root", "root")), ("*@people,nobody", "nobody", None))),
+          ("*@people", "{name}@web.people", None), ("{name}", "ana", ("ana", "{name}")),
+          ("{name}", "root,nobody", None), ("{name}", "{name}@web", ("{name}@web", "{name}")),
+          ("ana", "{name}", ("{name}", "ana")), ("root", "root", ("root", "root")),
+          ("*@people,nobody", "nobody", None))),
 ]
 
 
