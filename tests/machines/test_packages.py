@@ -1079,6 +1079,19 @@ def test_the_settings_of_a_witness_fit_the_policy(room, keeping, policy, setting
             station.check_witness(room / "witness.toml", policy)
 
 
+def test_the_page_on_logins_gives_them_principals_of_their_own(room, keeping):
+    """Beside the department that INSTALLING has set up. If both permitted ana@people, a front could be ana."""
+    station, _ = keeping
+    page = (TOP / "docs/SIGNON.md").read_text()
+    staff, settings = (re.search(rf"cat >>?\S*{it} <<'END'\n(.*?)\nEND\n", page, re.S)[1] + "\n" for it in (
+        r"first\.policy", r"witness\.toml"))
+    people = station.PEOPLE.format(name="people", admins="admin,{name}", principals="{name}@people")
+    (room / "witness.toml").write_text(settings)
+    station.check_witness(room / "witness.toml", people + staff)
+    with pytest.raises(station.Fault, match="the department people has witness = false, and its rule {name}@people"):
+        station.check_witness(room / "witness.toml", people + staff.replace("{name}@staff", "{name},{name}@people"))
+
+
 def test_a_station_gets_a_witness_and_keeps_it(room, keeping, monkeypatch):
     station, _ = keeping
     monkeypatch.setattr(station.setting_up.Steps, "units", lambda *_: None)
