@@ -155,6 +155,9 @@ def test_what_is_no_public_key_goes_nowhere(installing, room, text, why):
     assert (1, True, []) == (status, why in told, told_to(said)), told
 
 
+WITNESSED = r"(?s)\S+ sh -c for it in \S+/\*\.witness; .*"
+
+
 def policy(*rules, name="people", kind="user"):
     return f"department {name}\nkind {kind}\nadmins a\nprincipals {','.join(rules)}\noptions\n"
 
@@ -179,11 +182,46 @@ PEOPLE = [
 def test_people_log_in_to_a_new_server_as_the_policy_has_it(installing, is_new, text, given, due):
     """One that is set up stays as it is, unless somebody says so."""
     answers = {r".* test -e /etc/ssh/sshd_config\.d/vethlumi\.conf && .*": "" if is_new else "yes\n",
-               r"\S+ sh -c cat /etc/vethlumi/station/\*\.policy": text}
+               r"\S+ sh -c cat /etc/vethlumi/station/\*\.policy": text, WITNESSED: ""}
     status, told, said = installing("add-server", "web.example.org", *given, *OF, **answers)
     assert 0 == status, told
     words = said[-1][1:-2]
     assert ("vethlumi-server-setup", *(due if is_new or given else []), "--yes") == words, told
+    # Whoever expects people to log in as themselves learns that they don't.
+    is_left_out = is_new and not due and any(f"{{name}}@{it}\n" in text.replace(",", "\n") for it in (
+        "staff", "jobs", "people") if f"department {it}\nkind user" in text)
+    assert is_left_out == ("web.example.org is set up without --people: " in told), told
+
+
+# What a witness looks at, as the station says it, and the departments that open accounts.
+BOTH = OWN + policy("{name}@staff", name="staff")
+WITNESSES = [("people -\nstaff corp\n", ["staff"]), ("", ["people"]), ("people -\nstaff -\n", ["people"]),
+             ("people corp\nstaff corp\n", ["people", "staff"]), ("web corp\n", ["people"])]
+
+
+@pytest.mark.parametrize("told, due", WITNESSES, ids=range(len(WITNESSES)))
+def test_a_new_server_lets_in_those_whose_logins_are_witnessed(installing, told, due):
+    """Otherwise a front would open ana's account by a department in which nobody needs a token."""
+    answers = {r".* test -e /etc/ssh/sshd_config\.d/vethlumi\.conf && .*": "", WITNESSED: told,
+               r"\S+ sh -c cat /etc/vethlumi/station/\*\.policy": BOTH}
+    status, shown, said = installing("add-server", "web.example.org", *OF, **answers)
+    assert (0, ("vethlumi-server-setup", *[word for it in due for word in ("--people", it)], "--yes")) == (
+        status, said[-1][1:-2]), shown
+
+
+@pytest.mark.parametrize("text, why", [
+    (OWN + policy("{name}", name="staff"), "the department staff permits principals without @, so each account opens "
+                                           "to its bare name, accounts of the system too. To open accounts of people "
+                                           "to NAME@people, and to nothing else, pass --people people\n"),
+    (policy("{name}@staff", name="staff") + policy("{name}@jobs", name="jobs"),
+     "several departments permit {name}@DEPARTMENT. To open accounts of people to NAME@staff, and to nothing else, "
+     "pass --people staff\n"),
+], ids=["bare", "several"])
+def test_a_new_server_without_people_is_told_of(installing, text, why):
+    status, told, _ = installing("server", "c", *OF, **{
+        r".* test -e /etc/ssh/sshd_config\.d/vethlumi\.conf && .*": "", WITNESSED: "",
+        r"\S+ sh -c cat /etc/vethlumi/station/\*\.policy": text})
+    assert (0, True) == (status, f"c is set up without --people: {why}" in told), told
 
 
 GUARDS = "[guard SHA256:" + 43 * "a" + "]\n7 " + 64 * "0" + " 1700000000 people/alice\n"

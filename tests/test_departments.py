@@ -14,11 +14,11 @@ import time
 import pytest
 
 import plain_guard
-from asking import CA, OTHER_CA, department, key_blob
+from asking import CA, OTHER_CA, body, department, key_blob
 from plain_office import PlainOffice
 from recording import whole_request
 from running import TOP, loaded
-from subject_keys import CERTIFICATES, LINES
+from subject_keys import CERTIFICATES, KEYS, LINES
 from test_vethlumi import Client
 
 A = department("people", principals="alice", admins="admin")
@@ -548,12 +548,36 @@ def test_the_client_shows_the_departments_of_the_office(root):
     assert (2, "", "vethlumi: the office has no department zoe\n") == root("department", "show", "zoe")
 
 
-def objections(text):
-    """Why a department wouldn't permit a certificate of `alice@people` whose key ID is `people/alice/laptop`."""
+@pytest.mark.parametrize("musts, types, due", [
+    ([], [], ["ssh-ed25519"]), ([], ["ssh-rsa", "ssh-ed25519"], ["ssh-rsa", "ssh-ed25519"]),
+    (["force-command /bin/true -x", "source-address 10.0.0.0/8,192.0.2.0/24", "verify-required"],
+     ["sk-ssh-ed25519@openssh.com"], ["sk-ssh-ed25519@openssh.com"])], ids=range(3))
+def test_all_of_a_department_is_shown_to_programs(room, root, musts, types, due):
+    """Without a list of types, plain Ed25519 keys alone are permitted."""
+    text = department("people", principals="{name}@people", admins="admin,{name}", options="force-command", musts=musts,
+                      extensions="permit-pty", key_types=types, maxlife=60, namespaces="git")
+    (room / "policy").write_text(text)
+    assert [{"name": "people", "kind": "user", "admins": ["admin", "{name}"], "principals": ["{name}@people"],
+             "options": ["force-command"], "must": musts, "extensions": ["permit-pty"], "key-types": due, "maxlife": 60,
+             "namespaces": ["git"]}] == root.json("department", "show", "--policy", "policy")
+
+
+def objections(text, kind="ssh-ed25519"):
+    """Why a department wouldn't permit a certificate of `alice@people` whose key ID is `people/alice/laptop`, for a key
+    of this type."""
     formats = loaded(TOP / "programs/client/vethlumi/formats.py")
-    certificate = argparse.Namespace(kind="user", key_id="people/alice/laptop", principals=["alice@people"], options=[],
-                                     extensions=[], after=1, before=2)
-    return formats.departments(text)["people"].objections(certificate)
+    made = body(ca=key_blob(0x11), key_id="people/alice/laptop", principals=["alice@people"], after=1, before=2,
+                key=KEYS[kind], type_name=CERTIFICATES[kind].encode())
+    return formats.departments(text)["people"].objections(formats.Certificate.of_bytes(made))
+
+
+@pytest.mark.parametrize("kind", KEYS)
+@pytest.mark.parametrize("types", [[], ["ssh-ed25519"], ["ssh-rsa"], [*KEYS][::2], [*KEYS][1::2], [*KEYS]],
+                         ids=range(6))
+def test_a_certificate_for_a_key_that_is_not_permitted_is_told(types, kind):
+    """A list may come, become shorter, or go: then plain Ed25519 keys alone are permitted."""
+    due = [] if kind in (types or ["ssh-ed25519"]) else [f"key type {kind}"]
+    assert due == objections(department("people", principals="{name}@people", key_types=types), kind)
 
 
 def test_the_client_compares_a_policy_with_the_office(room, root):

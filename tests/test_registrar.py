@@ -237,7 +237,7 @@ def test_no_name_gives_what_a_template_gives_to_another_name(make_registrar, pro
 
 
 def test_nobody_is_called_as_another_one_of_two_templates(make_registrar, provider, office):
-    """As docs/SIGNON.md has them: ana@people would open what ana may open."""
+    """ana@people would open what ana may open."""
     text = SETTINGS.replace('principals = ["{{name}}"]', 'principals = ["{{name}}", "{{name}}@people"]')
     both = department("people", admins="registrar", principals="{name},{name}@people", extensions=["permit-pty"],
                       maxlife=36060)

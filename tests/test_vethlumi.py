@@ -583,6 +583,10 @@ def test_a_department_is_compared_and_sent(clients, station, signed, room):
     assert {"-principals alice,*@example.org", "+principals zoe,*@example.org", "+maxlife 60"} <= {*out.splitlines()}
     assert "1 certificate that can still be used wouldn't be permitted:" in out
     assert "principal alice, lifetime of 3600 s" in out
+    # A list of types that leaves out the key of a certificate: it could be used, and not be renewed.
+    pathlib.Path("types").write_text(POLICY.replace("maxlife 86400", "key-types ssh-rsa\nmaxlife 86400"))
+    status, out, _ = root("department", "diff", "types", "web")
+    assert (0, True, True) == (status, "+key-types ssh-rsa" in out.splitlines(), "key type ssh-ed25519" in out), out
     assert (0, "no difference\n", "") == root("department", "diff", room / "policy")
     assert 2 == root("department", "put", "narrower", "web")[0]
     assert (0, "department web\n", "") == root("department", "put", "narrower", "web", "--yes")

@@ -1052,6 +1052,19 @@ UNFIT = [
                             "token: say witness = false"),
     (NAMED_ADMINS, FITTING.partition("[department")[0] + "[department.people]\nwitness = false\n", None),
     (LOGINS, FITTING.replace('life = "10h"', 'life = "10x"'), "BadTime: line 10: department.people.life"),
+    *((LOGINS.replace("*@people", rules) + department("web", principals=others), UNWITNESSED, why and (
+        f"the department web has witness = false, and its rule {why[0]} in the policy permits principals that {why[1]} "
+        "of the witnessed department people permits too: there anybody gets them without a login. Let each principal "
+        "of people end with @people, or close web: principals nobody"))
+      for rules, others, why in (
+          ("{name}@people", "{name}@people", ("{name}@people", "{name}@people")), ("{name}@people", "{name}@web", None),
+          ("{name}@people", "ana@people", ("ana@people", "{name}@people")), ("{name}@people", "@people,people", None),
+          ("ops@people,{name}@people", "b@web,*.b@people", ("*.b@people", "{name}@people")),
+          ("{name}.b@people", "*@people", ("*@people", "{name}.b@people")), ("ana@people", "ana@web,bob@people", None),
+          ("*@people", "{name}@web.people", None), ("{name}", "ana", ("ana", "{name}")),
+          ("{name}", "root,nobody", None), ("{name}", "{name}@web", ("{name}@web", "{name}")),
+          ("ana", "{name}", ("{name}", "ana")), ("root", "root", ("root", "root")),
+          ("*@people,nobody", "nobody", None))),
 ]
 
 
@@ -1064,6 +1077,19 @@ def test_the_settings_of_a_witness_fit_the_policy(room, keeping, policy, setting
     else:
         with pytest.raises(station.Fault, match=re.escape(why)):
             station.check_witness(room / "witness.toml", policy)
+
+
+def test_the_page_on_logins_gives_them_principals_of_their_own(room, keeping):
+    """Beside the department that INSTALLING has set up. If both permitted ana@people, a front could be ana."""
+    station, _ = keeping
+    page = (TOP / "docs/SIGNON.md").read_text()
+    staff, settings = (re.search(rf"cat >>?\S*{it} <<'END'\n(.*?)\nEND\n", page, re.S)[1] + "\n" for it in (
+        r"first\.policy", r"witness\.toml"))
+    people = station.PEOPLE.format(name="people", admins="admin,{name}", principals="{name}@people")
+    (room / "witness.toml").write_text(settings)
+    station.check_witness(room / "witness.toml", people + staff)
+    with pytest.raises(station.Fault, match="the department people has witness = false, and its rule {name}@people"):
+        station.check_witness(room / "witness.toml", people + staff.replace("{name}@staff", "{name},{name}@people"))
 
 
 def test_a_station_gets_a_witness_and_keeps_it(room, keeping, monkeypatch):

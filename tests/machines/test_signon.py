@@ -48,10 +48,10 @@ INSTALL = """programs/setup/vethlumi-install station station.example.org --yes
 programs/setup/vethlumi-install office office.example.org --station station.example.org --yes
 """
 # Departments that the page hasn't, with short lives: ana's agent forgets a key, and a host renews.
-GUESTS = department("guests", admins="registrar,admin", principals="{name}", maxlife=120)
+GUESTS = department("guests", admins="registrar,admin", principals="{name}@guests", maxlife=120)
 MACHINES_OF_CLOUD = department("cloud", kind="host", admins="registrar", principals=f"{HOST}.example.org",
                                maxlife=180)
-OF_GUESTS = '\n[department.guests]\nprovider = "corp"\nlife = "1m"\nprincipals = ["{name}"]\n'
+OF_GUESTS = '\n[department.guests]\nprovider = "corp"\nlife = "1m"\nprincipals = ["{name}@guests"]\n'
 CLOUD = machines_of_cloud("cloud", "2m", f"{HOST}.example.org").format(issuer=f"{URL}/cloud")
 TOKEN = f"curl -sSfG --data-urlencode audience=$AUDIENCE {URL}/cloud/identity"
 
@@ -215,7 +215,10 @@ def the_first_login(organisation):
     assert ["staff"] == organisation.held()
     shown = organisation.ana("ssh-add -L | ssh-keygen -L -f -")
     assert re.search('Key ID: "staff/ana/[a-z2-7]{16}"', shown)
-    assert ["ana", "ana@people"] == re.search(r"Principals: \n((?: {16}.*\n)+)", shown)[1].split()
+    assert ["ana@staff"] == re.search(r"Principals: \n((?: {16}.*\n)+)", shown)[1].split()
+    # What needs no login opens no account any more: ana@people is what every front could get.
+    told = organisation.on("server", "/usr/sbin/sshd -T | grep -i '^authorizedprincipalscommand '")
+    assert told.split()[2:] == ["%u", "%U", "staff"], told
     begun, ends = (time.strptime(it, "%Y-%m-%dT%H:%M:%S") for it in re.findall(r"\d{4}-\d\d-\d\dT[\d:]{8}", shown))
     assert 36060 == time.mktime(ends) - time.mktime(begun)
 

@@ -58,8 +58,10 @@ def department_show(job, names, policy, as_json):
     chosen = chosen_of(found, names, where)
     if as_json:
         for it in chosen:
-            print_json({"maxlife": it.longest, **{name: getattr(it, name) for name in (
-                "name", "kind", "admins", "principals", "options", "extensions", "namespaces")}})
+            print_json({"maxlife": it.longest, "key-types": it.types,
+                        "must": [" ".join(filter(None, demand)) for demand in it.demands],
+                        **{name: getattr(it, name) for name in ("name", "kind", "admins", "principals", "options",
+                                                                "extensions", "namespaces")}})
         return
     click.echo(plain("\n".join(it.text for it in chosen)), nl=False)
 

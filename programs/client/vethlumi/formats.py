@@ -95,16 +95,21 @@ class Department:
         """Whether a principal of a certificate with this key ID meets one of the rules."""
         return any(meets(principal, rule, key_id) for rule in self.principals)
 
+    @property
+    def types(self):
+        """The permitted types of keys: without a list of them there is one."""
+        return self.key_types or ("ssh-ed25519",)
+
     def unverified(self):
         """The permitted types of keys for which sshd doesn't look at `verify-required`, if it has to be there."""
-        types = self.key_types or ("ssh-ed25519",)
-        return [it for it in types if not it.startswith("sk-")] if "verify-required" in dict(self.demands) else []
+        return [it for it in self.types if not it.startswith("sk-")] if "verify-required" in dict(self.demands) else []
 
     def objections(self, certificate):
         """Why this department wouldn't permit a certificate, a text for each reason."""
-        life = certificate.before - certificate.after
+        life, of = certificate.before - certificate.after, Reader(certificate.blob).string().decode("latin-1")
         return [
             *[f"is for a {certificate.kind}" for _ in range(certificate.kind != self.kind)],
+            *[f"key type {of}" for _ in range(of not in self.types)],
             *[f"principal {it}" for it in certificate.principals if not self.meets(it, certificate.key_id)],
             *[f"option {name}" for name, _ in certificate.options
               if name not in self.options and name not in dict(self.demands)],
