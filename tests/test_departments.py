@@ -34,9 +34,7 @@ class TellingOffice(PlainOffice):
         return ("".join(self.texts()), True) if target == "/v1/departments" else super().report(target)
 
     def texts(self):
-        return [department(it.name, kind=it.kind, admins=it.admins, principals=it.rules, options=it.options,
-                           extensions=it.extensions, maxlife=it.longest, namespaces=it.namespaces)
-                for _, it in sorted(self.departments.items())]
+        return [it.text() for _, it in sorted(self.departments.items())]
 
 
 class Door:
