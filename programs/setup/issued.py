@@ -88,7 +88,8 @@ def of_user(door, user):
     for row, principals in principals_in(door, "user"):
         is_named = row.name == user and row.department in by_name
         if is_named or own & {*principals}:
-            mine = (f"{user}@", f"{user}.") if is_named else ()
+            # One of an earlier rule is the user's too: nobody else needs another certificate for it.
+            mine = f"{user}@" if is_named else ()
             found.append((row, [it for it in principals if it not in own and not it.startswith(mine)]))
     return found
 
