@@ -23,6 +23,10 @@ CLOSED = department("db-example-org", kind="host", admins="", principals="nobody
 ALL = department("people", principals="{name}@people", admins="admin,{name}", extensions="permit-pty")
 HOSTS = department("hosts", kind="host", admins="host-{name}", principals="{name}.example.org", maxlife=2592000)
 ENROLLED = HOSTS.replace("admins host-{name}", "admins host-{name},registrar")
+# A department that lists somebody with too long a name for its {name}; and one of a host whose name gives the same as
+# that of a.b.example.org.
+LONG = ALL.replace("@people", f"@people,{58 * 'b'}")
+NAMESAKE = HOST.replace("db", "a-b")
 SIXTEEN = [f"user{it}" for it in range(16)]
 # What may stand around a department, and stays as it is.
 AROUND = "# people first\n\n{}\n# another's\n" + department("web", principals="alice,*@corp", admins="ana,carol")
@@ -99,7 +103,11 @@ CHANGES = [
         HOSTS.replace("{name}.", "*."))),
     (ALL.replace("{name}@people", "{name}"), "add-user root", ALL.replace("{name}@people", "{name},root")),
     (ALL.replace("{name}@people", "{name}"), "add-user bob", ALL.replace("{name}@people", "{name}")),
-    (ALL, f"add-user {57 * 'b'}", ALL), (ALL, f"add-user {58 * 'b'}", ALL.replace("@people", f"@people,{58 * 'b'}")),
+    (ALL, f"add-user {57 * 'b'}", ALL), (LONG, f"add-user {58 * 'b'}", LONG),
+    # A name that gives the department of another host: that one stays, and so does one that others share.
+    (HOSTS.replace("{name}.", "{name}.b.") + NAMESAKE, "remove-server a.b.example.org",
+     HOSTS.replace("{name}.", "{name}.b.") + NAMESAKE),
+    (NAMESAKE, "remove-server a-b.example.org", CLOSED.replace("db-", "a-b-")),
     # A department of its own counts as before, and one that was closed stays closed beside one for everybody.
     (HOSTS + HOST, "remove-server db.example.org", HOSTS + CLOSED), (HOSTS + CLOSED, "add-server db.example.org",
                                                                     HOSTS + CLOSED),
@@ -154,7 +162,15 @@ REFUSED = [
     (PEOPLE, "add-server people", "the department people is there, and isn't one in which people asks for its own"),
     (HOST.replace("host-db", "db"), "add-server db.example.org", "isn't one in which db.example.org asks for its own"),
     (HOST.replace(" db.", " web."), "add-server db.example.org", "isn't one in which db.example.org asks for its own"),
-    (PEOPLE, "remove-server people", "the department people isn't one of a host"),
+    # What isn't the host's own is closed by nobody who names the host.
+    *((text, f"remove-server {host}", f"the department {name} isn't that of {host} alone, so it stays. If it is to")
+      for text, host, name in (
+        (PEOPLE, "people", "people"), (HOSTS, "hosts", "hosts"), (NAMESAKE, "a.b.example.org", "a-b-example-org"),
+        (HOSTS.replace("hosts", "example-org"), "example.org", "example-org"),
+        (HOST.replace("host-db", "host-{name},host-db"), "db.example.org", "db-example-org"),
+        (HOST.replace("host-db", "ana,host-web"), "db.example.org", "db-example-org"))),
+    *((text, f"add-user {name}", f"{name} is too long for the rule {{name}}@people of the department people: a prin")
+      for text in (ALL, LONG) for name in (58 * "c", 64 * "c")),
     (PEOPLE[:-1], "add-user bob", "the policy's last line has no line feed"),
     (PEOPLE.replace("principals", "principal"), "add-user bob", "has no line `principals ..` in its place"),
 ]
@@ -434,6 +450,50 @@ def test_a_server_that_goes_from_a_department_of_all_hosts_has_no_certificate(ro
     told = rooted("remove-server", "db.example.org")
     assert {*mine} == rooted.door.office.revoked and other
     assert before.replace(HOST, CLOSED) == rooted.texts() and "still permits db.example.org by a rule with" in told
+
+
+def test_a_server_that_goes_takes_no_certificate_of_another(rooted):
+    """Its name may give the department of others: the one of all hosts, or of one whose name has a - for its dot."""
+    rooted.door.root_puts(HOSTS.replace("{name}.", "{name}.b."), "hosts")
+    rooted.door.root_puts(NAMESAKE, "namesake")
+    mine = rooted.issue("hosts/a", "a.b.example.org", department="hosts")
+    other = rooted.issue("a-b-example-org/n1", "a-b.example.org", department="a-b-example-org")
+    before = rooted.texts()
+    with pytest.raises(rooted.script.Fault, match="the department hosts isn't that of hosts alone, so it stays"):
+        rooted("remove-server", "hosts")
+    assert (set(), before) == (rooted.door.office.revoked, rooted.texts())
+    rooted("remove-server", "a.b.example.org")
+    assert ({mine}, before) == (rooted.door.office.revoked, rooted.texts())
+    rooted("remove-server", "a-b.example.org")
+    assert ({mine, other}, before.replace(NAMESAKE, CLOSED.replace("db-", "a-b-"))) == (
+        rooted.door.office.revoked, rooted.texts())
+
+
+def test_who_leaves_has_nothing_left_of_an_earlier_rule(rooted):
+    """A department for everybody once gave other principals. There the name in a key ID counts, up to the next /."""
+    rooted.door.root_puts(ALL.replace("@people", "@staff"), "before")
+    mine = [rooted.issue(it, "bob@staff") for it in ("people/bob", "people/bob/laptop")]
+    others = [rooted.issue(it, f"{name}@staff") for it, name in (
+        ("people/alice/bob", "alice"), ("people/bob2", "bob2"), ("people/bo", "bo"))]
+    rooted.door.root_puts(ALL, "after")
+    # In a department that lists its users, a key ID has any name.
+    rooted.door.root_puts(department("web", principals="alice"), "web")
+    others.append(rooted.issue("web/bob", "alice", department="web"))
+    told = rooted("remove-user", "bob")
+    assert "revoke what can still be used: 2 of" in told and "is revoked for" not in told and others
+    assert {*mine} == rooted.door.office.revoked
+
+
+def test_a_demand_that_sshd_ignores_is_told(rooted, keeping):
+    """As the client tells it, of the station's policy and the office's departments."""
+    text = department("people", principals="alice", admins="admin", musts=["verify-required"])
+    line = ("warning: the department people demands verify-required, and permits ssh-ed25519: sshd looks at it for "
+            "security keys alone (sk-). Leave the others out of `key-types`\n")
+    for demands, is_told in ((text, True), (demanding(), False)):
+        keeping.key("first", demands, enabled=False)
+        rooted.door.root_puts(demands, f"demands-{int(is_told)}")
+        told = keeping("add-user bob"), rooted("add-user", "bob")
+        assert [is_told, is_told] == [line in it for it in told], told
 
 
 def test_an_answer_that_is_lost_is_asked_for_again(rooted):

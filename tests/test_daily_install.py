@@ -9,15 +9,16 @@ from running import PROGRAMS, loaded, run
 from test_packages import CA, Installing, bundle
 
 OF = ["--office", "o", "--station", "s", "--yes"]
+POLICIES = r"\S+ sh -c cat /etc/vethlumi/station/\*\.policy"
 # What both sides and servers answer to what comes each day.
-DAILY = {r".* vethlumi-(station-policy|office-root) .*": "", r"(?s).* sh -c if (! )?getent .*": "",
+DAILY = {r".* vethlumi-(station-policy|office-root) .*": "", r"(?s).* sh -c uid=\$\(getent .*": "",
          r"(?s)\S+ sh -c for it in /etc/systemd.*": ""}
 
 
 @pytest.fixture
 def installing(room):
     made = Installing(room)
-    return lambda *words, **answers: made(*words, **{**answers, **DAILY})
+    return lambda *words, **answers: made(*words, **{POLICIES: "", **answers, **DAILY})
 
 
 def told_to(said):
@@ -66,7 +67,7 @@ def test_a_user_gets_an_account_on_the_servers_that_are_named(installing):
     assert "  on c: create the account bob, without a password, unless it is there\n" in told
     script = [it for it in told_to(said) if it[0] in "cd"]
     assert [("c", "sh", "-c"), ("d", "sudo", "-n", "sh", "-c")] == [it[:-1] for it in script]
-    assert {True} == {"useradd --create-home --shell /bin/bash --password '*' bob\n" in it[-1] for it in script}
+    assert {True} == {"  useradd --create-home --shell /bin/bash --password '*' bob\n" in it[-1] for it in script}
     status, told, said = installing("leave", "bob", "--server", "c", *OF)
     assert ["usermod --expiredate 1 bob; pkill -KILL -u bob" in it[-1] for it in told_to(said)] == (
         [False] * 4 + [True, False])
@@ -101,6 +102,19 @@ def test_a_user_gets_a_bundle_and_a_machine(installing):
     assert [*both("add-user", "ana"), ("o", "vethlumi-front-setup", "--caller", "ana", "--yes")] == [
         it for it in found if re.search("policy|root|front-setup", it[1])]
     assert ("c", "vethlumi-client-setup", "--hosts", "*.org", "--yes", "-", f"{CA} first\n{bundle('ana')}") == found[-1]
+
+
+@pytest.mark.parametrize("name, admins, is_refused", [
+    ("ana", "admin,ana", True), ("ana", "ana", True), ("ana", "admin,{name},bana,ana-b", False), ("ana", "", False)],
+    ids=["listed", "alone", "others", "none"])
+@pytest.mark.parametrize("kind", ["user", "host"])
+def test_no_user_gets_the_bundle_of_an_administrator(installing, name, admins, is_refused, kind):
+    """With the private key of the registrar, or of a job that deploys, one would get certificates for others."""
+    listing = policy("alice", name="web", kind=kind).replace("admins a", f"admins {admins}".rstrip())
+    status, told, said = installing("add-user", name, "--client", "c", *OF, **{POLICIES: OWN + listing})
+    due = "ana is an administrator of the department web, whose bundle no user gets: choose another NAME, or for that "
+    assert (int(is_refused), is_refused) == (status, due in told), told
+    assert is_refused != bool([it for it in told_to(said) if "vethlumi-" in it[1]])
 
 
 KEYS = '{"keys": [{"kty": "OKP", "kid": "one", "x": "A"}]}'
@@ -182,7 +196,7 @@ PEOPLE = [
 def test_people_log_in_to_a_new_server_as_the_policy_has_it(installing, is_new, text, given, due):
     """One that is set up stays as it is, unless somebody says so."""
     answers = {r".* test -e /etc/ssh/sshd_config\.d/vethlumi\.conf && .*": "" if is_new else "yes\n",
-               r"\S+ sh -c cat /etc/vethlumi/station/\*\.policy": text, WITNESSED: ""}
+               POLICIES: text, WITNESSED: ""}
     status, told, said = installing("add-server", "web.example.org", *given, *OF, **answers)
     assert 0 == status, told
     words = said[-1][1:-2]
@@ -262,6 +276,12 @@ def test_a_station_that_says_something_else_has_nothing_recovered(installing, te
                                                                                 "add-user has no option --hosts"),
     (["add-user", "bob@corp", "--client", "c"], "bob@corp isn't a valid caller name: leave out --client"),
     (["add-user", "root", "--client", "c"], "root isn't a valid caller name: leave out --client"),
+    *((["add-user", it, "--client", "c"], f"{it} isn't a valid caller name: leave") for it in ("registrar", "station")),
+    *((words, "root isn't a person's account, so it stays. For the principal root, type ") for words in (
+        ["remove-user", "root", "--server", "c"], ["add-user", "root", "--server", "c"],
+        ["leave", "root", "--caller", "bob", "--server", "c"], ["leave", "root", "--caller", "bob"])),
+    *(([it, "host-web"], "no name of a user: 'host-web': only servers have names that begin with host-. For a server")
+      for it in ("add-user", "remove-user", "leave")),
     (["add-caller", "bob", "--hosts", "x"], "add-caller has no option --hosts"), (["recover"], "recover needs --s"),
     (["recover", "bob", "--server", "c"], "recover takes no name: bob"), (["recover", "--server", "c", "--to", "0"],
                                                                          "--to is a serial: '0'"),
@@ -275,7 +295,7 @@ def test_a_station_that_says_something_else_has_nothing_recovered(installing, te
                                                                           "enrolment takes no --caller"),
     (["enrolment", "f", "--hosts", "x"], "enrolment has no option --hosts"), (["enrolment", "f", "--department", "a.b"],
                                                                              "invalid department name: 'a.b'"),
-], ids=range(30))
+], ids=range(39))
 def test_bad_words_change_nothing(installing, words, why):
     status, told, said = installing(*words, *OF)
     assert (2, True, []) == (status, why in told, said), told
@@ -313,7 +333,7 @@ def test_options_of_these_names_go_on_to_set_up_commands(installing):
 ACCOUNTS = """#!/bin/sh
 echo "${0##*/} $*" >>said
 case "${0##*/} $*" in
-  "getent passwd bob") [ -e bob ] && echo bob:x: || exit 2 ;;
+  "getent passwd bob") [ -e bob ] && echo bob:x:$UID_OF_BOB: || exit 2 ;;
   "getent shadow bob") echo "bob:*:1:0:99999:7::$(cat bob):" ;;
   useradd*) : >bob ;;
   "usermod --expiredate 1 bob") echo 1 >bob ;;
@@ -333,7 +353,7 @@ def test_an_account_is_made_ended_and_opened_again(room):
 
     def do(script):
         (room / "said").write_text("")
-        environment = os.environ | {"PATH": f"{room}/bin:{os.environ['PATH']}"}
+        environment = os.environ | {"PATH": f"{room}/bin:{os.environ['PATH']}", "UID_OF_BOB": "1000"}
         run(["sh", "-c", script.format("bob")], env=environment, check=True)
         return [it for it in (room / "said").read_text().splitlines() if not it.startswith("getent")]
     made = "useradd --create-home --shell /bin/bash --password * bob"
@@ -343,3 +363,23 @@ def test_an_account_is_made_ended_and_opened_again(room):
         daily.ADD_ACCOUNT, daily.ADD_ACCOUNT)]
     (room / "bob").write_text("20000\n")
     assert [] == do(daily.ADD_ACCOUNT)
+
+
+@pytest.mark.parametrize("uid", [0, 33, 999, 1000, 1001, 61183, 61184, 65534, 65535, 65536, 4294967293, 4294967294])
+def test_only_accounts_of_people_are_ended_and_opened(room, uid):
+    """Those that a certificate opens, whatever the account is called: vethlumi-principals says so."""
+    daily = loaded(PROGRAMS / "setup/vethlumi-install").daily
+    is_person = loaded(PROGRAMS / "server/vethlumi-principals").is_person("bob", uid)
+    (room / "bin").mkdir()
+    for it in ("getent", "useradd", "usermod", "pkill"):
+        (room / "bin" / it).write_text(ACCOUNTS)
+        (room / "bin" / it).chmod(0o755)
+    environment = os.environ | {"PATH": f"{room}/bin:{os.environ['PATH']}", "UID_OF_BOB": str(uid)}
+    for script, last, changes in ((daily.END_ACCOUNT, "", ["usermod", "pkill"]), (daily.ADD_ACCOUNT, "1", ["usermod"])):
+        (room / "bob").write_text(last)
+        (room / "said").write_text("")
+        done = run(["sh", "-c", script.format("bob")], env=environment)
+        said = [it.split()[0] for it in (room / "said").read_text().splitlines()]
+        assert (0 if is_person else 1, changes if is_person else []) == (
+            done.returncode, [it for it in said if it != "getent"]), done.stderr
+        assert is_person != (f"the account bob has the user ID {uid}, so it isn't a person's" in done.stderr.decode())

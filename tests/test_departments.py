@@ -34,9 +34,7 @@ class TellingOffice(PlainOffice):
         return ("".join(self.texts()), True) if target == "/v1/departments" else super().report(target)
 
     def texts(self):
-        return [department(it.name, kind=it.kind, admins=it.admins, principals=it.rules, options=it.options,
-                           extensions=it.extensions, maxlife=it.longest, namespaces=it.namespaces)
-                for _, it in sorted(self.departments.items())]
+        return [it.text() for _, it in sorted(self.departments.items())]
 
 
 class Door:
@@ -613,6 +611,8 @@ def test_the_client_sends_what_differs_from_the_office(room, port, root):
 
 
 TYPES = ("sk-ssh-ed25519@openssh.com", "ssh-ed25519", "sk-ecdsa-sha2-nistp256@openssh.com", "ssh-rsa")
+IGNORED = ("warning: the department web demands verify-required, and permits {}: sshd looks at it for security keys "
+           "alone (sk-). Leave the others out of `key-types`\n")
 
 
 @pytest.mark.parametrize("demands, types, due", [
@@ -624,9 +624,16 @@ def test_a_demand_that_sshd_ignores_is_told(room, root, words, demands, types, d
     """sshd asks for a PIN by security keys alone. It is a warning: what was typed is done."""
     (room / "policy").write_text(department(principals="alice", musts=demands, key_types=types or ()))
     told = root("department", words[0], "policy", *words[1:])[2]
-    line = (f"warning: the department web demands verify-required, and permits {due}: sshd looks at it for security "
-            "keys alone (sk-). Leave the others out of `key-types`\n")
-    assert (bool(due), due is None) == (line in told, "warning" not in told), told
+    assert (bool(due), due is None) == (IGNORED.format(due) in told, "warning" not in told), told
+
+
+@pytest.mark.parametrize("types, due", [((), "ssh-ed25519"), (TYPES, "ssh-ed25519, ssh-rsa"), (TYPES[::2], None)])
+def test_a_demand_that_sshd_ignores_is_told_by_set_up_too(set_up, types, due):
+    """Whenever the departments come, also if nothing changes."""
+    text = department(principals="alice", musts=["force-command /a,b", "verify-required"], key_types=types)
+    for _ in range(2):
+        told = set_up(A, text)
+        assert (bool(due), due is None) == (IGNORED.format(due) in told, "warning" not in told), told
 
 
 def test_an_office_or_a_front_of_an_earlier_version_is_told(room, port, root):

@@ -236,6 +236,18 @@ def test_a_user_who_goes_has_no_bundle_for_an_own_name(room, setting, known, tex
     assert is_removed != (setting.folder / "ana.bundle").exists() and (setting.folder / "admin.bundle").exists()
 
 
+def test_a_user_who_goes_takes_no_server_along(setting, known):
+    """Not the one whose host has the user's name, in a department of its own or of all hosts, nor one by its caller."""
+    known(PEOPLE, HOSTS)
+    setting("--server", "web", "--server", HOST, "--caller", "ana")
+    before = sorted(it.name for it in setting.folder.iterdir())
+    assert [] == setting("--remove-user", "web", "--remove-user", "db")[0]
+    for name in ("host-web", "host-db", "host-", "HOST-ana"):
+        with pytest.raises(setting.front.BadWords, match="only servers have names that begin with host-: host-"):
+            setting("--remove-user", "ana", "--remove-user", name)
+    assert before == sorted(it.name for it in setting.folder.iterdir())
+
+
 def test_a_caller_whom_name_means_may_ask(setting, known):
     known(PEOPLE)
     assert "may request no certificate" not in setting("--caller", "carol")[1]

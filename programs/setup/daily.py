@@ -2,7 +2,7 @@
 server comes or goes, when servers are to enrol themselves, and when a restored office is recovered."""
 import re
 
-from setting_up import FINGERPRINT, NAME, BadWords, Fault
+from setting_up import FINGERPRINT, HOST_PREFIX, NAME, BadWords, Fault
 
 # Each job, with whom it is about.
 JOBS = {"add-user": "NAME", "remove-user": "NAME", "add-caller": "NAME", "remove-caller": "NAME",
@@ -24,10 +24,19 @@ SET_UPS = {"add-server": "vethlumi-server-setup", "add-user": "vethlumi-client-s
 TAKEN_BACK = {"remove-caller": "--remove", "remove-server": "--remove", "remove-user": "--remove-user"}
 USER = re.compile("[a-z0-9._@-]{1,64}", re.ASCII)
 ACCOUNT = re.compile(r"[a-z_][a-z0-9_-]{0,31}", re.ASCII)
+# Stops at an account that isn't a person's: one whose user ID `vethlumi-principals` doesn't take.
+OF_PERSON = """uid=$(getent passwd {0} | cut -d : -f 3) uid=${{uid:-1000}}
+if [ $uid -ge 61184 ] && [ $uid -le 65535 ] || [ $uid -lt 1000 ] || [ $uid -ge 4294967294 ]; then
+  echo "the account {0} has the user ID $uid, so it isn't a person's, and stays: leave out --server" >&2
+  exit 1
+fi
+"""
 # An account that has ended, by a day that is over, is one that nobody enters: its files stay.
-ADD_ACCOUNT = """if ! getent passwd {0} >/dev/null; then useradd --create-home --shell /bin/bash --password '*' {0}
+ADD_ACCOUNT = OF_PERSON + """if ! getent passwd {0} >/dev/null; then
+  useradd --create-home --shell /bin/bash --password '*' {0}
 elif [ "$(getent shadow {0} | cut -d : -f 8)" = 1 ]; then usermod --expiredate '' {0}; fi"""
-END_ACCOUNT = "if getent passwd {0} >/dev/null; then usermod --expiredate 1 {0}; pkill -KILL -u {0} || true; fi"
+END_ACCOUNT = OF_PERSON + """if getent passwd {0} >/dev/null; then
+  usermod --expiredate 1 {0}; pkill -KILL -u {0} || true; fi"""
 # Prints what the guards have approved, each with its CA. A guard's file is locked while its station runs.
 GUARDS = """set -e
 systemctl stop 'office-station@*'
@@ -73,7 +82,7 @@ def check(given):
         raise BadWords(f"{job} has no option {given.further[0]}")
     if given.ca and is_without:
         raise BadWords(f"{job} takes no --ca without --client")
-    if job == "add-user" and given.client and (who in OF_SET_UP or not NAME.fullmatch(who)):
+    if job == "add-user" and given.client and (who in (*OF_SET_UP, REGISTRAR) or not NAME.fullmatch(who)):
         raise BadWords(f"{who} isn't a valid caller name: leave out --client")
     if job in ("remove-caller", "leave") and (given.caller or who) in OF_SET_UP:
         raise BadWords(f"{given.caller or who} is a name that set-up makes, and nobody's who leaves")
@@ -82,6 +91,12 @@ def check(given):
                        + (f": for somebody who is none, type remove-user {who}" if job == "leave" else ""))
     if job in ("add-user", "remove-user", "leave") and not USER.fullmatch(who):
         raise BadWords(f"no name of a user: {who!r}")
+    if job in ("add-user", "remove-user", "leave") and who.startswith(HOST_PREFIX):
+        raise BadWords(f"no name of a user: {who!r}: only servers have names that begin with {HOST_PREFIX}. For a "
+                       "server, type add-server or remove-server, and its host name")
+    if who == "root" and (job == "leave" or given.server):
+        raise BadWords("root isn't a person's account, so it stays. For the principal root, type "
+                       f"{'add' if job == 'add-user' else 'remove'}-user root without --server")
     if given.server and job != "recover" and not ACCOUNT.fullmatch(who):
         raise BadWords(f"{who} isn't a valid account name: leave out --server")
     if job == "recover" and not given.server:

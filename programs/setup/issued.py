@@ -27,6 +27,10 @@ class Row:
     def department(self):
         return self.key_id.partition("/")[0]
 
+    @property
+    def name(self):
+        return self.key_id.partition("/")[2].partition("/")[0]
+
     def __str__(self):
         return f"serial {self.serial}, {self.key_id}"
 
@@ -76,17 +80,26 @@ def principals_in(door, kind):
 
 def of_user(door, user):
     """What can still be used of a user's: each row, with its other principals. The user's are the name, and those that
-    departments with {name} have for it."""
-    own = {user}.union(*(policies.principals_by("".join(it), user) for _, it in policies.blocks(door.departments())))
-    return [(row, [it for it in principals if it not in own]) for row, principals in principals_in(door, "user")
-            if own & {*principals}]
+    departments with {name} have for it. In these the key ID's name counts too: their rules may have been others."""
+    texts = ["".join(it) for _, it in policies.blocks(door.departments())]
+    own = {user}.union(*(policies.principals_by(it, user) for it in texts))
+    by_name = {policies.fields_of(it)["department"][0] for it in texts if policies.means_names(it)}
+    found = []
+    for row, principals in principals_in(door, "user"):
+        is_named = row.name == user and row.department in by_name
+        if is_named or own & {*principals}:
+            # One of an earlier rule is the user's too: nobody else needs another certificate for it.
+            mine = f"{user}@" if is_named else ()
+            found.append((row, [it for it in principals if it not in own and not it.startswith(mine)]))
+    return found
 
 
 def of_host(door, host, department):
     """The same of a host's: whatever its own department has issued, and what has its name in others."""
-    own = [(it, []) for it in table_of(door).usable() if it.department == department]
+    is_own = policies.goes_with(door.department(department), host)
+    own = [(it, []) for it in table_of(door).usable() if is_own and it.department == department]
     return own + [(row, [it for it in principals if it != host]) for row, principals in principals_in(door, "host")
-                  if row.department != department and host in principals]
+                  if not (is_own and row.department == department) and host in principals]
 
 
 def shown(rows):

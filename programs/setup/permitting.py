@@ -16,15 +16,6 @@ NOBODY = "nobody"
 MOST = 16
 # What an option of both commands means.
 OF_DEPARTMENT = "the department, for a caller one of hosts too [default: people, or the only one; to remove, all]"
-CLOSED = """department {name}
-kind {kind}
-admins
-principals nobody
-options
-extensions
-maxlife 1
-namespaces
-"""
 
 
 def lines_of(text):
@@ -122,6 +113,16 @@ def check_user(user):
         raise BadWords("the principal nobody stands for a department without users")
 
 
+def check_length(policy, department, user):
+    """Refuses a name that is too long for the department's rules with {name}: listed by itself, it would be a principal
+    for everybody's key IDs."""
+    found = policy.listed(department, "principals")
+    for rule in [it for it in found if it.startswith(policies.OWN) and user not in found]:
+        if len(user + rule) - len(policies.OWN) > policies.LONGEST_PRINCIPAL:
+            raise BadWords(f"{user} is too long for the rule {rule} of the department {department}: a principal has at "
+                           f"most {policies.LONGEST_PRINCIPAL} bytes, so choose a shorter name")
+
+
 def check_caller(caller):
     if not setting_up.NAME.fullmatch(caller) or caller.startswith("host-"):
         raise BadWords(f"no name of a caller: {caller!r}: 1 to 32 of a-z, 0-9 and -, and not with host- before it")
@@ -137,6 +138,7 @@ def add_user(text, user, department=None):
     name = policy.chosen(department)
     if rules := rules_for(policy, name, user):
         return text, [f"the department {name} permits {user} by the rule {rules[0]}: nothing is added"]
+    check_length(policy, name, user)
     if policy.listed(name, "principals") == [NOBODY]:
         policy.put(name, "principals", [user])
     add_to(policy, name, "principals", user)
@@ -178,7 +180,7 @@ def add_server(text, host, _=None):
     host = host.lower()
     setting_up.check_line("host", host)
     name, policy = setting_up.own_department(host), Policy(text)
-    is_closed = name in policy.blocks and policy.department(name) == CLOSED.format(name=name, kind="host")
+    is_closed = name in policy.blocks and policy.department(name) == policies.CLOSED.format(name=name, kind="host")
     permitting = departments_for(policy, host)
     if permitting and permitting != [name]:
         of_all = next(it for it in permitting if it != name)
@@ -205,9 +207,11 @@ def remove_server(text, host, _=None):
              for it in departments_for(policy, host) if it != name]
     if name not in policy.blocks:
         return text, notes or [f"there is no department {name}"]
-    if policy.value(name, "kind") != "host":
-        raise Fault(f"the department {name} isn't one of a host")
-    policy.put_department(name, CLOSED.format(name=name, kind="host"))
+    if policies.goes_with(policy.department(name), host):
+        policy.put_department(name, policies.CLOSED.format(name=name, kind="host"))
+    elif not notes:
+        raise Fault(f"the department {name} isn't that of {host} alone, so it stays. If it is to be closed, change it "
+                    "as the office's root, by vethlumi department put, and in the station's policy")
     return policy.text, notes
 
 

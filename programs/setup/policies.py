@@ -8,6 +8,7 @@ import re
 
 import setting_up
 from setting_up import HOST_PREFIX, Fault
+from vethlumi_common.subjects import unverified
 
 NAME, ADMINISTRATOR = "[a-z0-9-]{1,32}", r"[a-z0-9-]{1,32}|[a-z0-9-]{0,31}\{name\}"
 RULE = r"[a-z0-9._@-]{1,64}|\*[a-z0-9._@-]{1,63}|\{name\}([.@][a-z0-9._@-]{1,62})?"
@@ -91,6 +92,16 @@ principals {{name}}{suffix}
 options
 extensions
 maxlife 2592000
+namespaces
+"""
+# A department that permits nothing any more.
+CLOSED = """department {name}
+kind {kind}
+admins
+principals nobody
+options
+extensions
+maxlife 1
 namespaces
 """
 # Stands in a department for the name in a key ID.
@@ -181,6 +192,13 @@ def changes(old, new):
     return [f"{sign} {line}" for pair in pairs for sign, line in zip("-+", pair) if line is not None]
 
 
+def warnings(text):
+    """What people should know of the departments in a policy that is valid."""
+    for _, block in blocks(text):
+        found = fields_of("".join(block))
+        yield from unverified(",".join(found["department"]), found["key-types"], found["must"])
+
+
 # ---- who may ask
 
 def fields_of(text):
@@ -207,6 +225,12 @@ def is_meant(caller, administrator):
     return caller.startswith(prefix) if own else caller == administrator
 
 
+def means_names(text):
+    """Whether a department has lists with {name}, so that the names in its key IDs count."""
+    found = fields_of(text)
+    return any(OWN in it for it in [*found["admins"], *found["principals"]])
+
+
 def principals_by(text, name):
     """The principals by which a department's rules with {name} permit whoever has this name."""
     return [it for rule in fields_of(text)["principals"] if (it := principal_by(rule, name))]
@@ -217,6 +241,13 @@ def is_own(text, host):
     found = fields_of(text)
     return (found["kind"] == ["host"] and HOST_PREFIX + found["department"][0] in found["admins"]
             and any(is_met(host, it) for it in found["principals"]))
+
+
+def goes_with(text, host):
+    """Whether a department goes with this host: it is the host's own and no other's, or is closed already."""
+    found = fields_of(text)
+    return (is_own(text, host) and not any(OWN in it for it in found["admins"])
+            or text == CLOSED.format(name=setting_up.own_department(host), kind="host"))
 
 
 def is_of_all(text, host):

@@ -22,15 +22,7 @@ MOST = 100_000
 LONGEST_FILE = 1 << 28
 # The department of the certificates for nobody. No guard's policy has it, so none is signed.
 DEPARTMENT = "recovered"
-TEXT = f"""department {DEPARTMENT}
-kind user
-admins
-principals nobody
-options
-extensions
-maxlife 1
-namespaces
-"""
+TEXT = policies.CLOSED.format(name=DEPARTMENT, kind="user")
 ISSUE = """issue {department}
 keyid {department}/{serial}
 key ssh-ed25519 {key}

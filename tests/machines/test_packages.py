@@ -1196,6 +1196,15 @@ def test_a_policy_that_somebody_has_spoilt_sets_nothing_up(room, kept_policy, ch
     do(text)
 
 
+def test_a_demand_that_sshd_ignores_is_told_by_the_station_s_set_up(kept_policy, capsys):
+    station, do = kept_policy
+    text = station.policy_of(policy_words())
+    for demands, is_told in (("options\nmust verify-required\n", True), ("options\n", False)):
+        do(text.replace("options\n", demands))
+        assert is_told == ("warning: the department people demands verify-required, and permits ssh-ed25519: sshd "
+                           in capsys.readouterr().err)
+
+
 def test_a_policy_that_is_too_long_is_none(room, kept_policy):
     station, do = kept_policy
     text, most = station.policy_of(policy_words()), station.LONGEST_POLICY

@@ -95,12 +95,8 @@ def tell_changes(job, old, new):
 
 
 def warn(departments):
-    """Says which keys sshd lets in without what a department demands."""
-    for it in departments:
-        if types := it.unverified():
-            click.echo(plain(f"warning: the department {it.name} demands verify-required, and permits "
-                             f"{', '.join(types)}: sshd looks at it for security keys alone (sk-). Leave the others "
-                             "out of `key-types`"), err=True)
+    for line in [line for it in departments for line in it.warnings()]:
+        click.echo(plain(line), err=True)
 
 
 def chosen_of(found, names, where):

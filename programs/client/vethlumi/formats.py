@@ -6,7 +6,7 @@ import re
 from dataclasses import dataclass
 
 from vethlumi_common.ssh import BadFormat, Reader, blob_of, fingerprint, string
-from vethlumi_common.subjects import CERTIFICATES, TYPES
+from vethlumi_common.subjects import CERTIFICATES, TYPES, unverified
 
 LAST_MOMENT = 253402300799
 LAST_SERIAL = 9223372036854775806
@@ -100,9 +100,9 @@ class Department:
         """The permitted types of keys: without a list of them there is one."""
         return self.key_types or ("ssh-ed25519",)
 
-    def unverified(self):
-        """The permitted types of keys for which sshd doesn't look at `verify-required`, if it has to be there."""
-        return [it for it in self.types if not it.startswith("sk-")] if "verify-required" in dict(self.demands) else []
+    def warnings(self):
+        """Says which keys sshd lets in without what the department demands."""
+        return unverified(self.name, self.key_types, dict(self.demands))
 
     def objections(self, certificate):
         """Why this department wouldn't permit a certificate, a text for each reason."""

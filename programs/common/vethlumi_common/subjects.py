@@ -19,6 +19,16 @@ ORDER_8 = [int.from_bytes(bytes.fromhex(it), "little") for it in (
 SMALL = (0, 1, PRIME - 1, *ORDER_8)
 
 
+def unverified(name, types, demands):
+    """A warning if a department demands `verify-required` of keys for which sshd doesn't look at it, as a list of at
+    most one. Without types it permits plain Ed25519 keys."""
+    plain = [it for it in types or ("ssh-ed25519",) if not it.startswith("sk-")]
+    if not plain or "verify-required" not in demands:
+        return []
+    return [f"warning: the department {name} demands verify-required, and permits {', '.join(plain)}: sshd looks at it "
+            "for security keys alone (sk-). Leave the others out of `key-types`"]
+
+
 def at_serial(body):
     """A reader of a body that has read what comes before the serial: the certificate's name, a nonce and a key. Of a
     name that isn't known, the key is read as one string."""
