@@ -76,7 +76,7 @@ class Front:
 
     def __getstate__(self):
         """What another process needs to ask the front."""
-        return {name: getattr(self, name) for name in ("port", "url", "authority", "conf", "state")}
+        return {name: getattr(self, name) for name in ("address", "port", "url", "authority", "conf", "state")}
 
     def begin(self):
         """Starts nginx, and waits until it listens and has begun all of its processes: those of its settings, and one

@@ -157,7 +157,7 @@ def test_the_list_is_given_10000_times_while_issues_go_on(put):
     def issue_on():
         while not done.is_set():
             beside.append(issued(put, f"beside-{len(beside)}"))
-            time.sleep(0.03)
+            time.sleep(0.06)
 
     issuing = threading.Thread(target=issue_on)
     issuing.start()
