@@ -42,8 +42,9 @@ SHOW = f'#!/bin/sh\necho "$1" >>/{SHOWN}\n'
 SESSION = "eval \"$(ssh-agent)\" >/dev/null\nexport BROWSER='/usr/local/bin/show %s'\n"
 SSH = "ssh -o BatchMode=yes ana@server.example.org echo granted 2>/dev/null"
 # The files that were written since, also in memory, but for those of the kernel, of systemd and of this test.
-WRITTEN = """find / \\( -path /proc -o -path /sys -o -path /run/systemd -o -path /run/log -o -path /srv \\) -prune \\
-  -o -type f -newer /srv/before -print"""
+# The KRL comes by a timer, whoever logs in.
+WRITTEN = """find / \\( -path /proc -o -path /sys -o -path /run/systemd -o -path /run/log -o -path /srv \\
+  -o -path /var/lib/office-list \\) -prune -o -type f -newer /srv/before -print"""
 INSTALL = """programs/setup/vethlumi-install station station.example.org --yes
 programs/setup/vethlumi-install office office.example.org --station station.example.org --yes
 """
